@@ -1,0 +1,66 @@
+-- What is escaped reads back, stands on one line, and does not begin with a blank.
+use mathlib.Core.Path.{_≡_, refl, ap, sym, _∙_, subst}
+use mathlib.Core.Bool.{Bool, true, false, cond, _&&_}
+use mathlib.Core.List.{List, [], _∷_, _++_}
+use mathlib.Core.Option.{Option, none, some}
+use Prim.Native.Nat.{ℕ}
+use borrow.Author.Tests.{eqb-true, eqb-false, ne-eqb}
+use lib.Dec.{eqb}
+use Rattle.text.specs.Bytes.{inLine, isBlank}
+use Rattle.text.specs.Parts.{all, after}
+use Rattle.text.specs.Laws.{all-cons, all-append}
+use Rattle.text.specs.Options.{prepend}
+use Rattle.escapes.specs.Escapes.{meant, reading, unescape, shown, writing, escape}
+
+-- what holds of k, and of each c but k, holds of every c
+pub but : (P : ℕ → Type 0) (k c : ℕ) → P k → ((c ≡ k → ⊥) → P c) → P c
+but P k c y n = go (eqb c k) refl
+  where
+    go : (t : Bool) → eqb c k ≡ t → P c
+    go true e = subst P (sym (eqb-true c k e)) y
+    go false e = n (eqb-false c k e)
+
+-- what holds of the five escaped bytes, and of a byte that is shown as it stands, holds of every byte
+pub shown-cases : (P : ℕ → List ℕ → Type 0) (f : Bool) → P 10 (92 ∷ 110 ∷ []) → P 13 (92 ∷ 114 ∷ []) → P 92 (92 ∷ 92 ∷ []) → P 32 (shown f 32) → P 9 (shown f 9)
+    → ((c : ℕ) → (c ≡ 10 → ⊥) → (c ≡ 13 → ⊥) → (c ≡ 92 → ⊥) → (c ≡ 32 → ⊥) → (c ≡ 9 → ⊥) → P c (c ∷ [])) → (c : ℕ) → P c (shown f c)
+shown-cases P f n r b s t other c =
+    but Q 10 c n (λ hn. but Q 13 c r (λ hr. but Q 92 c b (λ hb. but Q 32 c s (λ hs. but Q 9 c t (λ ht. subst (P c) (sym (as-is f hn hr hb hs ht)) (other c hn hr hb hs ht))))))
+  where
+    Q : ℕ → Type 0
+    Q x = P x (shown f x)
+
+    as-is : (f : Bool) → (c ≡ 10 → ⊥) → (c ≡ 13 → ⊥) → (c ≡ 92 → ⊥) → (c ≡ 32 → ⊥) → (c ≡ 9 → ⊥) → shown f c ≡ c ∷ []
+    as-is true hn hr hb hs ht = rw (ne-eqb c 10 hn, ne-eqb c 13 hr, ne-eqb c 92 hb, ne-eqb c 32 hs, ne-eqb c 9 ht)
+    as-is false hn hr hb hs ht = rw (ne-eqb c 10 hn, ne-eqb c 13 hr, ne-eqb c 92 hb)
+
+shown-back : (f : Bool) (r : List ℕ) (c : ℕ) → reading false (shown f c ++ r) ≡ prepend c (reading false r)
+unfolding reading
+shown-back true r = shown-cases (λ (c : ℕ) (l : List ℕ). reading false (l ++ r) ≡ prepend c (reading false r)) true refl refl refl refl refl (λ c hn hr hb hs ht. rw (ne-eqb c 92 hb))
+shown-back false r = shown-cases (λ (c : ℕ) (l : List ℕ). reading false (l ++ r) ≡ prepend c (reading false r)) false refl refl refl refl refl (λ c hn hr hb hs ht. rw (ne-eqb c 92 hb))
+
+writing-back : (f : Bool) (t : List ℕ) → reading false (writing f t) ≡ some t
+unfolding reading writing
+writing-back f [] = refl
+writing-back f (c ∷ t) = shown-back f (writing false t) c ∙ ap (prepend c) (writing-back false t)
+
+pub unescape-escape : (t : List ℕ) → unescape (escape t) ≡ some t
+unescape-escape t = writing-back true t
+
+-- ---- on a line: no byte 10, and no blank in front
+
+shown-line : (f : Bool) (c : ℕ) → all inLine (shown f c) ≡ true
+shown-line true = shown-cases (λ (c : ℕ) (l : List ℕ). all inLine l ≡ true) true refl refl refl refl refl (λ c hn hr hb hs ht. rw (ne-eqb c 10 hn))
+shown-line false = shown-cases (λ (c : ℕ) (l : List ℕ). all inLine l ≡ true) false refl refl refl refl refl (λ c hn hr hb hs ht. rw (ne-eqb c 10 hn))
+
+writing-line : (f : Bool) (t : List ℕ) → all inLine (writing f t) ≡ true
+unfolding writing
+writing-line f [] = refl
+writing-line f (c ∷ t) = all-append inLine (shown f c) (writing false t) (shown-line f c) (writing-line false t)
+
+pub escape-line : (t : List ℕ) → all inLine (escape t) ≡ true
+escape-line t = writing-line true t
+
+pub escape-start : (t : List ℕ) → after isBlank (escape t) ≡ escape t
+unfolding writing
+escape-start [] = refl
+escape-start (c ∷ t) = shown-cases (λ (c : ℕ) (l : List ℕ). after isBlank (l ++ writing false t) ≡ l ++ writing false t) true refl refl refl refl refl (λ c hn hr hb hs ht. rw (ne-eqb c 32 hs, ne-eqb c 9 ht)) c

@@ -1,0 +1,5 @@
+pub mod Escapes
+pub mod Strings
+pub mod Laws
+pub mod Text
+pub mod Cases

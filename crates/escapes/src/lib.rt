@@ -1,0 +1,214 @@
+// Strings: the five escapes, their length and bytes once unescaped, and how a string is written.
+ghost use mathlib.Core.Path.{_≡_};
+ghost use Prim.Native.Nat.{_+_, _≤_};
+ghost use lib.ListN.{length};
+ghost use Rattle.text.specs.Options.{plain, Fits};
+ghost use Rattle.text.specs.Parts.{padded};
+ghost use Rattle.put.specs.Put.{Wrote};
+ghost use Rattle.escapes.specs.Escapes.{meant, unescape, escape};
+ghost use Rattle.escapes.specs.Strings.{stringOf, sizeOf, Letter};
+use text::Dialect;
+
+// How many bytes a string has once unescaped, or that a backslash begins no escape.
+pub enum Size {
+    Long(usize),
+    Broken,
+}
+
+// The byte that a backslash and c stand for, or 0.
+fn stands_for(c: u8) -> u8
+    ensures { λ r. ⌜ r ≡ meant c ⌝ }
+{
+    if c == 115 {
+        return 32;
+    }
+    if c == 116 {
+        return 9;
+    }
+    if c == 114 {
+        return 13;
+    }
+    if c == 110 {
+        return 10;
+    }
+    if c == 92 {
+        return 92;
+    }
+    0
+}
+
+fn unescaped_len(s: &[u8]) -> Size
+    ensures { λ r. ⌜ r ≡ sizeOf (unescape (now (s .entry))) ⌝ }
+{
+    let mut after = false;
+    let mut n = 0;
+    let mut i = 0;
+    while i < s.len() {
+        let b = s[i];
+        if after {
+            if stands_for(b) == 0 {
+                return Size::Broken;
+            }
+            after = false;
+            n += 1;
+            i += 1;
+        } else {
+            if b == 92 {
+                after = true;
+                i += 1;
+            } else {
+                n += 1;
+                i += 1;
+            }
+        }
+    }
+    if after {
+        return Size::Broken;
+    }
+    Size::Long(n)
+}
+
+// The length of the string s once unescaped, or that it is broken.
+pub fn string_len(d: Dialect, s: &[u8]) -> Size
+    ensures { λ r. ⌜ r ≡ sizeOf (stringOf d (now (s .entry))) ⌝ }
+{
+    match d {
+        Dialect::Iwd => unescaped_len(s),
+        Dialect::ConnMan => Size::Long(s.len()),
+    }
+}
+
+// Writes s, unescaped, at the front of out, and returns its length.
+fn put_unescaped(out: &mut [u8], s: &[u8]) -> usize
+    requires { ⌜ Fits (length (now out)) (unescape (now s)) ⌝ }
+    ensures { λ r. ⌜ Wrote (plain (unescape (now (s .entry)))) 0 (now (out .entry)) (now (out .exit)) r ⌝ }
+{
+    let mut after = false;
+    let mut n = 0;
+    let mut i = 0;
+    while i < s.len() {
+        let b = s[i];
+        if after {
+            out[n] = stands_for(b);
+            after = false;
+            n += 1;
+            i += 1;
+        } else {
+            if b == 92 {
+                after = true;
+                i += 1;
+            } else {
+                out[n] = b;
+                n += 1;
+                i += 1;
+            }
+        }
+    }
+    n
+}
+
+// Writes the string s, unescaped, at the front of out, and returns its length.
+pub fn put_string(out: &mut [u8], d: Dialect, s: &[u8]) -> usize
+    requires { ⌜ Fits (length (now out)) (stringOf d (now s)) ⌝ }
+    ensures { λ r. ⌜ Wrote (plain (stringOf d (now (s .entry)))) 0 (now (out .entry)) (now (out .exit)) r ⌝ }
+{
+    match d {
+        Dialect::Iwd => put_unescaped(out, s),
+        Dialect::ConnMan => put::put_text(out, 0, s),
+    }
+}
+
+// The string s of at most 32, 63 or 253 bytes, with zeros behind it.
+pub fn string_32(d: Dialect, s: &[u8]) -> [u8; 32]
+    requires { ⌜ Fits 32 (stringOf d (now s)) ⌝ }
+    ensures { λ r. ⌜ r ≡ padded 32 (plain (stringOf d (now (s .entry)))) ⌝ }
+{
+    let mut a = [0u8; 32];
+    put_string(&mut a, d, s);
+    a
+}
+
+pub fn string_63(d: Dialect, s: &[u8]) -> [u8; 63]
+    requires { ⌜ Fits 63 (stringOf d (now s)) ⌝ }
+    ensures { λ r. ⌜ r ≡ padded 63 (plain (stringOf d (now (s .entry)))) ⌝ }
+{
+    let mut a = [0u8; 63];
+    put_string(&mut a, d, s);
+    a
+}
+
+pub fn string_253(d: Dialect, s: &[u8]) -> [u8; 253]
+    requires { ⌜ Fits 253 (stringOf d (now s)) ⌝ }
+    ensures { λ r. ⌜ r ≡ padded 253 (plain (stringOf d (now (s .entry)))) ⌝ }
+{
+    let mut a = [0u8; 253];
+    put_string(&mut a, d, s);
+    a
+}
+
+// The letter of the escape with which c is written, in first place or not, or 0.
+fn letter(first: bool, c: u8) -> u8
+    ensures { λ r. ⌜ Letter first c r ⌝ }
+{
+    if c == 10 {
+        return 110;
+    }
+    if c == 13 {
+        return 114;
+    }
+    if c == 92 {
+        return 92;
+    }
+    if first {
+        if c == 32 {
+            return 115;
+        }
+        if c == 9 {
+            return 116;
+        }
+        return 0;
+    }
+    0
+}
+
+// How many bytes s has once escaped.
+pub fn escaped_len(s: &[u8]) -> usize
+    requires { ⌜ length (now s) ≤ 16384 ⌝ }
+    ensures { λ r. ⌜ r ≡ length (escape (now (s .entry))) ⌝ }
+{
+    let mut n = 0;
+    let mut i = 0;
+    while i < s.len() {
+        if letter(i == 0, s[i]) == 0 {
+            n += 1;
+            i += 1;
+        } else {
+            n += 2;
+            i += 1;
+        }
+    }
+    n
+}
+
+// Writes s, escaped, at a place of out, and returns the place behind it.
+pub fn put_escaped(out: &mut [u8], at: usize, s: &[u8]) -> usize
+    requires { ⌜ at + length (escape (now s)) ≤ length (now out) ⌝ }
+    ensures { λ r. ⌜ Wrote (escape (now (s .entry))) at (now (out .entry)) (now (out .exit)) r ⌝ }
+{
+    let mut p = at;
+    let mut i = 0;
+    while i < s.len() {
+        let l = letter(i == 0, s[i]);
+        if l == 0 {
+            out[p] = s[i];
+            p += 1;
+            i += 1;
+        } else {
+            out[p] = 92;
+            out[p + 1] = l;
+            p += 2;
+            i += 1;
+        }
+    }
+    p
+}

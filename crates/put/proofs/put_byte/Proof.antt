@@ -1,0 +1,13 @@
+use Rattle.put.specs.Laws.{wrote-byte}
+use borrow.Author.Needs.{needs}
+use Rattle.put.proofs.put_byte.Statement.{statement}
+use Rattle.put.proofs.put_byte.Tie as tie
+
+pub put-byte-spec : {M : Type 1} → statement M
+put-byte-spec =
+    tie.close
+    (tie.spec
+    (λ c. search needs)
+    (λ c. search needs)
+    (λ c. search needs)
+    (λ c. wrote-byte _ _ _ (c .pre)))

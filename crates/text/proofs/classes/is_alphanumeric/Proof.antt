@@ -1,0 +1,12 @@
+use borrow.Author.Needs.{needs}
+use Rattle.text.proofs.classes.is_alphanumeric.Statement.{statement}
+use Rattle.text.proofs.classes.is_alphanumeric.Tie as tie
+
+pub is-alphanumeric-spec : {M : Type 1} → statement M
+is-alphanumeric-spec =
+    tie.close
+    (tie.spec
+    (λ c κs. search needs)
+    (λ c κs. search needs)
+    (λ c. cc)
+    (λ c. cc))

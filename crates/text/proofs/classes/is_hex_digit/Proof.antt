@@ -1,0 +1,12 @@
+use borrow.Author.Needs.{needs}
+use Rattle.text.proofs.classes.is_hex_digit.Statement.{statement}
+use Rattle.text.proofs.classes.is_hex_digit.Tie as tie
+
+pub is-hex-digit-spec : {M : Type 1} → statement M
+is-hex-digit-spec =
+    tie.close
+    (tie.spec
+    (λ c κs. search needs)
+    (λ c κs. search needs)
+    (λ c. cc)
+    (λ c. cc))

@@ -1,0 +1,12 @@
+use borrow.Author.Needs.{needs}
+use Rattle.text.proofs.classes.is_letter.Statement.{statement}
+use Rattle.text.proofs.classes.is_letter.Tie as tie
+
+pub is-letter-spec : {M : Type 1} → statement M
+is-letter-spec =
+    tie.close
+    (tie.spec
+    (λ c κs. search needs)
+    (λ c κs. search needs)
+    (λ c. cc)
+    (λ c. cc))

@@ -1,0 +1,23 @@
+use Prim.Native.Nat.{_-_}
+use lib.ListN.{length}
+use mathlib.Core.Path.{sym, _∙_}
+use Rattle.text.specs.Bytes.{between}
+use Rattle.text.specs.Scans.{Scan, scan-none, scan-turn, scan-stop, scan-end}
+use borrow.Author.Needs.{needs}
+use Rattle.text.proofs.scan.range_by_bytes.Statement.{statement}
+use Rattle.text.proofs.scan.range_by_bytes.Tie as tie
+
+pub range-by-bytes-spec : {M : Type 1} → statement M
+range-by-bytes-spec =
+    tie.close
+    (tie.spec
+    (λ s from low high i₀ i. Scan (between low high) s from i)
+    (λ s from low high i₀ i. length s - i)
+    (λ c. scan-none (search needs))
+    (λ c. search needs)
+    (λ c κs. search needs)
+    (λ c. search needs)
+    (λ c. search needs)
+    (λ c. scan-turn (c .before .before .before .before .loop .inv) (search needs) (sym (c .before .within .ensures) ∙ c .if1 .taken))
+    (λ c. scan-stop (c .before .before .before .before .loop .inv) (search needs) (sym (c .before .within .ensures) ∙ c .if1 .left))
+    (λ c. scan-end (c .before .loop .inv) (search needs)))

@@ -1,0 +1,6 @@
+pub mod Bytes
+pub mod Parts
+pub mod Words
+pub mod Options
+pub mod Scans
+pub mod Laws

@@ -1,0 +1,41 @@
+-- A reading that may be broken: `none`, or `some` of what was read.
+use Prim.Native.Nat.{ℕ, _≤_}
+use mathlib.Core.Bool.{Bool, true, false, cond}
+use mathlib.Core.List.{List, [], _∷_}
+use mathlib.Core.Option.{Option, none, some}
+use lib.ListN.{length}
+use Rattle.text.specs.Bytes.{between}
+
+abbrev pub isSome : {A : Type 0} → Option A → Bool
+isSome none = false
+isSome (some a) = true
+
+-- one more in front of a list that is read
+abbrev pub prepend : {A : Type 0} → A → Option (List A) → Option (List A)
+prepend x none = none
+prepend x (some t) = some (x ∷ t)
+
+-- what is read, and then read on
+abbrev pub andThen : {A B : Type 0} → Option A → (A → Option B) → Option B
+andThen none f = none
+andThen (some a) f = f a
+
+-- only where the test holds
+abbrev pub only : {A : Type 0} → Bool → Option A → Option A
+only true o = o
+only false o = none
+
+-- a list of low to high elements: the one rule for lengths, cited by every kind
+abbrev pub sized : {A : Type 0} → ℕ → ℕ → Option (List A) → Option (List A)
+sized low high none = none
+sized low high (some t) = cond (between low high (length t)) (some t) none
+
+-- the text that was read, empty where it is broken
+abbrev pub plain : {A : Type 0} → Option (List A) → List A
+plain none = []
+plain (some t) = t
+
+-- read whole, and at most n long
+abbrev pub Fits : ℕ → Option (List ℕ) → Type 0
+Fits n none = ⊥
+Fits n (some t) = length t ≤ n

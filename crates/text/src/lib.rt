@@ -1,0 +1,26 @@
+// Bytes of a file: the two dialects, the classes of bytes, the parts of a slice that scanning finds, and words in a table.
+//
+// This is what document 01 says of bytes under "Lines, alike in both". `classes` judges one byte, `scan` finds where a
+// run of bytes ends, `words` compares. The definitions are in specs/Bytes, specs/Parts and specs/Words.
+pub mod classes;
+pub mod scan;
+pub mod words;
+
+// The two kinds of file.
+pub enum Dialect {
+    Iwd,
+    ConnMan,
+}
+
+// The classes of bytes that a run is made of.
+pub enum Class {
+    Blank,
+    Space,
+    Header,
+    Key(Dialect),
+    Plain,
+    Alphanumeric,
+    Identifier,
+    LowerHex,
+    Entry,
+}

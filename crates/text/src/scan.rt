@@ -1,0 +1,148 @@
+// Where runs of bytes end: the end of a line, of a run of a class, of a value.
+//
+// A byte or a range of bytes is looked for sixteen at a time: the block test has no early exit, so that it compiles to
+// vector instructions.
+ghost use mathlib.Core.Path.{_≡_};
+ghost use mathlib.Core.Bool.{true};
+ghost use Prim.Native.Nat.{_+_, _≤_};
+ghost use lib.ListN.{length};
+ghost use Rattle.text.specs.Bytes.{inLine, between, other, memberOf};
+ghost use Rattle.text.specs.Scans.{Stop, Scan, Trim};
+use crate::Class;
+use crate::classes;
+
+// The end of the run of a class that starts at from.
+pub fn run_end(s: &[u8], from: usize, c: Class) -> usize
+    requires { ⌜ from ≤ length (now s) ⌝ }
+    ensures { λ r. ⌜ Stop (memberOf c) (now (s .entry)) from r ⌝ }
+{
+    let mut i = from;
+    while i < s.len() {
+        if classes::member(c, s[i]) {
+            i += 1;
+        } else {
+            return i;
+        }
+    }
+    i
+}
+
+// The end of the bytes from from on without their trailing blanks.
+pub fn trim_end(s: &[u8], from: usize) -> usize
+    requires { ⌜ from ≤ length (now s) ⌝ }
+    ensures { λ r. ⌜ Trim (now (s .entry)) from r ⌝ }
+{
+    let mut e = s.len();
+    while from < e {
+        let last = e - 1;
+        if classes::is_blank(s[last]) {
+            e = last;
+        } else {
+            return e;
+        }
+    }
+    e
+}
+
+fn find_by_bytes(s: &[u8], from: usize, b: u8) -> usize
+    requires { ⌜ from ≤ length (now s) ⌝ }
+    ensures { λ r. ⌜ Stop (other b) (now (s .entry)) from r ⌝ }
+{
+    let mut i = from;
+    while i < s.len() {
+        if s[i] == b {
+            return i;
+        }
+        i += 1;
+    }
+    i
+}
+
+// Whether none of the sixteen bytes at i is b.
+fn none_in_block(s: &[u8], i: usize, b: u8) -> bool
+    requires { ⌜ i + 16 ≤ length (now s) ⌝ }
+    ensures { λ r. ⌜ (r ≡ true → Scan (other b) (now (s .entry)) i (i + 16)) ⌝ }
+{
+    let e = i + 16;
+    let mut hit: u8 = 0;
+    let mut j = i;
+    while j < e {
+        if s[j] == b {
+            hit = 1;
+        }
+        j += 1;
+    }
+    hit == 0
+}
+
+// The first place of the byte b from from on, or the end of s.
+pub fn find(s: &[u8], from: usize, b: u8) -> usize
+    requires { ⌜ from ≤ length (now s) ⌝ }
+    ensures { λ r. ⌜ Stop (other b) (now (s .entry)) from r ⌝ }
+{
+    let mut i = from;
+    while 16 <= s.len() - i {
+        if none_in_block(s, i, b) {
+            i += 16;
+        } else {
+            return find_by_bytes(s, i, b);
+        }
+    }
+    find_by_bytes(s, i, b)
+}
+
+// The end of the line that starts at from.
+pub fn line_end(s: &[u8], from: usize) -> usize
+    requires { ⌜ from ≤ length (now s) ⌝ }
+    ensures { λ r. ⌜ Stop inLine (now (s .entry)) from r ⌝ }
+{
+    find(s, from, 10)
+}
+
+fn range_by_bytes(s: &[u8], from: usize, low: u8, high: u8) -> usize
+    requires { ⌜ from ≤ length (now s) ⌝ }
+    ensures { λ r. ⌜ Stop (between low high) (now (s .entry)) from r ⌝ }
+{
+    let mut i = from;
+    while i < s.len() {
+        if classes::within(low, high, s[i]) {
+            i += 1;
+        } else {
+            return i;
+        }
+    }
+    i
+}
+
+// Whether the sixteen bytes at i all lie from low to high.
+fn range_in_block(s: &[u8], i: usize, low: u8, high: u8) -> bool
+    requires { ⌜ i + 16 ≤ length (now s) ⌝ }
+    ensures { λ r. ⌜ (r ≡ true → Scan (between low high) (now (s .entry)) i (i + 16)) ⌝ }
+{
+    let e = i + 16;
+    let mut hit: u8 = 0;
+    let mut j = i;
+    while j < e {
+        if classes::within(low, high, s[j]) {} else {
+            hit = 1;
+        }
+        j += 1;
+    }
+    hit == 0
+}
+
+// The end of the run of bytes from low to high that starts at from.
+pub fn range_end(s: &[u8], from: usize, low: u8, high: u8) -> usize
+    requires { ⌜ from ≤ length (now s) ⌝ }
+    ensures { λ r. ⌜ Stop (between low high) (now (s .entry)) from r ⌝ }
+{
+    let mut i = from;
+    while 16 <= s.len() - i {
+        if range_in_block(s, i, low, high) {
+            i += 16;
+        } else {
+            return range_by_bytes(s, i, low, high);
+        }
+    }
+    range_by_bytes(s, i, low, high)
+}

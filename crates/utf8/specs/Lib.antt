@@ -1,0 +1,4 @@
+pub mod Utf8
+pub mod Due
+pub mod Laws
+pub mod Cases
