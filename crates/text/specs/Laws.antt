@@ -46,6 +46,14 @@ is-other x b e = ap not (ne-eqb x b e)
 pub not-other : (x b : ℕ) → x ≡ b → other b x ≡ false
 not-other x b e = ap not (eq-eqb x b e)
 
+-- a byte that passes a test is none that does not
+pub pass-other : (p : ℕ → Bool) (b : ℕ) → p b ≡ false → (x : ℕ) → p x ≡ true → eqb x b ≡ false
+pass-other p b n x h = go (eqb x b) refl
+  where
+    go : (t : Bool) → eqb x b ≡ t → t ≡ false
+    go true e = absurd (true≢false (sym h ∙ ap p (eqb-true x b e) ∙ n))
+    go false e = refl
+
 -- a test that passes at each number below m: computed once, it holds of each
 abbrev pub below : (ℕ → Bool) → ℕ → Bool
 below f zero = true
@@ -77,6 +85,13 @@ module _ (p : ℕ → Bool) where
   pub all-append : (a b : List ℕ) → all p a ≡ true → all p b ≡ true → all p (a ++ b) ≡ true
   all-append [] b ha hb = hb
   all-append (x ∷ a) b ha hb = rw (all-cons x a ha .0) (all-append a b (all-cons x a ha .1) hb)
+
+  pub all-weaken : (q : ℕ → Bool) → ((x : ℕ) → p x ≡ true → q x ≡ true) → (l : List ℕ) → all p l ≡ true → all q l ≡ true
+  all-weaken q f [] h = refl
+  all-weaken q f (x ∷ l) h = rw (f x (all-cons x l h .0)) (all-weaken q f l (all-cons x l h .1))
+
+  pub all-other : (b : ℕ) → p b ≡ false → (l : List ℕ) → all p l ≡ true → all (other b) l ≡ true
+  all-other b n l h = all-weaken (other b) (λ x e. ap not (pass-other p b n x e)) l h
 
   pub lead-whole : (s : List ℕ) → lead p s ≡ length s → all p s ≡ true
   lead-whole [] e = refl

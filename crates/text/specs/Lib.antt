@@ -4,3 +4,4 @@ pub mod Words
 pub mod Options
 pub mod Scans
 pub mod Laws
+pub mod OptionLaws

@@ -20,6 +20,16 @@ abbrev pub andThen : {A B : Type 0} → Option A → (A → Option B) → Option
 andThen none f = none
 andThen (some a) f = f a
 
+-- what is read, as something else
+abbrev pub mapped : {A B : Type 0} → (A → B) → Option A → Option B
+mapped f none = none
+mapped f (some a) = some (f a)
+
+-- the first of two readings that is not broken
+abbrev pub orElse : {A : Type 0} → Option A → Option A → Option A
+orElse none o = o
+orElse (some a) o = some a
+
 -- only where the test holds
 abbrev pub only : {A : Type 0} → Bool → Option A → Option A
 only true o = o

@@ -1,10 +1,11 @@
 -- Parts of a byte string: runs of a class, lines, the pieces between separators, and a text with zeros behind it.
-use Prim.Native.Nat.{ℕ, suc, _-_}
+use Prim.Native.Nat.{ℕ, suc, _-_, _≤_}
 use mathlib.Core.Bool.{Bool, true, false, cond, _&&_}
 use mathlib.Core.List.{List, [], _∷_, _++_}
 use lib.Dec.{eqb}
 use lib.ListN.{length, take, drop, replicate}
 use Rattle.text.specs.Bytes.{isBlank}
+use Rattle.text.specs.declared.Place.{Place}
 
 -- how many bytes at the front pass the test, the run that they make, and what comes after it
 abbrev pub lead : (ℕ → Bool) → List ℕ → ℕ
@@ -29,6 +30,14 @@ empty (x ∷ xs) = false
 -- the part from index a up to index e
 abbrev pub part : ℕ → ℕ → List ℕ → List ℕ
 part a e s = take (e - a) (drop a s)
+
+abbrev pub partAt : List ℕ → Place → List ℕ
+partAt s p = part (p .start) (p .end) s
+
+-- a place lies in a slice of n bytes
+pub record Inside (n : ℕ) (p : Place) : Type 0 where
+  pub low : p .start ≤ p .end
+  pub high : p .end ≤ n
 
 -- "trailing whitespace dropped"
 abbrev pub trimmed : List ℕ → List ℕ

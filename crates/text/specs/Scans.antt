@@ -5,6 +5,8 @@ use mathlib.Core.Bool.{Bool, true, false}
 use mathlib.Core.List.{List, [], _∷_}
 use Prim.Native.Nat.{ℕ, suc, _+_, _-_, _≤_, _<_}
 use native.Mathlib.Omega.{arith}
+use borrow.Author.Tests.{eqb-true, eqb-false}
+use lib.Dec.{eqb}
 use lib.ListN.{length, take, drop, getD, length-drop}
 use lib.Seq.{drop-drop}
 use Rattle.text.specs.Bytes.{inLine, other}
@@ -72,6 +74,13 @@ module _ {p : ℕ → Bool} {s : List ℕ} {a e : ℕ} (h : Stop p s a e) where
     where
       k′ : e ≢ length s
       k′ = k
+
+pub all-run : {p : ℕ → Bool} {s : List ℕ} {e : ℕ} → Stop p s 0 e → eqb e (length s) ≡ all p s
+all-run {p} {s} {e} h = go (eqb e (length s)) refl
+  where
+    go : (t : Bool) → eqb e (length s) ≡ t → t ≡ all p s
+    go true q = sym (stop-all h (eqb-true e (length s) q))
+    go false q = sym (stop-some h (eqb-false e (length s) q))
 
 -- ---- the lines and the pieces from index i on, by the end e of the first
 

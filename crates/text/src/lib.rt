@@ -12,6 +12,12 @@ pub enum Dialect {
     ConnMan,
 }
 
+// A part of a slice, by its start and its end.
+pub struct Place {
+    pub start: usize,
+    pub end: usize,
+}
+
 // The classes of bytes that a run is made of.
 pub enum Class {
     Blank,

@@ -7,6 +7,7 @@ ghost use mathlib.Core.Bool.{true};
 ghost use Prim.Native.Nat.{_+_, _≤_};
 ghost use lib.ListN.{length};
 ghost use Rattle.text.specs.Bytes.{inLine, between, other, memberOf};
+ghost use Rattle.text.specs.Parts.{all};
 ghost use Rattle.text.specs.Scans.{Stop, Scan, Trim};
 use crate::Class;
 use crate::classes;
@@ -25,6 +26,13 @@ pub fn run_end(s: &[u8], from: usize, c: Class) -> usize
         }
     }
     i
+}
+
+// Whether every byte of s is of the class.
+pub fn all_of(s: &[u8], c: Class) -> bool
+    ensures { λ r. ⌜ r ≡ all (memberOf c) (now (s .entry)) ⌝ }
+{
+    run_end(s, 0, c) == s.len()
 }
 
 // The end of the bytes from from on without their trailing blanks.

@@ -1,0 +1,208 @@
+-- The returns of `value` and `hex_digit`, and what the loops keep: a turn and the ends of each.
+use mathlib.Core.Path.{_≡_, refl, ap, sym, _∙_, subst}
+use mathlib.Core.Bool.{Bool, true, false, cond, _&&_, and-false}
+use mathlib.Core.List.{List, [], _∷_, _++_, append-assoc, append-nil}
+use mathlib.Core.Option.{Option, none, some}
+use Prim.Native.Nat.{ℕ, suc, _+_, _-_, _*_, _/_, _%_, _≤_, _<_}
+use native.Mathlib.Numerals.{add-one}
+use native.Mathlib.Omega.{arith}
+use borrow.Author.Tests.{lt-ltb, le-ltb, ltb-true, eqb-true, eqb-false}
+use lib.Dec.{eqb, ltb}
+use lib.ListN.{length, drop, set, getD, drop-of-length-le, length-append}
+use lib.Seq.{drop-cons}
+use Rattle.text.specs.Bytes.{between, isDigit}
+use Rattle.text.specs.Options.{isSome, prepend, plain}
+use Rattle.text.specs.Laws.{and-true, inside, under, over, between-high}
+use Rattle.put.specs.Put.{Wrote}
+use Rattle.put.specs.Laws.{then, wrote-two}
+use Rattle.put.specs.Filling.{Filling, filling-none, filling-end, filling-room, filling-byte}
+use Rattle.hex.specs.Hex.{nibble, unhex, digit, hex}
+
+-- ---- one digit, range by range
+
+module _ {c : ℕ} where
+  pub nibble-low : c < 48 → 16 ≡ nibble c
+  unfolding nibble
+  nibble-low h = rw (under {x = c} 48 57 h, under {x = c} 97 102 (omega arith), under {x = c} 65 70 (omega arith))
+
+  pub nibble-decimal : 48 ≤ c → c ≤ 57 → c - 48 ≡ nibble c
+  unfolding nibble
+  nibble-decimal h g = rw (inside {x = c} 48 57 h g)
+
+  pub nibble-gap : 57 < c → c < 65 → 16 ≡ nibble c
+  unfolding nibble
+  nibble-gap h g = rw (over {x = c} 48 57 h, under {x = c} 97 102 (omega arith), under {x = c} 65 70 g)
+
+  pub nibble-upper : 65 ≤ c → c ≤ 70 → c - 55 ≡ nibble c
+  unfolding nibble
+  nibble-upper h g = rw (over {x = c} 48 57 (omega arith), under {x = c} 97 102 (omega arith), inside {x = c} 65 70 h g)
+
+  pub nibble-between : 70 < c → c < 97 → 16 ≡ nibble c
+  unfolding nibble
+  nibble-between h g = rw (over {x = c} 48 57 (omega arith), under {x = c} 97 102 g, over {x = c} 65 70 h)
+
+  pub nibble-lower : 97 ≤ c → c ≤ 102 → c - 87 ≡ nibble c
+  unfolding nibble
+  nibble-lower h g = rw (over {x = c} 48 57 (omega arith), inside {x = c} 97 102 h g)
+
+  pub nibble-high : 102 < c → 16 ≡ nibble c
+  unfolding nibble
+  nibble-high h = rw (over {x = c} 48 57 (omega arith), over {x = c} 97 102 h, over {x = c} 65 70 (omega arith))
+
+nibble-small : (c : ℕ) → nibble c ≤ 16
+unfolding nibble
+nibble-small c = go (isDigit c) refl (between 97 102 c) refl (between 65 70 c) refl
+  where
+    go : (d : Bool) → isDigit c ≡ d → (l : Bool) → between 97 102 c ≡ l → (u : Bool) → between 65 70 c ≡ u → cond d (c - 48) (cond l (c - 87) (cond u (c - 55) 16)) ≤ 16
+    go true e l f u g = omega (arith, between-high {x = c} 48 57 e)
+    go false e true f u g = omega (arith, between-high {x = c} 97 102 f)
+    go false e false f true g = omega (arith, between-high {x = c} 65 70 g)
+    go false e false f false g = omega arith
+
+pub digit-low : {n : ℕ} → n < 10 → 48 + n ≡ digit n
+unfolding digit
+digit-low {n} h = rw (lt-ltb n 10 h)
+
+pub digit-high : {n : ℕ} → 10 ≤ n → 87 + n ≡ digit n
+unfolding digit
+digit-high {n} h = rw (le-ltb n 10 h)
+
+-- ---- pairs from index i on
+
+abbrev first : List ℕ → ℕ → ℕ
+first s i = nibble (getD s i 0)
+
+unhex-at : (s : List ℕ) (i : ℕ) → i + 1 < length s → unhex (drop i s) ≡ cond (ltb (first s i) 16 && ltb (first s (i + 1)) 16) (prepend (first s i * 16 + first s (i + 1)) (unhex (drop (i + 2) s))) none
+unfolding unhex
+unhex-at s i h =
+    let e : i + 2 ≡ suc (suc i) = omega arith in
+    let l : suc i < length s = omega arith in
+    rw (e, add-one i, drop-cons s i 0 (omega arith), drop-cons s (suc i) 0 l)
+
+unhex-odd : (s : List ℕ) (i : ℕ) → i < length s → length s ≤ i + 1 → unhex (drop i s) ≡ none
+unfolding unhex
+unhex-odd s i h g = let l : length s ≤ suc i = omega arith in rw (drop-cons s i 0 h, drop-of-length-le s l)
+
+unhex-end : (s : List ℕ) (i : ℕ) → length s ≤ i → unhex (drop i s) ≡ some []
+unfolding unhex
+unhex-end s i h = rw (drop-of-length-le s h)
+
+some-prepend : (x : ℕ) (o : Option (List ℕ)) → isSome (prepend x o) ≡ isSome o
+some-prepend x none = refl
+some-prepend x (some t) = refl
+
+-- ---- whether s is pairs
+
+pub record Pairing (s : List ℕ) (i : ℕ) : Type 0 where
+  pub within : i ≤ length s
+  pub rest : isSome (unhex (drop i s)) ≡ isSome (unhex s)
+
+module _ {s : List ℕ} {i : ℕ} (h : Pairing s i) where
+  pub pairing-end : length s ≤ i + 1 → eqb i (length s) ≡ isSome (unhex s)
+  pairing-end l = go (eqb i (length s)) refl
+    where
+      go : (t : Bool) → eqb i (length s) ≡ t → eqb i (length s) ≡ isSome (unhex s)
+      go true e = e ∙ (rw (unhex-end s i (omega (arith, eqb-true i (length s) e))) at (h .rest))
+      go false e = let n : (i ≡ length s → ⊥) = eqb-false i (length s) e in e ∙ (rw (unhex-odd s i (omega (arith, n, h .within)) l) at (h .rest))
+
+  module _ (l : i + 1 < length s) {x : ℕ} (p : x ≡ first s i) where
+    pub pairing-bad-high : x ≡ 16 → false ≡ isSome (unhex s)
+    pairing-bad-high e = rw (unhex-at s i l, le-ltb (first s i) 16 (omega arith)) at (h .rest)
+
+    module _ (n : x ≡ 16 → ⊥) {y : ℕ} (q : y ≡ first s (i + 1)) where
+      pub pairing-bad-low : y ≡ 16 → false ≡ isSome (unhex s)
+      pairing-bad-low e = rw (unhex-at s i l, le-ltb (first s (i + 1)) 16 (omega arith), and-false (ltb (first s i) 16)) at (h .rest)
+
+      pub pairing-turn : (y ≡ 16 → ⊥) → Pairing s (i + 2)
+      pairing-turn m =
+          let high : first s i < 16 = omega (arith, n, nibble-small (getD s i 0)) in
+          let low : first s (i + 1) < 16 = omega (arith, m, nibble-small (getD s (i + 1) 0)) in
+          record {
+            within = omega arith;
+            rest = sym (some-prepend _ (unhex (drop (i + 2) s))) ∙ (rw (unhex-at s i l, lt-ltb (first s i) 16 high, lt-ltb (first s (i + 1)) 16 low) at (h .rest));
+          }
+
+-- ---- bytes from pairs
+
+pub record Unhexing (s : List ℕ) (i n : ℕ) (o x : List ℕ) : Type 0 where
+  pub within : i ≤ length s
+  pub few : n ≤ i
+  pub fill : Filling (unhex s) (unhex (drop i s)) n o x
+
+module _ {s : List ℕ} {i n : ℕ} {o x : List ℕ} (h : Unhexing s i n o x) where
+  pub unhexing-end : length s ≤ i + 1 → Wrote (plain (unhex s)) 0 o x n
+  unhexing-end l = go (eqb i (length s)) refl
+    where
+      go : (t : Bool) → eqb i (length s) ≡ t → Wrote (plain (unhex s)) 0 o x n
+      go true e = filling-end (h .fill) (unhex-end s i (omega (arith, eqb-true i (length s) e)))
+      go false e = let n : (i ≡ length s → ⊥) = eqb-false i (length s) e in absurd (filling-none (h .fill) (unhex-odd s i (omega (arith, n, h .within)) l))
+
+  module _ (l : i + 1 < length s) where
+    digits : (ltb (first s i) 16 && ltb (first s (i + 1)) 16) ≡ true
+    digits = go (ltb (first s i) 16 && ltb (first s (i + 1)) 16) refl
+      where
+        go : (t : Bool) → (ltb (first s i) 16 && ltb (first s (i + 1)) 16) ≡ t → t ≡ true
+        go true e = refl
+        go false e = absurd (filling-none (h .fill) (unhex-at s i l ∙ rw e))
+
+    pub unhexing-high : first s i < 16
+    unhexing-high = ltb-true _ 16 (and-true (ltb (first s i) 16) (ltb (first s (i + 1)) 16) digits .0)
+
+    pub unhexing-low : first s (i + 1) < 16
+    unhexing-low = ltb-true _ 16 (and-true (ltb (first s i) 16) (ltb (first s (i + 1)) 16) digits .1)
+
+    byte : unhex (drop i s) ≡ prepend (first s i * 16 + first s (i + 1)) (unhex (drop (i + 2) s))
+    byte = unhex-at s i l ∙ rw digits
+
+    pub unhexing-room : n < length x
+    unhexing-room = filling-room (h .fill) (first s i * 16 + first s (i + 1)) (unhex (drop (i + 2) s)) byte
+
+    module _ {a b : ℕ} (p : a ≡ first s i) (q : b ≡ first s (i + 1)) where
+      pub unhexing-small : a * 16 + b < 256
+      unhexing-small = omega (arith, unhexing-high, unhexing-low)
+
+      pub unhexing-turn : Unhexing s (i + 2) (n + 1) o (set x n (a * 16 + b))
+      unhexing-turn =
+          record {
+            within = omega arith;
+            few = omega (arith, h .few);
+            fill = rw (p, q) (filling-byte (h .fill) (first s i * 16 + first s (i + 1)) (unhex (drop (i + 2) s)) byte);
+          }
+
+-- ---- pairs from bytes
+
+hex-at : (s : List ℕ) (i : ℕ) → i < length s → hex (drop i s) ≡ digit (getD s i 0 / 16) ∷ digit (getD s i 0 % 16) ∷ hex (drop (i + 1) s)
+unfolding hex
+hex-at s i h = rw (add-one i, drop-cons s i 0 h)
+
+hex-end : (s : List ℕ) (i : ℕ) → length s ≤ i → hex (drop i s) ≡ []
+unfolding hex
+hex-end s i h = rw (drop-of-length-le s h)
+
+pub record Hexing (s : List ℕ) (i a : ℕ) (o x : List ℕ) (p : ℕ) : Type 0 where
+  pub within : i ≤ length s
+  pub done : List ℕ
+  pub wrote : Wrote done a o x p
+  pub rest : done ++ hex (drop i s) ≡ hex s
+  pub room : a + length (hex s) ≤ length o
+
+module _ {s : List ℕ} {i a : ℕ} {o x : List ℕ} {p : ℕ} (h : Hexing s i a o x p) where
+  pub hexing-end : length s ≤ i → Wrote (hex s) a o x p
+  hexing-end l = subst (λ (t : List ℕ). Wrote t a o x p) (sym (append-nil (h .done)) ∙ ap (λ (t : List ℕ). h .done ++ t) (sym (hex-end s i l)) ∙ h .rest) (h .wrote)
+
+  module _ (l : i < length s) where
+    onward : h .done ++ (digit (getD s i 0 / 16) ∷ digit (getD s i 0 % 16) ∷ []) ++ hex (drop (i + 1) s) ≡ hex s
+    onward = append-assoc (h .done) _ _ ∙ ap (λ (t : List ℕ). h .done ++ t) (sym (hex-at s i l)) ∙ h .rest
+
+    pub hexing-room : p + 2 ≤ length x
+    hexing-room = omega (arith, h .room, h .wrote .next, h .wrote .long, simp length-append at (ap length onward))
+
+    pub hexing-turn : {y z : ℕ} → y ≡ digit (getD s i 0 / 16) → z ≡ digit (getD s i 0 % 16) → Hexing s (i + 1) a o (set (set x p y) (p + 1) z) (p + 2)
+    hexing-turn e f =
+        record {
+          within = omega arith;
+          done = h .done ++ (digit (getD s i 0 / 16) ∷ digit (getD s i 0 % 16) ∷ []);
+          wrote = rw (e, f) (then (h .wrote) (wrote-two x p _ _ hexing-room));
+          rest = onward;
+          room = h .room;
+        }

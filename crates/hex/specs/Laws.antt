@@ -1,0 +1,126 @@
+-- Hex that is written reads back, and lower-case hex that is read is written again; lengths and bytes of both.
+use mathlib.Core.Path.{_≡_, refl}
+use mathlib.Core.Bool.{Bool, true, false, cond, _&&_}
+use mathlib.Core.List.{List, [], _∷_}
+use mathlib.Core.Option.{Option, none, some, Option·some-injective, Option·none-ne-some}
+use Prim.Native.Nat.{ℕ, _+_, _*_, _/_, _%_, _<_}
+use native.Mathlib.Omega.{arith}
+use borrow.Author.Tests.{eqb-true, ltb-true, lt-ltb}
+use lib.Dec.{eqb, ltb}
+use lib.ListN.{length}
+use Rattle.text.specs.Bytes.{isDigit, isLowerHex}
+use Rattle.text.specs.Parts.{all}
+use Rattle.text.specs.Options.{prepend}
+use Rattle.text.specs.Laws.{and-true, all-cons, below, below-at, between-high}
+use Rattle.hex.specs.Hex.{nibble, unhex, digit, hex, isByte}
+
+-- ---- one digit, by computation
+
+writesBack : ℕ → Bool
+writesBack n = eqb (nibble (digit n)) n && isLowerHex (digit n)
+
+each-nibble : below writesBack 16 ≡ true
+unfolding writesBack nibble digit
+each-nibble = refl
+
+pub nibble-digit : (n : ℕ) → n < 16 → nibble (digit n) ≡ n
+unfolding writesBack
+nibble-digit n h = eqb-true _ n (and-true _ _ (below-at writesBack 16 each-nibble n h) .0)
+
+pub digit-lower : (n : ℕ) → n < 16 → isLowerHex (digit n) ≡ true
+unfolding writesBack
+digit-lower n h = and-true (eqb (nibble (digit n)) n) _ (below-at writesBack 16 each-nibble n h) .1
+
+readsBack : ℕ → Bool
+readsBack c = cond (isLowerHex c) (eqb (digit (nibble c)) c) true
+
+each-lower : below readsBack 103 ≡ true
+unfolding readsBack nibble digit
+each-lower = refl
+
+lower-below : (c : ℕ) → isLowerHex c ≡ true → c < 103
+lower-below c h = go (isDigit c) refl
+  where
+    go : (t : Bool) → isDigit c ≡ t → c < 103
+    go true e = omega (arith, between-high {x = c} 48 57 e)
+    go false e = omega (arith, between-high {x = c} 97 102 (rw e at h))
+
+pub digit-nibble : (c : ℕ) → isLowerHex c ≡ true → digit (nibble c) ≡ c
+unfolding readsBack
+digit-nibble c h = eqb-true _ c (rw h at (below-at readsBack 103 each-lower c (lower-below c h)))
+
+-- ---- writing, then reading
+
+pub unhex-hex : (t : List ℕ) → all isByte t ≡ true → unhex (hex t) ≡ some t
+unfolding unhex hex
+unhex-hex [] h = refl
+unhex-hex (b ∷ t) h =
+    let k : b < 256 = ltb-true b 256 (all-cons isByte b t h .0) in
+    let high : b / 16 < 16 = omega arith in
+    let low : b % 16 < 16 = omega arith in
+    let e : b / 16 * 16 + b % 16 ≡ b = omega arith in
+    rw (nibble-digit (b / 16) high, nibble-digit (b % 16) low, lt-ltb (b / 16) 16 high, lt-ltb (b % 16) 16 low, unhex-hex t (all-cons isByte b t h .1), e)
+
+pub hex-lower : (t : List ℕ) → all isByte t ≡ true → all isLowerHex (hex t) ≡ true
+unfolding hex
+hex-lower [] h = refl
+hex-lower (b ∷ t) h =
+    let k : b < 256 = ltb-true b 256 (all-cons isByte b t h .0) in
+    rw (digit-lower (b / 16) (omega arith), digit-lower (b % 16) (omega arith), hex-lower t (all-cons isByte b t h .1))
+
+pub hex-length : (t : List ℕ) → length (hex t) ≡ 2 * length t
+unfolding hex
+hex-length [] = refl
+hex-length (b ∷ t) = omega (arith, hex-length t)
+
+-- ---- reading: a pair of digits in front of s gives a byte in front of what s gives
+
+record Pair (a b : ℕ) (s t : List ℕ) : Type 0 where
+  high : nibble a < 16
+  low : nibble b < 16
+  rest : List ℕ
+  read : unhex s ≡ some rest
+  is : (nibble a * 16 + nibble b) ∷ rest ≡ t
+
+pair : (a b : ℕ) (s t : List ℕ) → unhex (a ∷ b ∷ s) ≡ some t → Pair a b s t
+unfolding unhex
+pair a b s t e = go (ltb (nibble a) 16 && ltb (nibble b) 16) refl (unhex s) refl e
+  where
+    go : (d : Bool) → (ltb (nibble a) 16 && ltb (nibble b) 16) ≡ d → (o : Option (List ℕ)) → unhex s ≡ o → cond d (prepend (nibble a * 16 + nibble b) o) none ≡ some t → Pair a b s t
+    go true p (some u) q r =
+        let d = and-true (ltb (nibble a) 16) (ltb (nibble b) 16) p in
+        record { high = ltb-true _ 16 (d .0); low = ltb-true _ 16 (d .1); rest = u; read = q; is = Option·some-injective _ t r }
+    go true p none q r = absurd (Option·none-ne-some t r)
+    go false p o q r = absurd (Option·none-ne-some t r)
+
+none-due : (t : List ℕ) → unhex [] ≡ some t → [] ≡ t
+unfolding unhex
+none-due t e = Option·some-injective [] t e
+
+odd-unread : (a : ℕ) (t : List ℕ) → unhex (a ∷ []) ≡ some t → ⊥
+unfolding unhex
+odd-unread a t e = Option·none-ne-some t e
+
+pub unhex-length : (s : List ℕ) {t : List ℕ} → unhex s ≡ some t → length s ≡ 2 * length t
+unhex-length [] {t} e = rw (← none-due t e)
+unhex-length (a ∷ []) {t} e = absurd (odd-unread a t e)
+unhex-length (a ∷ b ∷ s) {t} e = let p = pair a b s t e in rw (← p .is) (omega (arith, unhex-length s (p .read)))
+
+pub unhex-bytes : (s : List ℕ) {t : List ℕ} → unhex s ≡ some t → all isByte t ≡ true
+unhex-bytes [] {t} e = rw (← none-due t e)
+unhex-bytes (a ∷ []) {t} e = absurd (odd-unread a t e)
+unhex-bytes (a ∷ b ∷ s) {t} e =
+    let p = pair a b s t e in
+    rw (← p .is, lt-ltb (nibble a * 16 + nibble b) 256 (omega (arith, p .high, p .low))) (unhex-bytes s (p .read))
+
+pub hex-unhex : (s : List ℕ) {t : List ℕ} → all isLowerHex s ≡ true → unhex s ≡ some t → hex t ≡ s
+unfolding hex
+hex-unhex [] {t} h e = rw (← none-due t e)
+hex-unhex (a ∷ []) {t} h e = absurd (odd-unread a t e)
+hex-unhex (a ∷ b ∷ s) {t} h e =
+    let p = pair a b s t e in
+    let k = all-cons isLowerHex a (b ∷ s) h in
+    let l = all-cons isLowerHex b s (k .1) in
+    let high : (nibble a * 16 + nibble b) / 16 ≡ nibble a = omega (arith, p .high, p .low) in
+    let low : (nibble a * 16 + nibble b) % 16 ≡ nibble b = omega (arith, p .high, p .low) in
+    rw (← p .is, high, low, digit-nibble a (k .0), digit-nibble b (l .0), hex-unhex s (l .1) (p .read))
