@@ -1,3 +1,4 @@
 pub mod Put
 pub mod Laws
 pub mod Filling
+pub mod Gathering

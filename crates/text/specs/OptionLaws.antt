@@ -1,5 +1,5 @@
 -- What a reading that succeeds says of its parts.
-use mathlib.Core.Path.{_≡_, refl}
+use mathlib.Core.Path.{_≡_, refl, subst}
 use mathlib.Core.Bool.{Bool, true, false, cond, false≢true}
 use mathlib.Core.List.{List}
 use mathlib.Core.Option.{Option, none, some, Option·some-injective, Option·none-ne-some}
@@ -28,3 +28,24 @@ module _ {A : Type 0} where
       go : (b : Bool) → between m n (length u) ≡ b → cond b (some u) none ≡ some t → (between m n (length t) ≡ true) × (some u ≡ some t)
       go true h k = (rw (Option·some-injective u t k) at h, k)
       go false h k = absurd (Option·none-ne-some t k)
+
+-- what is read, if it is, has the property
+abbrev pub Holds : {A : Type 0} → (A → Type 0) → Option A → Type 0
+Holds P none = Unit
+Holds P (some a) = P a
+
+module _ {A : Type 0} (P : A → Type 0) where
+  pub holds-some : {o : Option A} {a : A} → Holds P o → o ≡ some a → P a
+  holds-some h e = subst (Holds P) e h
+
+  pub holds-map : (Q : A → Type 0) → ((a : A) → P a → Q a) → (o : Option A) → Holds P o → Holds Q o
+  holds-map Q f none h = tt
+  holds-map Q f (some a) h = f a h
+
+pub sized-holds : {A : Type 0} (P : List A → Type 0) (low high : ℕ) (o : Option (List A)) → Holds P o → Holds (λ l. (between low high (length l) ≡ true) × P l) (sized low high o)
+sized-holds P low high none h = tt
+sized-holds {A} P low high (some l) h = go (between low high (length l)) refl
+  where
+    go : (t : Bool) → between low high (length l) ≡ t → Holds (λ (k : List A). (between low high (length k) ≡ true) × P k) (cond t (some l) none)
+    go true e = (e, h)
+    go false e = tt

@@ -40,6 +40,11 @@ abbrev pub sized : {A : Type 0} → ℕ → ℕ → Option (List A) → Option (
 sized low high none = none
 sized low high (some t) = cond (between low high (length t)) (some t) none
 
+-- every text of a list read; none if one is broken
+abbrev pub each : {A : Type 0} → (List ℕ → Option A) → List (List ℕ) → Option (List A)
+each f [] = some []
+each f (p ∷ ps) = andThen (f p) (λ a. prepend a (each f ps))
+
 -- the text that was read, empty where it is broken
 abbrev pub plain : {A : Type 0} → Option (List A) → List A
 plain none = []

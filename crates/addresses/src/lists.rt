@@ -1,0 +1,97 @@
+// Lists of addresses, read.
+ghost use mathlib.Core.Path.{_≡_};
+ghost use mathlib.Core.Option.{none};
+ghost use Prim.Native.Nat.{_≤_};
+ghost use lib.ListN.{length};
+ghost use Rattle.text.specs.Options.{plain};
+ghost use Rattle.addresses.specs.Addresses.{separator, addresses, rows};
+ghost use Rattle.addresses.specs.Fields.{FieldAt, Filled};
+use crate::Separator;
+use crate::numbers;
+use text::Class;
+use text::scan;
+
+// Where a field ends, and where the next one starts: behind the end of the list where there is none.
+struct Field {
+    end: usize,
+    next: usize,
+}
+
+// The byte between two addresses that are written.
+pub fn separator_byte(sep: Separator) -> u8
+    ensures { λ r. ⌜ r ≡ separator sep ⌝ }
+{
+    match sep {
+        Separator::Spaces => 32,
+        Separator::Comma => 44,
+    }
+}
+
+// The field that starts at from.
+fn field_at(s: &[u8], from: usize, sep: Separator) -> Field
+    requires { ⌜ from ≤ length (now s) ⌝ }
+    ensures { λ r. ⌜ FieldAt sep (now (s .entry)) from (r .end) (r .next) ⌝ }
+{
+    let end = scan::find(s, from, separator_byte(sep));
+    let behind = end + 1;
+    if end == s.len() {
+        return Field { end, next: behind };
+    }
+    match sep {
+        Separator::Comma => Field { end, next: behind },
+        Separator::Spaces => {
+            let next = scan::run_end(s, behind, Class::Space);
+            if next == s.len() {
+                return Field {
+                    end,
+                    next: next + 1,
+                };
+            }
+            Field { end, next }
+        }
+    }
+}
+
+// Reads the addresses of s into the front of list, which holds zeros, and returns how many; 0 where s is broken.
+fn fill_addresses(list: &mut [[u8; 4]; 4], s: &[u8], sep: Separator) -> usize
+    requires { ⌜ now list ≡ rows none ⌝ }
+    ensures { λ r. ⌜ Filled (addresses sep (now (s .entry))) (now (list .exit)) r ⌝ }
+{
+    let mut at = 0;
+    let mut n = 0;
+    while n < 4 {
+        let f = field_at(s, at, sep);
+        let end = f.end;
+        let a = numbers::read_address(&s[at..end]);
+        if !a.ok {
+            return 0;
+        }
+        let bytes = a.bytes;
+        list[n] = bytes;
+        n += 1;
+        if s.len() < f.next {
+            return n;
+        }
+        at = f.next;
+    }
+    0
+}
+
+// How many addresses s lists; 0 where it is broken.
+pub fn count_addresses(s: &[u8], sep: Separator) -> usize
+    ensures { λ r. ⌜ r ≡ length (plain (addresses sep (now (s .entry)))) ⌝ }
+{
+    let mut list = [[0u8; 4]; 4];
+    fill_addresses(&mut list, s, sep)
+}
+
+// The addresses that s lists, and 0.0.0.0 up to four; 0.0.0.0 alone where it is broken.
+pub fn read_addresses(s: &[u8], sep: Separator) -> [[u8; 4]; 4]
+    ensures { λ r. ⌜ r ≡ rows (addresses sep (now (s .entry))) ⌝ }
+{
+    let mut list = [[0u8; 4]; 4];
+    if fill_addresses(&mut list, s, sep) == 0 {
+        return [[0u8; 4]; 4];
+    }
+    list
+}
