@@ -13,22 +13,32 @@ use Rattle.text.specs.Laws.{over}
 use Rattle.text.specs.OptionLaws.{Holds}
 
 -- what was read, in front of what is still to be read
-abbrev ahead : {A : Type 0} → List A → Option (List A) → Option (List A)
+abbrev pub ahead : {A : Type 0} → List A → Option (List A) → Option (List A)
 ahead [] o = o
 ahead (a ∷ l) o = prepend a (ahead l o)
 
 module _ {A : Type 0} where
-  ahead-none : (l : List A) → ahead l none ≡ none
+  pub ahead-none : (l : List A) → ahead l none ≡ none
   ahead-none [] = refl
   ahead-none (a ∷ l) = ap (prepend a) (ahead-none l)
 
-  ahead-end : (l : List A) → ahead l (some []) ≡ some l
+  pub ahead-end : (l : List A) → ahead l (some []) ≡ some l
   ahead-end [] = refl
   ahead-end (a ∷ l) = ap (prepend a) (ahead-end l)
 
   ahead-snoc : (l : List A) (a : A) (o : Option (List A)) → ahead (l ++ (a ∷ [])) o ≡ ahead l (prepend a o)
   ahead-snoc [] a o = refl
   ahead-snoc (b ∷ l) a o = ap (prepend b) (ahead-snoc l a o)
+
+  -- texts in front of others
+  pub each-append : (f : List ℕ → Option A) (ps qs : List (List ℕ)) → each f (ps ++ qs) ≡ andThen (each f ps) (λ l. ahead l (each f qs))
+  each-append f [] qs = refl
+  each-append f (p ∷ ps) qs = rw (each-append f ps qs) (go (f p) (each f ps) (each f qs))
+    where
+      go : (o : Option A) (r t : Option (List A)) → andThen o (λ a. prepend a (andThen r (λ l. ahead l t))) ≡ andThen (andThen o (λ a. prepend a r)) (λ l. ahead l t)
+      go none r t = refl
+      go (some a) none t = refl
+      go (some a) (some l) t = refl
 
   -- as many are read as there are texts
   each-counts : (f : List ℕ → Option A) (ps : List (List ℕ)) → Holds (λ l. length l ≡ length ps) (each f ps)
@@ -40,7 +50,7 @@ module _ {A : Type 0} where
       go (some a) none h = tt
       go (some a) (some l) h = ap suc h
 
-  sized-each : (low high : ℕ) (f : List ℕ → Option A) (ps : List (List ℕ)) → sized low high (each f ps) ≡ only (between low high (length ps)) (each f ps)
+  pub sized-each : (low high : ℕ) (f : List ℕ → Option A) (ps : List (List ℕ)) → sized low high (each f ps) ≡ only (between low high (length ps)) (each f ps)
   sized-each low high f ps = go (each f ps) (each-counts f ps) (between low high (length ps)) refl
     where
       go : (o : Option (List A)) → Holds (λ (l : List A). length l ≡ length ps) o → (t : Bool) → between low high (length ps) ≡ t → sized low high o ≡ only t o

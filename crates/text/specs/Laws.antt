@@ -8,10 +8,10 @@ use native.Mathlib.Omega.{arith}
 use mathlib.Core.Bool.{Bool, true, false, cond, not, _&&_, false≢true, true≢false}
 use mathlib.Core.List.{List, [], _∷_, _++_}
 use lib.Dec.{eqb, leb}
-use lib.ListN.{length, take, drop, getD, drop-of-length-le, length-append}
-use lib.Seq.{drop-cons}
+use lib.ListN.{length, take, drop, set, getD, replicate, drop-of-length-le, length-append}
+use lib.Seq.{drop-cons, set-at, append-snoc}
 use Rattle.text.specs.Bytes.{between, other, inLine}
-use Rattle.text.specs.Parts.{lead, front, after, all, onto, lines, pieces, part, empty}
+use Rattle.text.specs.Parts.{lead, front, after, all, onto, lines, pieces, part, empty, padded}
 use Rattle.text.specs.Words.{same}
 
 -- ---- tests
@@ -201,6 +201,14 @@ same-differ a b h = go (same a b) refl
     go : (t : Bool) → same a b ≡ t → same a b ≡ false
     go true e = absurd (h (ap length (same-eq a b e)))
     go false e = e
+
+-- ---- zeros behind a text: one more element in front of them
+
+pub padded-set : (m : ℕ) (t : List ℕ) (n x : ℕ) → length t ≡ n → n < m → set (padded m t) n x ≡ padded m (t ++ (x ∷ []))
+padded-set m t n x e h =
+    let k : m - length t ≡ suc (m - suc (length t)) = omega arith in
+    let l : length (t ++ (x ∷ [])) ≡ suc (length t) = simp length-append (omega arith) in
+    rw (k, l) (set-at t 0 (replicate (m - suc (length t)) 0) x n e ∙ sym (append-snoc t x (replicate (m - suc (length t)) 0)))
 
 -- ---- views by index
 

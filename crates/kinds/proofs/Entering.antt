@@ -1,0 +1,152 @@
+-- Entries one by one: what the loop keeps, a turn, and its ends.
+use mathlib.Core.Path.{_≡_, refl, ap, ap₂, sym, _∙_}
+use mathlib.Core.Bool.{Bool, true, false, not, _&&_, false≢true}
+use mathlib.Core.List.{List, [], _∷_, _++_, append-assoc}
+use mathlib.Core.Option.{Option, none, some}
+use Prim.Native.Nat.{ℕ, zero, suc, _+_, _-_, _≤_, _<_}
+use native.Mathlib.Omega.{arith}
+use borrow.Author.Tests.{eqb-true, eqb-false, not-true, not-false}
+use lib.Dec.{eqb}
+use lib.ListN.{length, take, drop, set, replicate, length-append, length-drop}
+use lib.Seq.{length-take-le}
+use Rattle.text.specs.Bytes.{between, other, isEntryByte}
+use Rattle.text.specs.Parts.{all, part, pieces, padded}
+use Rattle.text.specs.Options.{isSome, prepend, only, sized, each}
+use Rattle.text.specs.Laws.{inside, under, over, padded-set, pieces-some}
+use Rattle.text.specs.Scans.{Stop, stop-low, pieces-end, pieces-at}
+use Rattle.put.specs.Gathering.{ahead, ahead-none, each-append, sized-each}
+use Rattle.kinds.specs.Kinds.{entry, entries}
+use Rattle.kinds.specs.Answers.{startsFrom, endsFrom, entriesAnswer}
+
+-- ---- the places of one entry more
+
+-- the place behind the comma after the entries es, the first of which starts at a
+abbrev behind : ℕ → List (List ℕ) → ℕ
+behind a [] = a
+behind a (e ∷ es) = behind (a + length e + 1) es
+
+starts-snoc : (a : ℕ) (es : List (List ℕ)) (p : List ℕ) → startsFrom a (es ++ (p ∷ [])) ≡ startsFrom a es ++ (behind a es ∷ [])
+starts-snoc a [] p = refl
+starts-snoc a (e ∷ es) p = ap (λ (l : List ℕ). a ∷ l) (starts-snoc (a + length e + 1) es p)
+
+ends-snoc : (a : ℕ) (es : List (List ℕ)) (p : List ℕ) → endsFrom a (es ++ (p ∷ [])) ≡ endsFrom a es ++ ((behind a es + length p) ∷ [])
+ends-snoc a [] p = refl
+ends-snoc a (e ∷ es) p = ap (λ (l : List ℕ). (a + length e) ∷ l) (ends-snoc (a + length e + 1) es p)
+
+behind-snoc : (a : ℕ) (es : List (List ℕ)) (p : List ℕ) → behind a (es ++ (p ∷ [])) ≡ behind a es + length p + 1
+behind-snoc a [] p = refl
+behind-snoc a (e ∷ es) p = behind-snoc (a + length e + 1) es p
+
+starts-long : (a : ℕ) (es : List (List ℕ)) → length (startsFrom a es) ≡ length es
+starts-long a [] = refl
+starts-long a (e ∷ es) = ap suc (starts-long (a + length e + 1) es)
+
+ends-long : (a : ℕ) (es : List (List ℕ)) → length (endsFrom a es) ≡ length es
+ends-long a [] = refl
+ends-long a (e ∷ es) = ap suc (ends-long (a + length e + 1) es)
+
+-- ---- one entry
+
+module _ (p : List ℕ) where
+  pub entry-short : length p < 1 → false ≡ isSome (entry p)
+  entry-short h = rw (under {x = length p} 1 253 h)
+
+  pub entry-long : 253 < length p → false ≡ isSome (entry p)
+  entry-long h = rw (over {x = length p} 1 253 h)
+
+  pub entry-bytes : 1 ≤ length p → length p ≤ 253 → {x : Bool} → x ≡ all isEntryByte p → x ≡ isSome (entry p)
+  entry-bytes h g e = rw (inside {x = length p} 1 253 h g) (e ∙ go (all isEntryByte p))
+    where
+      go : (t : Bool) → t ≡ isSome (only t (some p))
+      go true = refl
+      go false = refl
+
+entry-is : (p : List ℕ) {x : Bool} → x ≡ isSome (entry p) → not x ≡ false → entry p ≡ some p
+entry-is p {x} e k = go (between 1 253 (length p) && all isEntryByte p) (sym e ∙ not-false x k)
+  where
+    go : (t : Bool) → isSome (only t (some p)) ≡ true → only t (some p) ≡ some p
+    go true h = refl
+    go false h = absurd (false≢true h)
+
+entry-none : (p : List ℕ) {x : Bool} → x ≡ isSome (entry p) → not x ≡ true → entry p ≡ none
+entry-none p {x} e k = go (entry p) (sym e ∙ not-true x k)
+  where
+    go : (o : Option (List ℕ)) → isSome o ≡ false → o ≡ none
+    go none h = refl
+    go (some a) h = absurd (false≢true (sym h))
+
+ahead-some : (l m : List (List ℕ)) → ahead l (some m) ≡ some (l ++ m)
+ahead-some [] m = refl
+ahead-some (a ∷ l) m = ap (prepend a) (ahead-some l m)
+
+-- ---- the loop: the entries done are good and stand in the arrays, and the rest of s starts at at
+
+pub record Entering (s : List ℕ) (at n : ℕ) (starts ends : List ℕ) : Type 0 where
+  pub within : at ≤ length s
+  pub done : List (List ℕ)
+  pub rest : pieces 44 s ≡ done ++ pieces 44 (drop at s)
+  pub good : each entry done ≡ some done
+  pub long : length done ≡ n
+  pub place : at ≡ behind 0 done
+  pub first : starts ≡ padded 4 (startsFrom 0 done)
+  pub last : ends ≡ padded 4 (endsFrom 0 done)
+
+pub entering-first : (s : List ℕ) → Entering s 0 0 (replicate 4 0) (replicate 4 0)
+entering-first s = record { within = omega arith; done = []; rest = refl; good = refl; long = refl; place = refl; first = refl; last = refl }
+
+module _ {s : List ℕ} {at n : ℕ} {starts ends : List ℕ} (h : Entering s at n starts ends) where
+  pub entering-full : 4 ≤ n → entries s ≡ none
+  unfolding entries
+  entering-full k =
+      let l : 4 < length (pieces 44 s) = rw (h .rest) (simp length-append (omega (arith, h .long, pieces-some 44 (drop at s)))) in
+      sized-each 1 4 entry (pieces 44 s) ∙ rw (over {x = length (pieces 44 s)} 1 4 l)
+
+  module _ {e : ℕ} (t : Stop (other 44) s at e) {x : Bool} (p : x ≡ isSome (entry (part at e s))) where
+    -- the first piece, whether another follows it or not
+    here : (rs : List (List ℕ)) × (pieces 44 (drop at s) ≡ part at e s ∷ rs)
+    here = go (eqb e (length s)) refl
+      where
+        go : (b : Bool) → eqb e (length s) ≡ b → (rs : List (List ℕ)) × (pieces 44 (drop at s) ≡ part at e s ∷ rs)
+        go true q = ([], pieces-end 44 t (eqb-true e (length s) q))
+        go false q = (pieces 44 (drop (e + 1) s), pieces-at 44 t (eqb-false e (length s) q))
+
+    pub entering-broken : not x ≡ true → entries s ≡ none
+    unfolding entries
+    entering-broken k = rw (h .rest, each-append entry (h .done) (pieces 44 (drop at s)), h .good, here .1, entry-none (part at e s) p k) (ap (sized 1 4) (ahead-none (h .done)))
+
+    module _ (k : not x ≡ false) (l : n < 4) where
+      size : at + length (part at e s) ≡ e
+      size = let m : length (part at e s) ≡ e - at = length-take-le (e - at) (drop at s) (simp length-drop (omega (arith, t .within))) in omega (arith, m, stop-low t)
+
+      good-more : each entry (h .done ++ (part at e s ∷ [])) ≡ some (h .done ++ (part at e s ∷ []))
+      good-more = each-append entry (h .done) (part at e s ∷ []) ∙ rw (h .good, entry-is (part at e s) p k) (ahead-some (h .done) (part at e s ∷ []))
+
+      first-more : set starts n at ≡ padded 4 (startsFrom 0 (h .done ++ (part at e s ∷ [])))
+      first-more = ap (λ (v : List ℕ). set v n at) (h .first) ∙ padded-set 4 (startsFrom 0 (h .done)) n at (starts-long 0 (h .done) ∙ h .long) l ∙ rw (starts-snoc 0 (h .done) (part at e s), ← h .place)
+
+      last-more : set ends n e ≡ padded 4 (endsFrom 0 (h .done ++ (part at e s ∷ [])))
+      last-more = ap (λ (v : List ℕ). set v n e) (h .last) ∙ padded-set 4 (endsFrom 0 (h .done)) n e (ends-long 0 (h .done) ∙ h .long) l ∙ rw (ends-snoc 0 (h .done) (part at e s), ← h .place, size)
+
+      long-more : length (h .done ++ (part at e s ∷ [])) ≡ n + 1
+      long-more = simp length-append (omega (arith, h .long))
+
+      pub entering-end : e ≡ length s → record { count = n + 1; starts = set starts n at; ends = set ends n e } ≡ entriesAnswer (entries s)
+      unfolding entries
+      entering-end q =
+          let w : pieces 44 s ≡ h .done ++ (part at e s ∷ []) = h .rest ∙ ap (λ (r : List (List ℕ)). h .done ++ r) (pieces-end 44 t q) in
+          let v : sized 1 4 (each entry (pieces 44 s)) ≡ some (h .done ++ (part at e s ∷ [])) = rw (w, good-more, long-more, inside {x = n + 1} 1 4 (omega arith) (omega arith)) in
+          rw (v, long-more, first-more, last-more)
+
+      pub entering-turn : (e ≡ length s → ⊥) → Entering s (e + 1) (n + 1) (set starts n at) (set ends n e)
+      entering-turn q =
+          let m : (e ≡ length s → ⊥) = q in
+          record {
+            within = omega (arith, t .within, m);
+            done = h .done ++ (part at e s ∷ []);
+            rest = h .rest ∙ ap (λ (r : List (List ℕ)). h .done ++ r) (pieces-at 44 t q) ∙ sym (append-assoc (h .done) (part at e s ∷ []) (pieces 44 (drop (e + 1) s)));
+            good = good-more;
+            long = long-more;
+            place = sym (behind-snoc 0 (h .done) (part at e s) ∙ rw (← h .place, size));
+            first = first-more;
+            last = last-more;
+          }

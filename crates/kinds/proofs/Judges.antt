@@ -1,0 +1,164 @@
+-- The judgement of each kind, from what its reader answers.
+use mathlib.Core.Path.{_≡_, refl, ap, sym, _∙_}
+use mathlib.Core.Bool.{Bool, true, false, cond, not}
+use mathlib.Core.List.{List, [], _∷_}
+use mathlib.Core.Option.{Option, none, some}
+use Prim.Native.Nat.{ℕ, suc, _≤_, _<_}
+use native.Mathlib.Omega.{arith}
+use borrow.Author.Tests.{le-leb, lt-leb}
+use lib.Dec.{eqb, leb, eqb·suc-zero}
+use lib.ListN.{length}
+use Rattle.text.specs.Bytes.{between}
+use Rattle.text.specs.Parts.{pieces}
+use Rattle.text.specs.Options.{isSome, mapped, sized, plain, each}
+use Rattle.text.specs.Laws.{inside, under, over, between-low}
+use Rattle.text.specs.OptionLaws.{sized-some}
+use Rattle.text.specs.declared.Dialect.{Dialect}
+use Rattle.text.specs.declared.Place.{Place}
+use Rattle.escapes.specs.Strings.{stringOf, sizeOf}
+use Rattle.escapes.specs.declared.Size.{Size}
+use Rattle.escapes.specs.declared.Size.the-variants as S
+use Rattle.addresses.specs.Addresses as A
+use Rattle.addresses.specs.declared.Address.{Address}
+use Rattle.addresses.specs.declared.Netmask.{Netmask}
+use Rattle.addresses.specs.declared.Separator.{Separator}
+use Rattle.kinds.specs.Kinds as K
+use Rattle.kinds.specs.Typed.{Typed, typed, kindJudged, stringJudged, judged, byKind, bytes}
+use Rattle.kinds.specs.Typed as T
+use Rattle.kinds.specs.Answers.{yesNo, namedWord, ipv4Answer, entriesAnswer, macAnswer, valueAt, judgementAt}
+use Rattle.kinds.specs.Judging.{keptAt, flagJudgement, wordJudgement, maskJudgement}
+use Rattle.kinds.specs.declared.Kind.{Kind}
+use Rattle.kinds.specs.declared.Kind.the-variants.{Flag, Named, Address as AddressKind, Netmask as NetmaskKind, Ipv4 as Ipv4Kind, Addresses, Entries as EntriesKind, Mac as MacKind, Key, Ssid, Passphrase, Text}
+use Rattle.kinds.specs.declared.WordList.{WordList}
+use Rattle.kinds.specs.declared.YesNo.{YesNo}
+use Rattle.kinds.specs.declared.NamedWord.{NamedWord}
+use Rattle.kinds.specs.declared.Ipv4.{Ipv4}
+use Rattle.kinds.specs.declared.Entries.{Entries}
+use Rattle.kinds.specs.declared.Mac.{Mac}
+use Rattle.kinds.specs.declared.Judgement.{Judgement}
+use Rattle.kinds.specs.declared.Judgement.the-variants.{Good, BrokenText, BrokenKind}
+use Rattle.kinds.specs.declared.Value.the-variants as W
+
+-- ---- what an answer says of the reading
+
+address-ok : (o : Option (List ℕ)) {x : Address} → x ≡ A.addressAnswer o → x .ok ≡ isSome o
+address-ok none e = ap (λ (x : Address). x .ok) e
+address-ok (some a) e = ap (λ (x : Address). x .ok) e
+
+ipv4-ok : (o : Option K.IPv4) {x : Ipv4} → x ≡ ipv4Answer o → x .ok ≡ isSome o
+ipv4-ok none e = ap (λ (x : Ipv4). x .ok) e
+ipv4-ok (some K.dhcp) e = ap (λ (x : Ipv4). x .ok) e
+ipv4-ok (some K.off) e = ap (λ (x : Ipv4). x .ok) e
+ipv4-ok (some (K.static a n none)) e = ap (λ (x : Ipv4). x .ok) e
+ipv4-ok (some (K.static a n (some g))) e = ap (λ (x : Ipv4). x .ok) e
+
+mac-ok : (o : Option (List ℕ)) {x : Mac} → x ≡ macAnswer o → x .ok ≡ isSome o
+mac-ok none e = ap (λ (x : Mac). x .ok) e
+mac-ok (some a) e = ap (λ (x : Mac). x .ok) e
+
+-- a list of at least one has a count
+counted : (high : ℕ) (o : Option (List (List ℕ))) {n : ℕ} → n ≡ length (plain (sized 1 high o)) → not (eqb n 0) ≡ isSome (sized 1 high o)
+counted high o e = go (sized 1 high o) refl e
+  where
+    go : (q : Option (List (List ℕ))) → sized 1 high o ≡ q → {n : ℕ} → n ≡ length (plain q) → not (eqb n 0) ≡ isSome q
+    go none r e = rw e
+    go (some []) r e = absurd (omega (arith, between-low {x = 0} 1 high (sized-some 1 high o r .0)))
+    go (some (a ∷ l)) r e = rw (e, eqb·suc-zero (length l))
+
+-- ---- the judgements
+
+-- a value kept by its place
+kept-is : {A : Type 0} (p : Place) (f : A → Typed) → ((a : A) → valueAt p (f a) ≡ W.Text p) → (o : Option A) {ok : Bool} → ok ≡ isSome o → keptAt p ok ≡ judgementAt p (byKind (mapped f o))
+kept-is p f t none e = rw e
+kept-is p f t (some a) e = rw (e, t a)
+
+module _ (d : Dialect) (v : List ℕ) (p : Place) {k : Kind} {r : Judgement} where
+  pub flag-kind : k ≡ Flag → {y : YesNo} → y ≡ yesNo (K.flag d v) → r ≡ flagJudgement y → r ≡ judgementAt p (kindJudged d k v)
+  unfolding kindJudged typed
+  flag-kind q e h = rw q (h ∙ ap flagJudgement e ∙ go (K.flag d v))
+    where
+      go : (o : Option Bool) → flagJudgement (yesNo o) ≡ judgementAt p (byKind (mapped T.flag o))
+      go none = refl
+      go (some b) = refl
+
+  pub word-kind : {w : WordList} → k ≡ Named w → {y : NamedWord} → y ≡ namedWord (K.wordOf w v) → r ≡ wordJudgement y → r ≡ judgementAt p (kindJudged d k v)
+  unfolding kindJudged typed
+  word-kind {w} q e h = rw q (h ∙ ap wordJudgement e ∙ go (K.wordOf w v))
+    where
+      go : (o : Option _) → wordJudgement (namedWord o) ≡ judgementAt p (byKind (mapped T.word o))
+      go none = refl
+      go (some b) = refl
+
+  pub mask-kind : k ≡ NetmaskKind → {y : Netmask} → y ≡ A.netmaskAnswer (A.netmask v) → r ≡ maskJudgement y → r ≡ judgementAt p (kindJudged d k v)
+  unfolding kindJudged typed
+  mask-kind q e h = rw q (h ∙ ap maskJudgement e ∙ go (A.netmask v))
+    where
+      go : (o : Option ℕ) → maskJudgement (A.netmaskAnswer o) ≡ judgementAt p (byKind (mapped T.length o))
+      go none = refl
+      go (some b) = refl
+
+  pub address-kind : k ≡ AddressKind → {x : Address} → x ≡ A.addressAnswer (A.address v) → r ≡ keptAt p (x .ok) → r ≡ judgementAt p (kindJudged d k v)
+  unfolding kindJudged typed
+  address-kind q e h = rw q (h ∙ kept-is p T.address (λ a. refl) (A.address v) (address-ok (A.address v) e))
+
+  pub ipv4-kind : k ≡ Ipv4Kind → {x : Ipv4} → x ≡ ipv4Answer (K.ipv4 v) → r ≡ keptAt p (x .ok) → r ≡ judgementAt p (kindJudged d k v)
+  unfolding kindJudged typed
+  ipv4-kind q e h = rw q (h ∙ kept-is p T.ipv4 (λ a. refl) (K.ipv4 v) (ipv4-ok (K.ipv4 v) e))
+
+  pub addresses-kind : {sep : Separator} → k ≡ Addresses sep → {n : ℕ} → n ≡ length (plain (A.addresses sep v)) → r ≡ keptAt p (not (eqb n 0)) → r ≡ judgementAt p (kindJudged d k v)
+  unfolding kindJudged typed A.addresses
+  addresses-kind {sep} q e h = rw q (h ∙ kept-is p T.addresses (λ a. refl) (A.addresses sep v) (counted 4 (each A.address (A.fields sep v)) e))
+
+  pub entries-kind : k ≡ EntriesKind → {x : Entries} → x ≡ entriesAnswer (K.entries v) → r ≡ keptAt p (not (eqb (x .count) 0)) → r ≡ judgementAt p (kindJudged d k v)
+  unfolding kindJudged typed K.entries
+  entries-kind q e h = rw q (h ∙ kept-is p T.entries (λ a. refl) (K.entries v) (counted 4 (each K.entry (pieces 44 v)) (ap (λ (x : Entries). x .count) e)))
+
+  pub mac-kind : k ≡ MacKind → {x : Mac} → x ≡ macAnswer (K.mac v) → r ≡ keptAt p (x .ok) → r ≡ judgementAt p (kindJudged d k v)
+  unfolding kindJudged typed
+  mac-kind q e h = rw q (h ∙ kept-is p T.bytes (λ a. refl) (K.mac v) (mac-ok (K.mac v) e))
+
+  pub key-kind : k ≡ Key → {x : Bool} → x ≡ isSome (K.key v) → r ≡ keptAt p x → r ≡ judgementAt p (kindJudged d k v)
+  unfolding kindJudged typed
+  key-kind q e h = rw q (h ∙ kept-is p T.bytes (λ a. refl) (K.key v) e)
+
+  pub ssid-kind : k ≡ Ssid → {x : Bool} → x ≡ isSome (K.ssid v) → r ≡ keptAt p x → r ≡ judgementAt p (kindJudged d k v)
+  unfolding kindJudged typed
+  ssid-kind q e h = rw q (h ∙ kept-is p T.bytes (λ a. refl) (K.ssid v) e)
+
+  pub passphrase-kind : k ≡ Passphrase → r ≡ judgementAt p (stringJudged d 8 63 v) → r ≡ judgementAt p (kindJudged d k v)
+  unfolding kindJudged typed stringJudged
+  passphrase-kind q h = rw q h
+
+  pub text-kind : {low high : ℕ} → k ≡ Text low high → r ≡ judgementAt p (stringJudged d low high v) → r ≡ judgementAt p (kindJudged d k v)
+  unfolding kindJudged typed stringJudged
+  text-kind q h = rw q h
+
+-- ---- strings
+
+module _ (d : Dialect) (low high : ℕ) (v : List ℕ) (p : Place) {y : Size} (e : y ≡ sizeOf (stringOf d v)) where
+  size-broken : (o : Option (List ℕ)) → y ≡ sizeOf o → y ≡ S.Broken → o ≡ none
+  size-broken none h q = refl
+  size-broken (some t) h q = let z : _≡_ {A = ℕ} 0 1 = cc in absurd (omega arith)
+
+  pub string-broken : y ≡ S.Broken → BrokenText ≡ judgementAt p (stringJudged d low high v)
+  unfolding stringJudged
+  string-broken q = rw (size-broken (stringOf d v) e q)
+
+  module _ {n : ℕ} (q : y ≡ S.Long n) where
+    sized-is : {t : Bool} → between low high n ≡ t → judgementAt p (stringJudged d low high v) ≡ keptAt p t
+    unfolding K.string stringJudged
+    sized-is {t} h = go (stringOf d v) e
+      where
+        go : (o : Option (List ℕ)) → y ≡ sizeOf o → judgementAt p (cond (not (isSome o)) T.brokenText (byKind (mapped bytes (sized low high o)))) ≡ keptAt p t
+        go none g = let z : _≡_ {A = ℕ} 0 1 = cc in absurd (omega arith)
+        go (some u) g = let l : length u ≡ n = cc in rw (l, h) (last t)
+          where
+            last : (t : Bool) → judgementAt p (byKind (mapped bytes (cond t (some u) none))) ≡ keptAt p t
+            last true = refl
+            last false = refl
+
+    pub string-short : n < low → BrokenKind ≡ judgementAt p (stringJudged d low high v)
+    string-short h = sym (sized-is (under {x = n} low high h))
+
+    pub string-long : low ≤ n → {r : Judgement} → r ≡ keptAt p (leb n high) → r ≡ judgementAt p (stringJudged d low high v)
+    string-long h g = g ∙ sym (sized-is {t = leb n high} (rw (le-leb low n h)))

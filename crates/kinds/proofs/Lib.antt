@@ -1,0 +1,4 @@
+pub mod Pairs
+pub mod Statics
+pub mod Entering
+pub mod Judges

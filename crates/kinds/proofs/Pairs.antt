@@ -1,0 +1,162 @@
+-- Values in hex: what is known of their length, and the pairs of a MAC one by one.
+use mathlib.Core.Path.{_≡_, refl, ap, sym, _∙_}
+use mathlib.Core.Bool.{Bool, true, false, cond, _&&_, and-false, false≢true}
+use mathlib.Core.List.{List, [], _∷_, _++_, append-nil}
+use mathlib.Core.Option.{Option, none, some}
+use Prim.Native.Nat.{ℕ, zero, suc, _+_, _-_, _*_, _/_, _≤_, _<_}
+use native.Mathlib.Numerals.{add-one}
+use native.Mathlib.Omega.{arith}
+use borrow.Author.Tests.{eq-eqb, ne-eqb, lt-ltb, le-ltb, eqb-true}
+use lib.Dec.{eqb, ltb}
+use lib.ListN.{length, take, drop, set, getD, replicate, drop-of-length-le, length-set}
+use lib.Seq.{drop-cons, take-suc-set, take-all}
+use Rattle.text.specs.Bytes.{between}
+use Rattle.text.specs.Parts.{padded}
+use Rattle.text.specs.Options.{isSome, andThen, only, prepend, plain, Fits}
+use Rattle.text.specs.Laws.{between-low, between-high}
+use Rattle.put.specs.Filling.{glue, glue-prepend, glue-nil}
+use Rattle.hex.specs.Hex.{nibble, unhex}
+use Rattle.hex.specs.Laws.{unhex-length}
+use Rattle.kinds.specs.Kinds.{pair, colonPairs, pairs, mac, key, ssid}
+use Rattle.kinds.specs.Answers.{macAnswer, keyAnswer, ssidAnswer}
+
+-- ---- hex that is read only where a test holds
+
+pub record Given (t : Bool) (s : List ℕ) : Type 0 where
+  pub test : t ≡ true
+  pub text : List ℕ
+  pub is : unhex s ≡ some text
+  pub size : length s ≡ 2 * length text
+
+given : (t : Bool) (s : List ℕ) → isSome (only t (unhex s)) ≡ true → Given t s
+given false s e = absurd (false≢true e)
+given true s e = go (unhex s) refl e
+  where
+    go : (o : Option (List ℕ)) → unhex s ≡ o → isSome o ≡ true → Given true s
+    go none q k = absurd (false≢true k)
+    go (some t) q k = record { test = refl; text = t; is = q; size = unhex-length s q }
+
+absent : {A : Type 0} (o : Option A) → isSome o ≡ false → o ≡ none
+absent none e = refl
+absent (some a) e = absurd (false≢true (sym e))
+
+module _ (s : List ℕ) {x : Bool} where
+  pub key-fits : x ≡ isSome (key s) → x ≡ true → Fits 32 (unhex s)
+  unfolding key
+  key-fits p q = let g = given (eqb (length s) 64) s (sym p ∙ q) in rw (g .is) (omega (arith, g .size, eqb-true (length s) 64 (g .test)))
+
+  pub key-good : x ≡ isSome (key s) → x ≡ true → {a : List ℕ} → a ≡ padded 32 (plain (unhex s)) → record { ok = true; bytes = a } ≡ keyAnswer (key s)
+  unfolding key
+  key-good p q w =
+      let g = given (eqb (length s) 64) s (sym p ∙ q) in
+      let z : 32 - length (g .text) ≡ 0 = omega (arith, g .size, eqb-true (length s) 64 (g .test)) in
+      rw (w, g .test, g .is, z, append-nil (g .text))
+
+  pub key-bad : x ≡ isSome (key s) → x ≡ false → record { ok = false; bytes = replicate 32 0 } ≡ keyAnswer (key s)
+  key-bad p q = rw (absent (key s) (sym p ∙ q))
+
+  pub ssid-fits : x ≡ isSome (ssid s) → x ≡ true → Fits 32 (unhex s)
+  unfolding ssid
+  ssid-fits p q = let g = given (between 2 64 (length s)) s (sym p ∙ q) in rw (g .is) (omega (arith, g .size, between-high {x = length s} 2 64 (g .test)))
+
+  pub ssid-good : x ≡ isSome (ssid s) → x ≡ true → {a : List ℕ} → a ≡ padded 32 (plain (unhex s)) → record { ok = true; length = length s / 2; bytes = a } ≡ ssidAnswer (ssid s)
+  unfolding ssid
+  ssid-good p q w =
+      let g = given (between 2 64 (length s)) s (sym p ∙ q) in
+      let n : length s / 2 ≡ length (g .text) = omega (arith, g .size) in
+      rw (w, g .test, g .is, n)
+
+  pub ssid-bad : x ≡ isSome (ssid s) → x ≡ false → record { ok = false; length = 0; bytes = replicate 32 0 } ≡ ssidAnswer (ssid s)
+  ssid-bad p q = rw (absent (ssid s) (sym p ∙ q))
+
+-- ---- a MAC: n pairs stand in x, and the rest of s starts at i
+
+pub record Paired (s : List ℕ) (i n : ℕ) (x : List ℕ) : Type 0 where
+  pub long : length s ≡ 17
+  pub place : i + 1 ≡ 3 * n
+  pub some : 1 ≤ n
+  pub few : n ≤ 6
+  pub room : length x ≡ 6
+  pub rest : glue (take n x) (colonPairs (drop i s)) ≡ mac s
+
+pair-good : (a b : ℕ) → nibble a ≤ 15 → nibble b ≤ 15 → pair a b ≡ some (nibble a * 16 + nibble b)
+pair-good a b h g = rw (lt-ltb (nibble a) 16 (omega arith), lt-ltb (nibble b) 16 (omega arith))
+
+pair-first : (a b : ℕ) → 15 < nibble a → pair a b ≡ none
+pair-first a b h = rw (le-ltb (nibble a) 16 (omega arith))
+
+pair-second : (a b : ℕ) → 15 < nibble b → pair a b ≡ none
+pair-second a b h = rw (le-ltb (nibble b) 16 (omega arith), and-false (ltb (nibble a) 16))
+
+pub mac-short : (s : List ℕ) → (length s ≡ 17 → ⊥) → mac s ≡ none
+unfolding mac
+mac-short s h = rw (ne-eqb (length s) 17 h)
+
+module _ (s : List ℕ) (l : length s ≡ 17) where
+  first : mac s ≡ andThen (pair (getD s 0 0) (getD s 1 0)) (λ x. prepend x (colonPairs (drop 2 s)))
+  unfolding mac
+  first = rw (eq-eqb (length s) 17 l) (go s (omega (arith, l)))
+    where
+      go : (s : List ℕ) → 2 ≤ length s → pairs s ≡ andThen (pair (getD s 0 0) (getD s 1 0)) (λ x. prepend x (colonPairs (drop 2 s)))
+      go [] h = absurd (omega arith)
+      go (a ∷ []) h = absurd (omega arith)
+      go (a ∷ b ∷ s) h = refl
+
+  module _ {a b : ℕ} (p : a ≡ nibble (getD s 0 0)) (q : b ≡ nibble (getD s 1 0)) where
+    pub mac-first : 15 < a → mac s ≡ none
+    mac-first h = first ∙ rw (pair-first (getD s 0 0) (getD s 1 0) (omega arith))
+
+    pub mac-second : 15 < b → mac s ≡ none
+    mac-second h = first ∙ rw (pair-second (getD s 0 0) (getD s 1 0) (omega arith))
+
+    pub paired-first : a ≤ 15 → b ≤ 15 → Paired s 2 1 (set (replicate 6 0) 0 (a * 16 + b))
+    paired-first h g = record { long = l; place = refl; some = omega arith; few = omega arith; room = refl; rest = sym (first ∙ rw (pair-good (getD s 0 0) (getD s 1 0) (omega arith) (omega arith), ← p, ← q) (go (colonPairs (drop 2 s)))) }
+      where
+        go : (o : Option (List ℕ)) → prepend (a * 16 + b) o ≡ glue ((a * 16 + b) ∷ []) o
+        go none = refl
+        go (some t) = refl
+
+module _ {s : List ℕ} {i n : ℕ} {x : List ℕ} (h : Paired s i n x) where
+  pub paired-end : 17 ≤ i → record { ok = true; bytes = x } ≡ macAnswer (mac s)
+  unfolding colonPairs
+  paired-end l =
+      let e : mac s ≡ some (take n x ++ []) = sym (h .rest) ∙ rw (drop-of-length-le s {i = i} (omega (arith, h .long))) in
+      rw (e, append-nil (take n x), take-all n x (omega (arith, h .room, h .place)))
+
+  module _ (l : i < 17) where
+    pub paired-room : n < 6
+    paired-room = omega (arith, h .place)
+
+    pub paired-inside : i + 2 < 17
+    paired-inside = omega (arith, h .place)
+
+    here : mac s ≡ glue (take n x) (only (eqb (getD s i 0) 58) (andThen (pair (getD s (i + 1) 0) (getD s (i + 2) 0)) (λ x. prepend x (colonPairs (drop (i + 3) s)))))
+    unfolding colonPairs
+    here =
+        let e : i + 2 ≡ suc (suc i) = omega arith in
+        let f : i + 3 ≡ suc (suc (suc i)) = omega arith in
+        let j : suc i < length s = omega (arith, h .place, h .long) in
+        let k : suc (suc i) < length s = omega (arith, h .place, h .long) in
+        sym (h .rest) ∙ rw (f, e, add-one i, drop-cons s i 0 (omega (arith, h .long)), drop-cons s (suc i) 0 j, drop-cons s (suc (suc i)) 0 k)
+
+    pub paired-colon : (getD s i 0 ≡ 58 → ⊥) → mac s ≡ none
+    paired-colon k = here ∙ rw (ne-eqb (getD s i 0) 58 k)
+
+    module _ (c : getD s i 0 ≡ 58) {a b : ℕ} (p : a ≡ nibble (getD s (i + 1) 0)) (q : b ≡ nibble (getD s (i + 2) 0)) where
+      pub paired-one : 15 < a → mac s ≡ none
+      paired-one k = here ∙ rw (eq-eqb (getD s i 0) 58 c, pair-first (getD s (i + 1) 0) (getD s (i + 2) 0) (omega arith))
+
+      pub paired-two : 15 < b → mac s ≡ none
+      paired-two k = here ∙ rw (eq-eqb (getD s i 0) 58 c, pair-second (getD s (i + 1) 0) (getD s (i + 2) 0) (omega arith))
+
+      pub paired-turn : a ≤ 15 → b ≤ 15 → Paired s (i + 3) (n + 1) (set x n (a * 16 + b))
+      paired-turn k j =
+          let r : n < length x = omega (arith, h .room, h .place) in
+          record {
+            long = h .long;
+            place = omega (arith, h .place);
+            some = omega arith;
+            few = omega (arith, h .place);
+            room = length-set x n (a * 16 + b) ∙ h .room;
+            rest = sym (here ∙ rw (eq-eqb (getD s i 0) 58 c, pair-good (getD s (i + 1) 0) (getD s (i + 2) 0) (omega arith) (omega arith), ← p, ← q, add-one n, take-suc-set x n (a * 16 + b) r) (glue-prepend (take n x) (a * 16 + b) (colonPairs (drop (i + 3) s))));
+          }

@@ -1,0 +1,28 @@
+-- Yes or no by comparison with each word.
+use mathlib.Core.Path.{sym, _∙_}
+use Rattle.kinds.specs.Kinds.{flag}
+use borrow.Author.Needs.{needs}
+use Rattle.kinds.proofs.words.read_flag.Statement.{statement}
+use Rattle.kinds.proofs.words.read_flag.Tie as tie
+
+pub read-flag-spec : {M : Type 1} → statement M
+unfolding flag
+read-flag-spec =
+    tie.close
+    (tie.spec
+    (λ c. search needs)
+    (λ c κs. search needs)
+    (λ c. rw (sym (c .before .equal .ensures) ∙ c .if1 .taken))
+    (λ c. search needs)
+    (λ c κs. search needs)
+    (λ c. rw (sym (c .before .before .before .before .equal .ensures) ∙ c .before .before .before .if1 .left, sym (c .before .equal2 .ensures) ∙ c .if2 .taken))
+    (λ c. search needs)
+    (λ c. search needs)
+    (λ c. search needs)
+    (λ c κs. search needs)
+    (λ c. rw (sym (c .before .before .before .before .before .before .before .before .before .equal .ensures) ∙ c .before .before .before .before .before .before .before .before .if1 .left, sym (c .before .before .before .before .before .before .equal2 .ensures) ∙ c .before .before .before .before .before .if2 .left, c .before .before .before .enum-told2 .given .1, sym (c .before .equal3 .ensures) ∙ c .if3 .taken))
+    (λ c. search needs)
+    (λ c κs. search needs)
+    (λ c. rw (sym (c .before .before .before .before .before .before .before .before .before .before .before .before .equal .ensures) ∙ c .before .before .before .before .before .before .before .before .before .before .before .if1 .left, sym (c .before .before .before .before .before .before .before .before .before .equal2 .ensures) ∙ c .before .before .before .before .before .before .before .before .if2 .left, c .before .before .before .before .before .before .enum-told2 .given .1, sym (c .before .before .before .before .equal3 .ensures) ∙ c .before .before .before .if3 .left, sym (c .before .equal4 .ensures) ∙ c .if4 .taken))
+    (λ c. rw (sym (c .before .before .before .before .before .before .equal .ensures) ∙ c .before .before .before .before .before .if1 .left, sym (c .before .before .before .equal2 .ensures) ∙ c .before .before .if2 .left, c .enum-told .given .1))
+    (λ c. rw (sym (c .before .before .before .before .before .before .before .before .before .before .before .before .equal .ensures) ∙ c .before .before .before .before .before .before .before .before .before .before .before .if1 .left, sym (c .before .before .before .before .before .before .before .before .before .equal2 .ensures) ∙ c .before .before .before .before .before .before .before .before .if2 .left, c .before .before .before .before .before .before .enum-told2 .given .1, sym (c .before .before .before .before .equal3 .ensures) ∙ c .before .before .before .if3 .left, sym (c .before .equal4 .ensures) ∙ c .if4 .left)))

@@ -1,0 +1,28 @@
+-- The code's judgements by what each reader answers.
+use Prim.Native.Nat.{ℕ}
+use mathlib.Core.Bool.{Bool, cond}
+use Rattle.text.specs.declared.Place.{Place}
+use Rattle.addresses.specs.declared.Netmask.{Netmask}
+use Rattle.addresses.specs.declared.Netmask.the-variants as M
+use Rattle.kinds.specs.declared.YesNo.{YesNo}
+use Rattle.kinds.specs.declared.YesNo.the-variants as Y
+use Rattle.kinds.specs.declared.NamedWord.{NamedWord}
+use Rattle.kinds.specs.declared.NamedWord.the-variants as N
+use Rattle.kinds.specs.declared.Value.the-variants.{Flag, Mask, Word, Text}
+use Rattle.kinds.specs.declared.Judgement.{Judgement}
+use Rattle.kinds.specs.declared.Judgement.the-variants.{Good, BrokenKind}
+
+abbrev pub keptAt : Place → Bool → Judgement
+keptAt p ok = cond ok (Good (Text p)) BrokenKind
+
+abbrev pub flagJudgement : YesNo → Judgement
+flagJudgement (Y.Is b) = Good (Flag b)
+flagJudgement Y.Broken = BrokenKind
+
+abbrev pub wordJudgement : NamedWord → Judgement
+wordJudgement (N.Is w) = Good (Word w)
+wordJudgement N.Broken = BrokenKind
+
+abbrev pub maskJudgement : Netmask → Judgement
+maskJudgement (M.Length n) = Good (Mask n)
+maskJudgement M.Broken = BrokenKind

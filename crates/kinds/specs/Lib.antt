@@ -1,0 +1,5 @@
+pub mod Kinds
+pub mod Typed
+pub mod Answers
+pub mod Judging
+pub mod Cases

@@ -1,0 +1,80 @@
+-- What a value is once it is read by its kind, and how a value is judged: refusal 11 before refusal 12.
+use Prim.Native.Nat.{ℕ}
+use mathlib.Core.Bool.{Bool, true, false, cond, not}
+use mathlib.Core.List.{List}
+use mathlib.Core.Option.{Option, none, some}
+use Rattle.text.specs.Options.{isSome, mapped}
+use Rattle.text.specs.declared.Dialect.{Dialect}
+use Rattle.utf8.specs.Utf8.{valueText}
+use Rattle.escapes.specs.Strings.{stringOf}
+use Rattle.addresses.specs.Addresses as A
+use Rattle.kinds.specs.Kinds as K
+use Rattle.kinds.specs.Kinds.{IPv4}
+use Rattle.kinds.specs.declared.Word.{Word}
+use Rattle.kinds.specs.declared.Kind.{Kind}
+use Rattle.kinds.specs.declared.Kind.the-variants.{Flag, Named, Address, Netmask, Ipv4, Addresses, Entries, Mac, Key, Ssid, Passphrase, Text}
+
+-- a typed value
+pub data Typed : Type 0 where
+  flag : Bool → Typed
+  length : ℕ → Typed
+  word : Word → Typed
+  address : List ℕ → Typed
+  addresses : List (List ℕ) → Typed
+  entries : List (List ℕ) → Typed
+  ipv4 : IPv4 → Typed
+  bytes : List ℕ → Typed
+
+-- the value by its kind, none where it breaks it
+unfoldable pub typed : Dialect → Kind → List ℕ → Option Typed
+typed d Flag v = mapped flag (K.flag d v)
+typed d (Named w) v = mapped word (K.wordOf w v)
+typed d Address v = mapped address (A.address v)
+typed d Netmask v = mapped length (A.netmask v)
+typed d Ipv4 v = mapped ipv4 (K.ipv4 v)
+typed d (Addresses sep) v = mapped addresses (A.addresses sep v)
+typed d Entries v = mapped entries (K.entries v)
+typed d Mac v = mapped bytes (K.mac v)
+typed d Key v = mapped bytes (K.key v)
+typed d Ssid v = mapped bytes (K.ssid v)
+typed d Passphrase v = mapped bytes (K.passphrase d v)
+typed d (Text low high) v = mapped bytes (K.string d low high v)
+
+-- "Only strings are unescaped."
+abbrev pub escapesBroken : Dialect → List ℕ → Bool
+escapesBroken d v = not (isSome (stringOf d v))
+
+abbrev pub stringBroken : Dialect → Kind → List ℕ → Bool
+stringBroken d Flag v = false
+stringBroken d (Named w) v = false
+stringBroken d Address v = false
+stringBroken d Netmask v = false
+stringBroken d Ipv4 v = false
+stringBroken d (Addresses sep) v = false
+stringBroken d Entries v = false
+stringBroken d Mac v = false
+stringBroken d Key v = false
+stringBroken d Ssid v = false
+stringBroken d Passphrase v = escapesBroken d v
+stringBroken d (Text low high) v = escapesBroken d v
+
+-- a value is good, its text is broken, or it breaks its kind
+pub data Judged : Type 0 where
+  good : Typed → Judged
+  brokenText : Judged
+  brokenKind : Judged
+
+abbrev pub byKind : Option Typed → Judged
+byKind none = brokenKind
+byKind (some t) = good t
+
+-- by its kind, where its text is good so far
+unfoldable pub stringJudged : Dialect → ℕ → ℕ → List ℕ → Judged
+stringJudged d low high v = cond (escapesBroken d v) brokenText (byKind (mapped bytes (K.string d low high v)))
+
+unfoldable pub kindJudged : Dialect → Kind → List ℕ → Judged
+kindJudged d k v = cond (stringBroken d k v) brokenText (byKind (typed d k v))
+
+-- "Value text is broken (11) if it is not UTF-8, holds byte 0 or byte 13, or, for an iwd string, has a backslash not beginning one of the five escapes."
+unfoldable pub judged : Dialect → Kind → List ℕ → Judged
+judged d k v = cond (valueText v) (kindJudged d k v) brokenText

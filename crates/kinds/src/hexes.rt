@@ -1,0 +1,112 @@
+// Values in hex: a MAC, a key, a network name.
+ghost use mathlib.Core.Path.{_≡_};
+ghost use mathlib.Core.Option.{none};
+ghost use Rattle.text.specs.Options.{isSome};
+ghost use Rattle.kinds.specs.Kinds.{mac, key, ssid};
+ghost use Rattle.kinds.specs.Answers.{macAnswer, keyAnswer, ssidAnswer};
+use crate::Key;
+use crate::Mac;
+use crate::Ssid;
+
+fn no_mac() -> Mac
+    ensures { λ r. ⌜ r ≡ macAnswer none ⌝ }
+{
+    Mac {
+        ok: false,
+        bytes: [0; 6],
+    }
+}
+
+// Six pairs of hex digits with colons, 17 bytes in all.
+pub fn read_mac(s: &[u8]) -> Mac
+    ensures { λ r. ⌜ r ≡ macAnswer (mac (now (s .entry))) ⌝ }
+{
+    if s.len() != 17 {
+        return no_mac();
+    }
+    let a = hex::value(s[0]);
+    let b = hex::value(s[1]);
+    if 15 < a {
+        return no_mac();
+    }
+    if 15 < b {
+        return no_mac();
+    }
+    let mut bytes = [0u8; 6];
+    bytes[0] = a * 16 + b;
+    let mut n = 1;
+    let mut i = 2;
+    while i < 17 {
+        let c = hex::value(s[i + 1]);
+        let d = hex::value(s[i + 2]);
+        if s[i] != 58 {
+            return no_mac();
+        }
+        if 15 < c {
+            return no_mac();
+        }
+        if 15 < d {
+            return no_mac();
+        }
+        bytes[n] = c * 16 + d;
+        n += 1;
+        i += 3;
+    }
+    Mac { ok: true, bytes }
+}
+
+// Whether s is 64 hex digits.
+pub fn is_key(s: &[u8]) -> bool
+    ensures { λ r. ⌜ r ≡ isSome (key (now (s .entry))) ⌝ }
+{
+    if s.len() != 64 {
+        return false;
+    }
+    hex::is_hex(s)
+}
+
+// 64 hex digits as a 32-byte key.
+pub fn read_key(s: &[u8]) -> Key
+    ensures { λ r. ⌜ r ≡ keyAnswer (key (now (s .entry))) ⌝ }
+{
+    if is_key(s) {
+        let bytes = hex::unhexed_32(s);
+        return Key { ok: true, bytes };
+    }
+    Key {
+        ok: false,
+        bytes: [0; 32],
+    }
+}
+
+// Whether s is 2 to 64 hex digits, an even count.
+pub fn is_ssid(s: &[u8]) -> bool
+    ensures { λ r. ⌜ r ≡ isSome (ssid (now (s .entry))) ⌝ }
+{
+    if s.len() < 2 {
+        return false;
+    }
+    if 64 < s.len() {
+        return false;
+    }
+    hex::is_hex(s)
+}
+
+// 2 to 64 hex digits as a network name of 1 to 32 bytes.
+pub fn read_ssid(s: &[u8]) -> Ssid
+    ensures { λ r. ⌜ r ≡ ssidAnswer (ssid (now (s .entry))) ⌝ }
+{
+    if is_ssid(s) {
+        let bytes = hex::unhexed_32(s);
+        return Ssid {
+            ok: true,
+            length: s.len() / 2,
+            bytes,
+        };
+    }
+    Ssid {
+        ok: false,
+        length: 0,
+        bytes: [0; 32],
+    }
+}

@@ -1,0 +1,117 @@
+// The value of a setting by its key's kind: its text first (11), then its kind (12).
+ghost use mathlib.Core.Path.{_≡_};
+ghost use lib.ListN.{length};
+ghost use Rattle.text.specs.Parts.{partAt, Inside};
+ghost use Rattle.kinds.specs.Typed.{kindJudged, stringJudged, judged};
+ghost use Rattle.kinds.specs.Answers.{judgementAt};
+ghost use Rattle.kinds.specs.Judging.{keptAt, flagJudgement, wordJudgement, maskJudgement};
+use crate::Judgement;
+use crate::Kind;
+use crate::NamedWord;
+use crate::Value;
+use crate::YesNo;
+use crate::connman_ipv4;
+use crate::hexes;
+use crate::lists;
+use crate::words;
+use addresses::Netmask;
+use escapes::Size;
+use text::Dialect;
+use text::Place;
+
+// A value that is kept by its place, if its kind is good.
+fn kept(ok: bool, at: Place) -> Judgement
+    ensures { λ r. ⌜ r ≡ keptAt at ok ⌝ }
+{
+    if ok {
+        return Judgement::Good(Value::Text(at));
+    }
+    Judgement::BrokenKind
+}
+
+fn flag_judgement(y: YesNo) -> Judgement
+    ensures { λ r. ⌜ r ≡ flagJudgement y ⌝ }
+{
+    match y {
+        YesNo::Is(b) => Judgement::Good(Value::Flag(b)),
+        YesNo::Broken => Judgement::BrokenKind,
+    }
+}
+
+fn word_judgement(w: NamedWord) -> Judgement
+    ensures { λ r. ⌜ r ≡ wordJudgement w ⌝ }
+{
+    match w {
+        NamedWord::Is(word) => Judgement::Good(Value::Word(word)),
+        NamedWord::Broken => Judgement::BrokenKind,
+    }
+}
+
+fn mask_judgement(m: Netmask) -> Judgement
+    ensures { λ r. ⌜ r ≡ maskJudgement m ⌝ }
+{
+    match m {
+        Netmask::Length(n) => Judgement::Good(Value::Mask(n)),
+        Netmask::Broken => Judgement::BrokenKind,
+    }
+}
+
+// A string of low to high bytes once unescaped.
+fn string_judgement(d: Dialect, v: &[u8], low: u8, high: u8, at: Place) -> Judgement
+    ensures { λ r. ⌜ r ≡ judgementAt at (stringJudged d low high (now (v .entry))) ⌝ }
+{
+    let size = escapes::string_len(d, v);
+    let Size::Long(n) = size else {
+        return Judgement::BrokenText;
+    };
+    if n < low as usize {
+        return Judgement::BrokenKind;
+    }
+    kept(n <= high as usize, at)
+}
+
+// The value v, whose text is good, by its kind.
+fn judge_kind(d: Dialect, kind: Kind, v: &[u8], at: Place) -> Judgement
+    ensures { λ r. ⌜ r ≡ judgementAt at (kindJudged d kind (now (v .entry))) ⌝ }
+{
+    match kind {
+        Kind::Flag => flag_judgement(words::read_flag(d, v)),
+        Kind::Named(w) => word_judgement(words::read_word(w, v)),
+        Kind::Address => {
+            let a = addresses::numbers::read_address(v);
+            kept(a.ok, at)
+        }
+        Kind::Netmask => mask_judgement(addresses::masks::read_netmask(v)),
+        Kind::Ipv4 => {
+            let a = connman_ipv4::read_ipv4(v);
+            kept(a.ok, at)
+        }
+        Kind::Addresses(sep) => kept(addresses::lists::count_addresses(v, sep) != 0, at),
+        Kind::Entries => {
+            let e = lists::read_entries(v);
+            kept(e.count != 0, at)
+        }
+        Kind::Mac => {
+            let m = hexes::read_mac(v);
+            kept(m.ok, at)
+        }
+        Kind::Key => kept(hexes::is_key(v), at),
+        Kind::Ssid => kept(hexes::is_ssid(v), at),
+        Kind::Passphrase => string_judgement(d, v, 8, 63, at),
+        Kind::Text(low, high) => string_judgement(d, v, low, high, at),
+    }
+}
+
+// The value that stands at a place of the file, by its kind.
+pub fn judge(d: Dialect, kind: Kind, file: &[u8], at: Place) -> Judgement
+    requires { ⌜ Inside (length (now file)) at ⌝ }
+    ensures { λ r. ⌜ r ≡ judgementAt at (judged d kind (partAt (now (file .entry)) at)) ⌝ }
+{
+    let start = at.start;
+    let end = at.end;
+    let v = &file[start..end];
+    if utf8::is_value_text(v) {
+        return judge_kind(d, kind, v, at);
+    }
+    Judgement::BrokenText
+}

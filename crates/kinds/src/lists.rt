@@ -1,0 +1,60 @@
+// Lists of entries: SearchDomains and Timeservers.
+ghost use mathlib.Core.Path.{_≡_};
+ghost use mathlib.Core.Option.{none};
+ghost use Rattle.text.specs.Options.{isSome};
+ghost use Rattle.kinds.specs.Kinds.{entry, entries};
+ghost use Rattle.kinds.specs.Answers.{entriesAnswer};
+use crate::Entries;
+use text::Class;
+use text::scan;
+
+fn no_entries() -> Entries
+    ensures { λ r. ⌜ r ≡ entriesAnswer none ⌝ }
+{
+    Entries {
+        count: 0,
+        starts: [0; 4],
+        ends: [0; 4],
+    }
+}
+
+// Whether p is one entry.
+fn is_entry(p: &[u8]) -> bool
+    ensures { λ r. ⌜ r ≡ isSome (entry (now (p .entry))) ⌝ }
+{
+    if p.len() < 1 {
+        return false;
+    }
+    if 253 < p.len() {
+        return false;
+    }
+    scan::all_of(p, Class::Entry)
+}
+
+// One to four entries, one comma between two, by their places.
+pub fn read_entries(s: &[u8]) -> Entries
+    ensures { λ r. ⌜ r ≡ entriesAnswer (entries (now (s .entry))) ⌝ }
+{
+    let mut starts = [0usize; 4];
+    let mut ends = [0usize; 4];
+    let mut at = 0;
+    let mut n = 0;
+    while n < 4 {
+        let end = scan::find(s, at, 44);
+        if !is_entry(&s[at..end]) {
+            return no_entries();
+        }
+        starts[n] = at;
+        ends[n] = end;
+        n += 1;
+        if end == s.len() {
+            return Entries {
+                count: n,
+                starts,
+                ends,
+            };
+        }
+        at = end + 1;
+    }
+    no_entries()
+}
