@@ -1,12 +1,12 @@
 -- The code's answers: a line by places, and what they say of the line l.
-use Prim.Native.Nat.{ℕ, _≤_}
+use Prim.Native.Nat.{ℕ, _-_, _≤_}
 use mathlib.Core.Path.{_≡_}
 use mathlib.Core.Bool.{Bool}
 use mathlib.Core.List.{List}
 use lib.ListN.{length, drop}
 use Rattle.text.specs.Parts.{part, partAt, Inside}
 use Rattle.text.specs.declared.Dialect.{Dialect}
-use Rattle.lines.specs.Lines.{Line, blank, comment, header, setting, broken, extends, ended}
+use Rattle.lines.specs.Lines.{Line, blank, comment, header, setting, broken, extends, ended, behindEqual}
 use Rattle.lines.specs.declared.Form.{Form}
 use Rattle.lines.specs.declared.Form.the-variants.{Blank, Comment, Header, Setting, Broken}
 
@@ -25,10 +25,19 @@ Placed n (Header p) = Inside n p
 Placed n (Setting k v) = Inside n k × Inside n v
 Placed n (Broken b) = Unit
 
+-- a value starts behind the `=` and its whitespace, which stand in s, the end of the line l
+abbrev pub Starts : Dialect → List ℕ → List ℕ → Form → Type 0
+Starts d l s Blank = Unit
+Starts d l s Comment = Unit
+Starts d l s (Header p) = Unit
+Starts d l s (Setting k v) = v .start ≡ length l - length (behindEqual d s)
+Starts d l s (Broken b) = Unit
+
 -- the form r is the line x, and its places lie in l
-pub record Forms (l : List ℕ) (r : Form) (x : Line) : Type 0 where
+pub record Forms (d : Dialect) (l s : List ℕ) (r : Form) (x : Line) : Type 0 where
   pub is : lineIn l r ≡ x
   pub placed : Placed (length l) r
+  pub starts : Starts d l s r
 
 -- whether what stands behind a bracket, from from on, begins an extension
 pub record Begins (d : Dialect) (l : List ℕ) (from : ℕ) (r : Bool) : Type 0 where

@@ -1,8 +1,9 @@
 -- What one line is, as document 01 says it under "Lines, alike in both".
-use Prim.Native.Nat.{ℕ}
+use Prim.Native.Nat.{ℕ, _-_}
 use mathlib.Core.Bool.{Bool, true, false, cond, not, _&&_}
 use mathlib.Core.List.{List, [], _∷_}
 use lib.Dec.{eqb}
+use lib.ListN.{length, drop}
 use Rattle.text.specs.Bytes.{isBlank, isHeaderByte, isKeyByte}
 use Rattle.text.specs.Parts.{front, after, all, empty, trimmed}
 use Rattle.text.specs.declared.Dialect.{Dialect}
@@ -48,6 +49,10 @@ abbrev pub equalOf : Dialect → List ℕ → List ℕ → Line
 equalOf d key [] = broken Unrecognized
 equalOf d key (c ∷ s) = cond (not (empty key) && eqb c 61) (setting key (ended d (after isBlank s))) (broken Unrecognized)
 
+-- what stands behind the key, its whitespace, one byte and the whitespace after it: of a setting its value, up to the line's end
+abbrev pub behindEqual : Dialect → List ℕ → List ℕ
+behindEqual d s = after isBlank (drop 1 (after isBlank (after (isKeyByte d) s)))
+
 unfoldable pub settingOf : Dialect → List ℕ → Line
 settingOf d s = equalOf d (front (isKeyByte d) s) (after isBlank (after (isKeyByte d) s))
 
@@ -59,3 +64,7 @@ bodyOf d (c ∷ s) = cond (eqb c 35) comment (cond (eqb c 91) (bracketOf d s) (s
 -- "Leading whitespace is dropped"
 unfoldable pub lineOf : Dialect → List ℕ → Line
 lineOf d l = bodyOf d (after isBlank l)
+
+-- where a setting's value starts in its line
+unfoldable pub valueStart : Dialect → List ℕ → ℕ
+valueStart d l = length l - length (behindEqual d (after isBlank l))

@@ -4,6 +4,8 @@
 // where a value ends, and in `[@`. What a value means is not asked here.
 ghost use Prim.Native.Nat.{_≤_};
 ghost use lib.ListN.{length, drop};
+ghost use Rattle.text.specs.Bytes.{isBlank};
+ghost use Rattle.text.specs.Parts.{after};
 ghost use Rattle.lines.specs.Lines.{bracketOf, settingOf, lineOf};
 ghost use Rattle.lines.specs.Forms.{Begins, Ends, Forms};
 use text::Class;
@@ -45,7 +47,7 @@ fn is_extension(d: Dialect, line: &[u8], from: usize) -> bool
 // The line from behind its bracket on.
 fn header_form(d: Dialect, line: &[u8], from: usize) -> Form
     requires { ⌜ from ≤ length (now line) ⌝ }
-    ensures { λ r. ⌜ Forms (now (line .entry)) r (bracketOf d (drop from (now (line .entry)))) ⌝ }
+    ensures { λ r. ⌜ Forms d (now (line .entry)) (drop from (now (line .entry))) r (bracketOf d (drop from (now (line .entry)))) ⌝ }
 {
     if is_extension(d, line, from) {
         return Form::Broken(Break::Extension);
@@ -81,7 +83,7 @@ fn value_end(d: Dialect, line: &[u8], from: usize) -> usize
 // The line from its first byte that is no blank on, which is neither `#` nor `[`.
 fn setting_form(d: Dialect, line: &[u8], at: usize) -> Form
     requires { ⌜ at ≤ length (now line) ⌝ }
-    ensures { λ r. ⌜ Forms (now (line .entry)) r (settingOf d (drop at (now (line .entry)))) ⌝ }
+    ensures { λ r. ⌜ Forms d (now (line .entry)) (drop at (now (line .entry))) r (settingOf d (drop at (now (line .entry)))) ⌝ }
 {
     let key_end = text::scan::run_end(line, at, Class::Key(d));
     let equal = text::scan::run_end(line, key_end, Class::Blank);
@@ -107,7 +109,7 @@ fn setting_form(d: Dialect, line: &[u8], at: usize) -> Form
 
 // What the line is. The line is a part of the file without its byte 10, and the places are counted from its start.
 pub fn form_of(d: Dialect, line: &[u8]) -> Form
-    ensures { λ r. ⌜ Forms (now (line .entry)) r (lineOf d (now (line .entry))) ⌝ }
+    ensures { λ r. ⌜ Forms d (now (line .entry)) (after isBlank (now (line .entry))) r (lineOf d (now (line .entry))) ⌝ }
 {
     let at = text::scan::run_end(line, 0, Class::Blank);
     if at == line.len() {
