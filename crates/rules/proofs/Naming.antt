@@ -1,0 +1,58 @@
+-- A service's name and a key, one law for each return.
+use mathlib.Core.Path.{_≡_, refl, ap, sym, _∙_}
+use mathlib.Core.Bool.{Bool, true, false, _&&_, and-false}
+use mathlib.Core.List.{List}
+use mathlib.Core.Option.{Option, none, some}
+use Prim.Native.Nat.{ℕ, _-_, _≤_, _<_}
+use native.Mathlib.Omega.{arith}
+use lib.ListN.{length, take, drop, length-drop}
+use lib.Seq.{take-all}
+use Rattle.text.specs.Bytes.{between, isIdentifier}
+use Rattle.text.specs.Parts.{all}
+use Rattle.text.specs.Words.{word, same, place, named}
+use Rattle.text.specs.Laws.{inside, under, over}
+use Rattle.kinds.specs.declared.Kind.{Kind}
+use Rattle.rules.specs.Tables.{isService, keysOf, kindOf}
+use Rattle.rules.specs.Lookups.{nth, named-nth, keyNames, kindAnswer, listedAnswer}
+use Rattle.rules.specs.declared.Group.{Group}
+use Rattle.rules.specs.declared.KindAt.{KindAt}
+use Rattle.rules.specs.declared.KindAt.the-variants as K
+use Rattle.rules.specs.declared.Listed.the-variants as L
+
+module _ (n : List ℕ) where
+  pub service-short : length n < 9 → false ≡ isService n
+  unfolding isService
+  service-short h = sym (ap (λ (t : Bool). same (take 8 n) (word "service_") && (t && all isIdentifier (drop 8 n))) (under {x = length (drop 8 n)} 1 32 (simp length-drop (omega arith))) ∙ and-false (same (take 8 n) (word "service_")))
+
+  pub service-long : 40 < length n → false ≡ isService n
+  unfolding isService
+  service-long h = sym (ap (λ (t : Bool). same (take 8 n) (word "service_") && (t && all isIdentifier (drop 8 n))) (over {x = length (drop 8 n)} 1 32 (simp length-drop (omega arith))) ∙ and-false (same (take 8 n) (word "service_")))
+
+  module _ {x : Bool} (p : x ≡ same (take 8 n) (word "service_")) where
+    pub service-other : x ≡ false → false ≡ isService n
+    unfolding isService
+    service-other e = rw (← p, e)
+
+    pub service-name : x ≡ true → 9 ≤ length n → length n ≤ 40 → {y : Bool} → y ≡ all isIdentifier (take (length n - 8) (drop 8 n)) → y ≡ isService n
+    unfolding isService
+    service-name e h g q =
+        let r : take (length n - 8) (drop 8 n) ≡ drop 8 n = take-all (length n - 8) (drop 8 n) (simp length-drop (omega arith)) in
+        rw (← p, e, inside {x = length (drop 8 n)} 1 32 (simp length-drop (omega arith)) (simp length-drop (omega arith))) (q ∙ ap (all isIdentifier) r)
+
+module _ (g : Group) (k : List ℕ) {n : ℕ} (p : n ≡ place k (keyNames g)) {r : KindAt} (q : r ≡ kindAnswer (nth n (keysOf g))) where
+  found : r ≡ kindAnswer (kindOf g k)
+  found = q ∙ ap kindAnswer (ap (λ (m : ℕ). nth m (keysOf g)) p ∙ named-nth k (keysOf g))
+
+  pub key-found : {x : Kind} → r ≡ K.Is x → L.Key n x ≡ listedAnswer (place k (keyNames g)) (kindOf g k)
+  key-found {x} e = go (kindOf g k) found
+    where
+      go : (o : Option Kind) → r ≡ kindAnswer o → L.Key n x ≡ listedAnswer (place k (keyNames g)) o
+      go none h = let z : _≡_ {A = ℕ} 0 1 = cc in absurd (omega arith)
+      go (some y) h = cc
+
+  pub key-unknown : r ≡ K.Unknown → L.Unknown ≡ listedAnswer (place k (keyNames g)) (kindOf g k)
+  key-unknown e = go (kindOf g k) found
+    where
+      go : (o : Option Kind) → r ≡ kindAnswer o → L.Unknown ≡ listedAnswer (place k (keyNames g)) o
+      go none h = refl
+      go (some y) h = let z : _≡_ {A = ℕ} 0 1 = cc in absurd (omega arith)

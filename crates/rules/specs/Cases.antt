@@ -1,0 +1,75 @@
+-- Worked readings: a dialect, a name and a file; what a caller sees.
+use mathlib.Core.Path.{_≡_, refl}
+use mathlib.Core.List.{List, [], _∷_, map}
+use Prim.Native.Nat.{ℕ}
+use Prim.Native.String.{String}
+use Rattle.text.specs.Bytes.{isKeyByte, isPlain}
+use Rattle.text.specs.Words.{word}
+use Rattle.text.specs.declared.Dialect.{Dialect}
+use Rattle.text.specs.declared.Dialect.the-variants.{Iwd, ConnMan}
+use Rattle.utf8.specs.Utf8.{follow, utf8From, text}
+use Rattle.escapes.specs.Escapes.{reading as unescaping}
+use Rattle.hex.specs.Hex.{nibble, unhex}
+use Rattle.addresses.specs.Addresses.{value, number, address, prefixLength, lengthUpTo, maskLength, netmask, addresses}
+use Rattle.kinds.specs.Kinds.{flag, wordOf, ipv4, entries, colonPairs, mac, key, ssid, string}
+use Rattle.kinds.specs.Typed.{typed, stringJudged, kindJudged, judged}
+use Rattle.lines.specs.Lines.{bracketOf, settingOf, lineOf, valueStart}
+use Rattle.names.specs.Names.{nameOf, networkOf}
+use Rattle.rules.specs.Numbers.{Seen, seenOf}
+use Rattle.rules.specs.Tables.{isService, groupOf, keysOf}
+use Rattle.rules.specs.Faults.{fault, after}
+use Rattle.rules.specs.Groups.{serviceFault, fileFault}
+use Rattle.rules.specs.Reading.{lineFault, grown, sectionsOf, reading}
+
+abbrev accepted : ℕ → ℕ → Seen
+accepted n m = record { number = 0; line = 0; settings = n; services = m }
+
+abbrev refused : ℕ → ℕ → Seen
+refused n l = record { number = n; line = l; settings = 0; services = 0 }
+
+abbrev Case : Type 0
+Case = Dialect × String × String × Seen
+
+abbrev cases : List Case
+cases =
+    (ConnMan, "shop.config", "[service_till]\nType = wifi\nName = Desk 4\nPassphrase = low\\tide 88\nIPv4 = 10.20.0.14/24/10.20.0.1\nNameservers = 10.20.0.2,10.20.0.3\nHidden = true\nIPv6 = off\n", accepted 7 1)
+    ∷ (Iwd, "Desk 4.psk", "[Settings]\nHidden=true\n[Security]\nPassphrase=low\\\\tide 88\n[IPv4]\nAddress=10.20.0.14\nNetmask=255.255.255.0\nGateway=10.20.0.1\nDNS=10.20.0.2 10.20.0.3\n[IPv6]\nEnabled=false\n", accepted 7 0)
+    ∷ (Iwd, "Desk.open", "", accepted 0 0)
+    ∷ (Iwd, "Desk.psk", "", refused 14 0)
+    ∷ (Iwd, "Desk.conf", "x", refused 2 0)
+    ∷ (ConnMan, "Desk.psk", "", refused 2 0)
+    ∷ (Iwd, "=4465736b.psk", "", refused 2 0)
+    ∷ (Iwd, "Desk.open", "\nHidden\n", refused 3 2)
+    ∷ (Iwd, "Desk.open", "[@pem", refused 4 1)
+    ∷ (ConnMan, "a.config", "[global\n", refused 5 1)
+    ∷ (ConnMan, "a.config", "[service_]\n", refused 6 1)
+    ∷ (ConnMan, "a.config", "[global]\n\n[global]\n", refused 7 3)
+    ∷ (Iwd, "Desk.open", "# none\nHidden=true", refused 8 2)
+    ∷ (Iwd, "Desk.open", "[Settings]\nName=true", refused 9 2)
+    ∷ (Iwd, "Desk.open", "[Settings]\nHidden=true\nHidden=x", refused 10 3)
+    ∷ (Iwd, "Desk.psk", "[Security]\nPassphrase=a\\", refused 11 2)
+    ∷ (Iwd, "Desk.psk", "[Security]\nPassphrase=1234567", refused 12 2)
+    ∷ (Iwd, "Desk.psk", "[Security]\nPassphrase=12345678", accepted 1 0)
+    ∷ (Iwd, "Desk.psk", "[Security]\nPassphrase=1234567 ", accepted 1 0)
+    ∷ (ConnMan, "a.config", "[service_a]\nType=wifi\nName=a\nPassphrase=1234567 ", refused 12 4)
+    ∷ (ConnMan, "a.config", "[service_1]\n[service_2]\n[service_3]\n[service_4]\n[service_5]\n[service_6]\n[service_7]\n[service_8]\n[service_9]", refused 13 9)
+    ∷ (ConnMan, "a.config", "[service_1]\n[service_2]\n[service_3]\n[service_4]\n[service_5]\n[service_6]\n[service_7]\n[service_8]\n[service_1]", refused 7 9)
+    ∷ (ConnMan, "a.config", "[service_a]\nType=ethernet\nHidden=false\n[service_b]", refused 15 1)
+    ∷ (ConnMan, "a.config", "[service_a]\nType=ethernet\nSecurity=psk\n", refused 14 1)
+    ∷ (ConnMan, "a.config", "[service_a]\nType=wifi\nSSID=44\nSecurity=none\nPassphrase=12345678", refused 15 1)
+    ∷ (ConnMan, "a.config", "[service_a]\n[service_b]\nx", refused 3 3)
+    ∷ (Iwd, "Desk.open", "[IPv4]\nAddress=10.0.0.2", refused 14 0)
+    ∷ (Iwd, "Desk.open", "[IPv4]\nBroadcast=10.0.0.2", refused 14 0)
+    ∷ (Iwd, "Desk.open", "[Security]\nPassphrase=12345678", refused 15 0)
+    ∷ (Iwd, "Desk.psk", "[IPv4]\nNetmask=255.0.255.0", refused 12 2)
+    ∷ []
+
+abbrev of : Case → Seen
+of c = seenOf (reading (c .0) (word (c .1)) (word (c .2)))
+
+abbrev answer : Case → Seen
+answer c = c .3
+
+pub table : map of cases ≡ map answer cases
+unfolding reading lineFault grown sectionsOf serviceFault fileFault fault after isService groupOf keysOf nameOf networkOf isKeyByte isPlain bracketOf settingOf lineOf valueStart typed stringJudged kindJudged judged flag wordOf ipv4 entries colonPairs mac key ssid string value number address prefixLength lengthUpTo maskLength netmask addresses nibble unhex unescaping follow utf8From text
+table = refl
