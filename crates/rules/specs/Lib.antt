@@ -5,3 +5,4 @@ pub mod Groups
 pub mod Reading
 pub mod Lookups
 pub mod Cases
+pub mod Acceptance
