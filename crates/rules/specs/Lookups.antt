@@ -28,7 +28,7 @@ nth zero (x ∷ t) = none
 nth (suc zero) (x ∷ t) = some (x .1)
 nth (suc (suc n)) (x ∷ t) = nth (suc n) t
 
-nth-zero : {A : Type 0} (t : List (List ℕ × A)) → nth zero t ≡ none
+pub nth-zero : {A : Type 0} (t : List (List ℕ × A)) → nth zero t ≡ none
 nth-zero [] = refl
 nth-zero (x ∷ t) = refl
 

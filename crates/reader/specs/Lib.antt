@@ -1,0 +1,4 @@
+pub mod Store
+pub mod History
+pub mod Holds
+pub mod Says

@@ -1,0 +1,36 @@
+-- What the code's answers on a line say of it, after groups gs for which the table of places holds.
+use Prim.Native.Nat.{ℕ, _+_, _<_}
+use mathlib.Core.Path.{_≡_}
+use mathlib.Core.List.{List, [], _∷_}
+use mathlib.Core.Option.{none, some}
+use Rattle.text.specs.Parts.{partAt}
+use Rattle.text.specs.Words.{place}
+use Rattle.text.specs.declared.Dialect.{Dialect}
+use Rattle.text.specs.declared.Place.{Place}
+use Rattle.lines.specs.Lines.{setting}
+use Rattle.rules.specs.Lookups.{keyNames}
+use Rattle.rules.specs.Faults.{Section, fault, given}
+use Rattle.rules.specs.declared.Group.{Group}
+use Rattle.reader.specs.History.{base, currentOf, latest}
+use Rattle.reader.specs.Holds.{Row}
+use Rattle.reader.specs.declared.Current.{Current}
+use Rattle.reader.specs.declared.Current.the-variants.{Outside, In}
+use Rattle.reader.specs.declared.Line.{Line}
+use Rattle.reader.specs.declared.Line.the-variants.{Blank, Comment, Header, Setting, Refused}
+
+-- a good setting's slot: it is that of a key k of the group in force, which is not given yet
+pub record NewSlot (gs : List Section) (k : List ℕ) (i : ℕ) : Type 0 where
+  pub group : Group
+  pub in-force : currentOf gs ≡ In group
+  pub listed : place k (keyNames group) ≡ 0 → ⊥
+  pub is : i ≡ base group + place k (keyNames group)
+
+abbrev pub SettingIs : Dialect → List ℕ → List Section → Place → Place → Line → Type 0
+SettingIs d file gs key value Blank = ⊥
+SettingIs d file gs key value Comment = ⊥
+SettingIs d file gs key value (Header p) = ⊥
+SettingIs d file gs key value (Setting i p v) = (fault d gs (setting (partAt file key) (partAt file value)) ≡ none) × NewSlot gs (partAt file key) i × (p ≡ value)
+SettingIs d file gs key value (Refused r) = fault d gs (setting (partAt file key) (partAt file value)) ≡ some r
+
+pub record SettingSays (d : Dialect) (file x : List ℕ) (c : Current) (key value : Place) (r : Line) : Type 0 where
+  pub says : (gs : List Section) → c ≡ currentOf gs → ((g : Group) → Row file x (base g) (keyNames g) (latest g gs)) → SettingIs d file gs key value r

@@ -1,0 +1,64 @@
+// What a line is after the lines before it: passed over, a header, a setting with its value, or refused.
+ghost use mathlib.Core.Path.{_≡_};
+ghost use Prim.Native.Nat.{_+_, _≤_};
+ghost use lib.ListN.{length};
+ghost use Rattle.text.specs.Parts.{Inside, partAt};
+ghost use Rattle.reader.specs.History.{base};
+ghost use Rattle.reader.specs.Says.{SettingSays};
+use crate::Current;
+use crate::Line;
+use kinds::Judgement;
+use rules::Group;
+use rules::Listed;
+use rules::Refusal;
+use text::Dialect;
+use text::Place;
+
+// The first slot of a group's row in the table of places.
+pub fn base_of(g: Group) -> usize
+    ensures { λ r. ⌜ r ≡ base g ⌝ }
+{
+    match g {
+        Group::Settings => 0,
+        Group::Security => 16,
+        Group::Ipv4 => 32,
+        Group::Ipv6 => 48,
+        Group::Global => 64,
+        Group::Service => 80,
+    }
+}
+
+// A setting whose key and value stand at these places of the file, in the group in force.
+pub fn setting_line(
+    d: Dialect,
+    file: &[u8],
+    x: &[usize; 384],
+    current: Current,
+    key: Place,
+    value: Place,
+) -> Line
+    requires keyIn { ⌜ Inside (length (now file)) key ⌝ }
+    requires valueIn { ⌜ Inside (length (now file)) value ⌝ }
+    requires long { ⌜ length (now x) ≡ 384 ⌝ }
+    ensures { λ r. ⌜ SettingSays d (now (file .entry)) (now (x .entry)) current key value r ⌝ }
+{
+    let Current::In(g) = current else {
+        return Line::Refused(Refusal::NoGroup);
+    };
+    let start = key.start;
+    let end = key.end;
+    let listed = rules::tables::key_of(g, &file[start..end]);
+    let Listed::Key(n, kind) = listed else {
+        return Line::Refused(Refusal::UnknownKey);
+    };
+    let i = base_of(g) + n;
+    if x[256 + i] != 0 {
+        return Line::Refused(Refusal::RepeatedKey);
+    }
+    let judgement = kinds::judging::judge(d, kind, file, value);
+    match judgement {
+        Judgement::BrokenText => Line::Refused(Refusal::ValueText),
+        Judgement::BrokenKind => Line::Refused(Refusal::ValueKind),
+        Judgement::Good(v) => Line::Setting(i, value, v),
+    }
+}

@@ -1,0 +1,41 @@
+// One pass over a file of either dialect.
+//
+// What the lines before left behind is a few scalars (`State`) and a lent table of places (`store`): a row for each group,
+// by the keys' places in it, a row for the service that is asked for, and the places of the services' names.
+pub mod judging;
+pub mod store;
+
+use kinds::Value;
+use rules::Group;
+use rules::Refusal;
+use text::Place;
+
+// The group in force.
+pub enum Current {
+    Outside,
+    In(Group),
+}
+
+// The first fault of the services before the latest, if any.
+pub enum Pending {
+    Nothing,
+    At(Refusal, usize),
+}
+
+// What is known of the lines before, beside the table of places.
+pub struct State {
+    pub current: Current,
+    pub services: usize,
+    pub settings: usize,
+    pub pending: Pending,
+}
+
+// What a line is after those before it: passed over, a header by its name, a setting by its slot in the table of places,
+// where its value stands and what it is, or refused.
+pub enum Line {
+    Blank,
+    Comment,
+    Header(Place),
+    Setting(usize, Place, Value),
+    Refused(Refusal),
+}
