@@ -60,7 +60,7 @@ listed-unknown : (m : ℕ) (o : Option Kind) → listedAnswer m o ≡ L.Unknown 
 listed-unknown m none e = refl
 listed-unknown m (some y) e = let z : _≡_ {A = ℕ} 0 1 = cc in absurd (omega arith)
 
-number-few : (g : Group) → groupNumber g ≤ 5
+pub number-few : (g : Group) → groupNumber g ≤ 5
 number-few Settings = omega arith
 number-few Security = omega arith
 number-few Ipv4 = omega arith

@@ -2,3 +2,4 @@ pub mod Store
 pub mod History
 pub mod Holds
 pub mod Says
+pub mod Closing

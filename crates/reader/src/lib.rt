@@ -3,6 +3,7 @@
 // What the lines before left behind is a few scalars (`State`) and a lent table of places (`store`): a row for each group,
 // by the keys' places in it, a row for the service that is asked for, and the places of the services' names.
 pub mod judging;
+pub mod services;
 pub mod store;
 
 use kinds::Value;
@@ -38,4 +39,10 @@ pub enum Line {
     Header(Place),
     Setting(usize, Place, Value),
     Refused(Refusal),
+}
+
+// Whether the rules over a service or a file are obeyed.
+pub enum Rule {
+    Obeyed,
+    Broken(Refusal),
 }
