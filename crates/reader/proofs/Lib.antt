@@ -1,5 +1,8 @@
 pub mod Slots
 pub mod Rows
+pub mod RuleFault
+pub mod RowRule
+pub mod ClosingFault
 pub mod SettingLine
 pub mod Growing
 pub mod Heading

@@ -2,6 +2,7 @@
 //
 // What the lines before left behind is a few scalars (`State`) and a lent table of places (`store`): a row for each group,
 // by the keys' places in it, a row for the service that is asked for, and the places of the services' names.
+pub mod closing;
 pub mod judging;
 pub mod services;
 pub mod store;

@@ -50,7 +50,7 @@ fn word_number(w: Word) -> u8
 }
 
 // Whether a setting is given and is the word with this number.
-fn is_word(n: NamedWord, k: u8) -> bool
+pub fn is_word(n: NamedWord, k: u8) -> bool
     ensures { λ r. ⌜ r ≡ numberIs k n ⌝ }
 {
     match n {
@@ -59,20 +59,20 @@ fn is_word(n: NamedWord, k: u8) -> bool
     }
 }
 
-fn either(a: bool, b: bool) -> bool
+pub fn either(a: bool, b: bool) -> bool
     ensures { λ r. ⌜ r ≡ (a || b) ⌝ }
 {
     a || b
 }
 
-fn both(a: bool, b: bool) -> bool
+pub fn both(a: bool, b: bool) -> bool
     ensures { λ r. ⌜ r ≡ (a && b) ⌝ }
 {
     a && b
 }
 
 // Whether a key of the latest service is given, by its slot.
-fn taken(x: &[usize; 384], i: usize) -> bool
+pub fn taken(x: &[usize; 384], i: usize) -> bool
     requires { ⌜ (length (now x) ≡ 384) × (i < 128) ⌝ }
     ensures { λ r. ⌜ r ≡ not (eqb (slot i (now (x .entry)) .line) 0) ⌝ }
 {
@@ -80,7 +80,7 @@ fn taken(x: &[usize; 384], i: usize) -> bool
 }
 
 // The word that stands at a slot.
-fn word_at(file: &[u8], x: &[usize; 384], i: usize, list: WordList) -> NamedWord
+pub fn word_at(file: &[u8], x: &[usize; 384], i: usize, list: WordList) -> NamedWord
     requires { ⌜ SlotIn (now file) (now x) i ⌝ }
     ensures { λ r. ⌜ r ≡ slotWord (now (file .entry)) list (slot i (now (x .entry))) ⌝ }
 {

@@ -1,0 +1,61 @@
+-- The rules over a service, by the row that holds its settings.
+use Prim.Native.Nat.{ℕ, zero, suc, _+_, _<_}
+use native.Mathlib.Omega.{arith}
+use mathlib.Core.Path.{_≡_, refl, ap, sym, _∙_}
+use mathlib.Core.Bool.{Bool, true, false, cond, not, _||_, _&&_}
+use mathlib.Core.List.{List, [], _∷_}
+use mathlib.Core.Option.{Option, none, some}
+use borrow.Author.Tests.{ne-eqb}
+use lib.Dec.{eqb}
+use Rattle.text.specs.Words.{word, same, place}
+use Rattle.text.specs.Options.{andThen, isSome}
+use Rattle.text.specs.Parts.{part}
+use Rattle.kinds.specs.Kinds.{wordOf}
+use Rattle.kinds.specs.Answers.{namedWord}
+use Rattle.kinds.specs.declared.Word.{Word}
+use Rattle.kinds.specs.declared.Word.the-variants.{Wifi, Ethernet, Psk, None}
+use Rattle.kinds.specs.declared.WordList.{WordList}
+use Rattle.kinds.specs.declared.WordList.the-variants as W
+use Rattle.rules.specs.Tables.{keysOf}
+use Rattle.rules.specs.Lookups.{keyNames}
+use Rattle.rules.specs.Faults.{Entry, given}
+use Rattle.rules.specs.Groups.{entryOf, isWord, wordNumber, wordIn, serviceFault}
+use Rattle.rules.specs.declared.Group.the-variants.{Service}
+use Rattle.reader.specs.Store.{Slot, slot}
+use Rattle.reader.specs.Holds.{Kept, Stands, Row}
+use Rattle.reader.specs.Closing.{numberIs, slotWord, isTaken, slotsRule}
+
+-- ---- one key
+
+entry-given : (k : List ℕ) (es : List Entry) → isSome (entryOf k es) ≡ given k es
+entry-given k [] = refl
+entry-given k (e ∷ es) = go (same k (e .key)) (entry-given k es)
+  where
+    go : (b : Bool) → isSome (entryOf k es) ≡ given k es → isSome (cond b (some e) (entryOf k es)) ≡ (b || given k es)
+    go true q = refl
+    go false q = q
+
+kept-given : (file : List ℕ) (s : Slot) (o : Option Entry) → Kept file s o → not (eqb (s .line) 0) ≡ isSome o
+kept-given file s none q = rw q
+kept-given file s (some e) h = ap not (ne-eqb (s .line) 0 (λ z. let p = h .some in omega (arith, z, p)))
+
+number-is : (w : Word) (o : Option Word) → numberIs (wordNumber w) (namedWord o) ≡ isWord w o
+number-is w none = refl
+number-is w (some v) = refl
+
+kept-word : (file : List ℕ) (s : Slot) (l : WordList) (w : Word) (o : Option Entry) → Kept file s o → numberIs (wordNumber w) (slotWord file l s) ≡ isWord w (andThen o (λ e. wordOf l (e .value)))
+kept-word file s l w none q = rw q
+kept-word file s l w (some e) h = rw (ne-eqb (s .line) 0 (λ z. let p = h .some in omega (arith, z, p)), h .value) (number-is w (wordOf l (e .value)))
+
+-- ---- the row of a service
+
+module _ {file x : List ℕ} {es : List Entry} (h : Row file x 80 (keyNames Service) es) where
+  taken-given : (k : List ℕ) (n : ℕ) → place k (keyNames Service) ≡ suc n → isTaken x (80 + suc n) ≡ given k es
+  taken-given k n q = rw (sym q) (kept-given file (slot (80 + place k (keyNames Service)) x) (entryOf k es) (h .each k (λ z. let p = sym q ∙ z in omega (arith, p))) ∙ entry-given k es)
+
+  word-is : (l : WordList) (w : Word) (k : List ℕ) (n : ℕ) → place k (keyNames Service) ≡ suc n → numberIs (wordNumber w) (slotWord file l (slot (80 + suc n) x)) ≡ isWord w (wordIn l k es)
+  word-is l w k n q = rw (sym q) (kept-word file (slot (80 + place k (keyNames Service)) x) l w (entryOf k es) (h .each k (λ z. let p = sym q ∙ z in omega (arith, p))))
+
+  pub row-rule : slotsRule file x ≡ serviceFault es
+  unfolding slotsRule serviceFault keysOf
+  row-rule = rw (taken-given (word "Type") 0 refl, taken-given (word "Name") 9 refl, taken-given (word "SSID") 10 refl, taken-given (word "Passphrase") 11 refl, taken-given (word "Security") 12 refl, taken-given (word "Hidden") 13 refl, word-is W.ServiceType Wifi (word "Type") 0 refl, word-is W.ServiceType Ethernet (word "Type") 0 refl, word-is W.Security Psk (word "Security") 12 refl, word-is W.Security None (word "Security") 12 refl)

@@ -1,0 +1,19 @@
+-- The rules by the answers over their parts.
+use borrow.Author.Needs.{needs}
+use Rattle.reader.proofs.closing.clashes.Statement.{statement}
+use Rattle.reader.proofs.closing.clashes.Tie as tie
+
+pub clashes-spec : {M : Type 1} → statement M
+clashes-spec =
+    tie.close
+    (tie.spec
+    (λ c κs. search needs)
+    (λ c κs. search needs)
+    (λ c κs. search needs)
+    (λ c κs. search needs)
+    (λ c κs. search needs)
+    (λ c κs. search needs)
+    (λ c κs. search needs)
+    (λ c κs. search needs)
+    (λ c κs. search needs)
+    (λ c. cc))

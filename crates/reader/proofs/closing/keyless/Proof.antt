@@ -1,0 +1,14 @@
+-- The rules by the answers over their parts.
+use borrow.Author.Needs.{needs}
+use Rattle.reader.proofs.closing.keyless.Statement.{statement}
+use Rattle.reader.proofs.closing.keyless.Tie as tie
+
+pub keyless-spec : {M : Type 1} → statement M
+keyless-spec =
+    tie.close
+    (tie.spec
+    (λ c κs. search needs)
+    (λ c κs. search needs)
+    (λ c κs. search needs)
+    (λ c κs. search needs)
+    (λ c. cc))

@@ -1,0 +1,16 @@
+-- The rules by the answers over their parts.
+use borrow.Author.Needs.{needs}
+use Rattle.reader.proofs.closing.unnamed.Statement.{statement}
+use Rattle.reader.proofs.closing.unnamed.Tie as tie
+
+pub unnamed-spec : {M : Type 1} → statement M
+unnamed-spec =
+    tie.close
+    (tie.spec
+    (λ c κs. search needs)
+    (λ c κs. search needs)
+    (λ c κs. search needs)
+    (λ c κs. search needs)
+    (λ c κs. search needs)
+    (λ c κs. search needs)
+    (λ c. cc))
