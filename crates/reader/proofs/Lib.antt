@@ -1,4 +1,5 @@
 pub mod Slots
+pub mod Beginning
 pub mod Rows
 pub mod RuleFault
 pub mod RowRule

@@ -8,7 +8,7 @@ use mathlib.Core.Option.{Option, none, some}
 use borrow.Author.Tests.{ne-eqb}
 use lib.Dec.{eqb}
 use Rattle.text.specs.Words.{word, same, place}
-use Rattle.text.specs.Options.{andThen, isSome}
+use Rattle.text.specs.Options.{andThen}
 use Rattle.text.specs.Parts.{part}
 use Rattle.kinds.specs.Kinds.{wordOf}
 use Rattle.kinds.specs.Answers.{namedWord}
@@ -23,21 +23,10 @@ use Rattle.rules.specs.Groups.{entryOf, isWord, wordNumber, wordIn, serviceFaul
 use Rattle.rules.specs.declared.Group.the-variants.{Service}
 use Rattle.reader.specs.Store.{Slot, slot}
 use Rattle.reader.specs.Holds.{Kept, Stands, Row}
+use Rattle.reader.proofs.Rows.{given-entry, kept-given}
 use Rattle.reader.specs.Closing.{numberIs, slotWord, isTaken, slotsRule}
 
 -- ---- one key
-
-entry-given : (k : List ℕ) (es : List Entry) → isSome (entryOf k es) ≡ given k es
-entry-given k [] = refl
-entry-given k (e ∷ es) = go (same k (e .key)) (entry-given k es)
-  where
-    go : (b : Bool) → isSome (entryOf k es) ≡ given k es → isSome (cond b (some e) (entryOf k es)) ≡ (b || given k es)
-    go true q = refl
-    go false q = q
-
-kept-given : (file : List ℕ) (s : Slot) (o : Option Entry) → Kept file s o → not (eqb (s .line) 0) ≡ isSome o
-kept-given file s none q = rw q
-kept-given file s (some e) h = ap not (ne-eqb (s .line) 0 (λ z. let p = h .some in omega (arith, z, p)))
 
 number-is : (w : Word) (o : Option Word) → numberIs (wordNumber w) (namedWord o) ≡ isWord w o
 number-is w none = refl
@@ -51,7 +40,7 @@ kept-word file s l w (some e) h = rw (ne-eqb (s .line) 0 (λ z. let p = h .some 
 
 module _ {file x : List ℕ} {es : List Entry} (h : Row file x 80 (keyNames Service) es) where
   taken-given : (k : List ℕ) (n : ℕ) → place k (keyNames Service) ≡ suc n → isTaken x (80 + suc n) ≡ given k es
-  taken-given k n q = rw (sym q) (kept-given file (slot (80 + place k (keyNames Service)) x) (entryOf k es) (h .each k (λ z. let p = sym q ∙ z in omega (arith, p))) ∙ entry-given k es)
+  taken-given k n q = rw (sym q) (sym (kept-given file (slot (80 + place k (keyNames Service)) x) (entryOf k es) (h .each k (λ z. let p = sym q ∙ z in omega (arith, p))) refl) ∙ sym (given-entry k es))
 
   word-is : (l : WordList) (w : Word) (k : List ℕ) (n : ℕ) → place k (keyNames Service) ≡ suc n → numberIs (wordNumber w) (slotWord file l (slot (80 + suc n) x)) ≡ isWord w (wordIn l k es)
   word-is l w k n q = rw (sym q) (kept-word file (slot (80 + place k (keyNames Service)) x) l w (entryOf k es) (h .each k (λ z. let p = sym q ∙ z in omega (arith, p))))

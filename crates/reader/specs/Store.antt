@@ -1,7 +1,9 @@
 -- The table of places, slot by slot: 128 slots, each with a start, an end and a line.
 use Prim.Native.Nat.{ℕ, _+_, _≤_, _<_}
 use mathlib.Core.Path.{_≡_}
+use mathlib.Core.Bool.{cond}
 use mathlib.Core.List.{List}
+use lib.Dec.{eqb}
 use lib.ListN.{length, getD, set}
 
 -- a slot's start, end and line
@@ -32,3 +34,13 @@ nowhere i = emptySlot
 
 abbrev pub slotsFrom : ℕ → List ℕ → ℕ → Slot
 slotsFrom from x i = slot (from + i) x
+
+-- a service begins, the (n + 1)th: its row holds its header alone, and the row before it where that is service w
+pub record Began (w n : ℕ) (header named : Slot) (x y : List ℕ) : Type 0 where
+  pub long : length y ≡ 384
+  pub below : (j : ℕ) → j < 80 → slot j y ≡ slot j x
+  pub head : slot 80 y ≡ header
+  pub row : (i : ℕ) → 0 < i → i < 16 → slot (80 + i) y ≡ emptySlot
+  pub found : (i : ℕ) → i < 16 → slot (96 + i) y ≡ slot (cond (eqb w n) 80 96 + i) x
+  pub names : (i : ℕ) → i < n → slot (112 + i) y ≡ slot (112 + i) x
+  pub name : slot (112 + n) y ≡ named

@@ -1,8 +1,11 @@
 // The table of places: for each slot where a value starts and ends, and on which line; line 0 where there is none.
 ghost use mathlib.Core.Path.{_≡_};
 ghost use Prim.Native.Nat.{_+_, _≤_, _<_};
+ghost use mathlib.Core.Bool.{cond};
+ghost use lib.Dec.{eqb};
 ghost use lib.ListN.{length};
-ghost use Rattle.reader.specs.Store.{stored, Overwritten, nowhere, slotsFrom};
+ghost use Rattle.reader.specs.Store.{stored, Overwritten, nowhere, slotsFrom, Began};
+use text::Place;
 
 // Puts a place and its line into a slot.
 pub fn put_slot(x: &mut [usize; 384], i: usize, start: usize, end: usize, line: usize)
@@ -39,4 +42,32 @@ pub fn copy_row(x: &mut [usize; 384], from: usize, to: usize)
         put_slot(x, to + i, start, end, line);
         i += 1;
     }
+}
+
+// Keeps the latest service's row where that is the service asked for.
+fn keep_found(x: &mut [usize; 384], wanted: usize, services: usize)
+    requires { ⌜ length (now x) ≡ 384 ⌝ }
+    ensures { λ _. ⌜ Overwritten 96 16 (slotsFrom (cond (eqb wanted services) 80 96) (now (x .entry))) (now (x .entry)) (now (x .exit)) ⌝ }
+{
+    if wanted == services {
+        copy_row(x, 80, 96);
+    }
+}
+
+// Begins a service: the one before is kept where it is asked for, and its row is emptied but for the new header.
+pub fn begin_service(
+    x: &mut [usize; 384],
+    wanted: usize,
+    services: usize,
+    header: usize,
+    name: Place,
+    line: usize,
+)
+    requires { ⌜ (length (now x) ≡ 384) × (services < 8) ⌝ }
+    ensures { λ _. ⌜ Began wanted services (record { start = header; end = header; line = line }) (record { start = name .start; end = name .end; line = line }) (now (x .entry)) (now (x .exit)) ⌝ }
+{
+    keep_found(x, wanted, services);
+    clear_row(x, 80);
+    put_slot(x, 80, header, header, line);
+    put_slot(x, 112 + services, name.start, name.end, line);
 }
