@@ -43,7 +43,7 @@ all-fault (s ∷ gs) = go (serves (s .group)) (all-fault gs)
     go true q = refl
     go false q = q ∙ sym (or-none (allFault gs))
 
-same-serves : (g : Group) → sameGroup Service g ≡ serves g
+pub same-serves : (g : Group) → sameGroup Service g ≡ serves g
 same-serves Settings = refl
 same-serves Security = refl
 same-serves Ipv4 = refl

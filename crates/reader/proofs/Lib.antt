@@ -4,6 +4,7 @@ pub mod Rows
 pub mod RuleFault
 pub mod RowRule
 pub mod ClosingFault
+pub mod ServiceHeading
 pub mod SettingLine
 pub mod Growing
 pub mod Heading
