@@ -5,7 +5,8 @@ pub mod RuleFault
 pub mod RowRule
 pub mod ClosingFault
 pub mod ServiceHeading
+pub mod HeadingFault
 pub mod SettingLine
 pub mod Growing
-pub mod Heading
+pub mod PlainHeading
 pub mod Seeking

@@ -3,3 +3,4 @@ pub mod History
 pub mod Holds
 pub mod Says
 pub mod Closing
+pub mod Headings

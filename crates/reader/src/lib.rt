@@ -3,6 +3,7 @@
 // What the lines before left behind is a few scalars (`State`) and a lent table of places (`store`): a row for each group,
 // by the keys' places in it, a row for the service that is asked for, and the places of the services' names.
 pub mod closing;
+pub mod headings;
 pub mod judging;
 pub mod services;
 pub mod store;
@@ -46,4 +47,10 @@ pub enum Line {
 pub enum Rule {
     Obeyed,
     Broken(Refusal),
+}
+
+// What a header does: it opens a group, or it is refused.
+pub enum Heading {
+    Opens(Group),
+    Refused(Refusal),
 }
