@@ -2,19 +2,23 @@
 use crate::show;
 use names::Suffix;
 
-// The network name of an iwd file name, behind the kind of file.
-fn iwd_name(f: &[u8]) {
-    let r = names::read_iwd_name(f);
-    if !r.ok {
-        show::say(b"refused");
-        return;
-    }
-    let suffix = r.suffix;
+fn say_suffix(suffix: Suffix) {
     match suffix {
         Suffix::Open => show::say(b"open "),
         Suffix::Psk => show::say(b"psk "),
     }
+}
+
+// The network name of an iwd file name, behind the kind of file.
+fn iwd_name(f: &[u8]) {
+    let r = names::read_iwd_name(f);
+    let suffix = r.suffix;
     let bytes = r.bytes;
+    if r.ok {
+        say_suffix(suffix);
+    } else {
+        show::say(b"refused");
+    }
     show::hex_front(&bytes, r.length);
 }
 

@@ -18,11 +18,15 @@ fn say_break(b: Break) {
 fn say_part(line: &[u8], p: Place) {
     let start = p.start;
     let end = p.end;
-    if start <= end {
-        if end <= line.len() {
-            show::say(&line[start..end]);
-        }
+    if end < start {
+        show::say(b"no place");
+        return;
     }
+    if line.len() < end {
+        show::say(b"no place");
+        return;
+    }
+    show::say(&line[start..end]);
 }
 
 fn say_setting(line: &[u8], key: Place, value: Place) {

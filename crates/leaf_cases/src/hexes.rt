@@ -1,36 +1,38 @@
 // Values in hex: a MAC, a key, a network name.
 use crate::show;
 
-fn mac(s: &[u8]) {
-    let r = kinds::hexes::read_mac(s);
-    if !r.ok {
-        show::broken();
+// The bytes of a value; those of a refused one are not in use.
+fn say_bytes(ok: bool, bytes: &[u8]) {
+    if ok {
+        show::hex(bytes);
         return;
     }
+    show::broken();
+    show::unused(bytes, 0);
+}
+
+fn mac(s: &[u8]) {
+    let r = kinds::hexes::read_mac(s);
     let bytes = r.bytes;
-    show::hex(&bytes);
+    say_bytes(r.ok, &bytes);
 }
 
 fn key(s: &[u8]) {
     let r = kinds::hexes::read_key(s);
-    if !r.ok {
-        show::broken();
-        return;
-    }
     let bytes = r.bytes;
-    show::hex(&bytes);
+    say_bytes(r.ok, &bytes);
 }
 
 // A network name's length and its bytes.
 fn ssid(s: &[u8]) {
     let r = kinds::hexes::read_ssid(s);
-    if !r.ok {
-        show::broken();
-        return;
-    }
     let bytes = r.bytes;
-    show::number(r.length);
-    show::say(b" ");
+    if r.ok {
+        show::number(r.length);
+        show::say(b" ");
+    } else {
+        show::broken();
+    }
     show::hex_front(&bytes, r.length);
 }
 

@@ -3,17 +3,23 @@ use crate::show;
 use addresses::Separator;
 use addresses::writing;
 
-// How many addresses there are, and the list as it is written, with single spaces.
-fn list(s: &[u8], sep: Separator) {
-    let n = addresses::lists::count_addresses(s, sep);
-    show::number(n);
+// The addresses from the n-th on are not in use.
+fn unused_from(all: [[u8; 4]; 4], n: usize) {
+    let mut i = n;
+    while i < 4 {
+        show::no_address(all[i]);
+        i += 1;
+    }
+}
+
+// The first n addresses as they are written, with single spaces.
+fn say_addresses(all: [[u8; 4]; 4], n: usize) {
     if n == 0 {
         return;
     }
     if 4 < n {
         return;
     }
-    let all = addresses::lists::read_addresses(s, sep);
     let size = writing::addresses_len(all, n, Separator::Spaces);
     if 64 < size {
         return;
@@ -24,11 +30,27 @@ fn list(s: &[u8], sep: Separator) {
     show::say(&out[0..size]);
 }
 
-fn say_place(start: usize, end: usize) {
-    show::say(b" ");
-    show::number(start);
-    show::say(b"-");
-    show::number(end);
+// How many addresses there are, and each of them.
+fn list(s: &[u8], sep: Separator) {
+    let n = addresses::lists::count_addresses(s, sep);
+    let all = addresses::lists::read_addresses(s, sep);
+    show::number(n);
+    say_addresses(all, n);
+    unused_from(all, n);
+}
+
+// An entry's place; one that is not in use is zero.
+fn say_place(used: bool, start: usize, end: usize) {
+    if used {
+        show::say(b" ");
+        show::number(start);
+        show::say(b"-");
+        show::number(end);
+        return;
+    }
+    if start != 0 || end != 0 {
+        show::say(b" not zero");
+    }
 }
 
 // How many entries there are, and where each of them stands.
@@ -39,11 +61,8 @@ fn entries(s: &[u8]) {
     let ends = r.ends;
     show::number(n);
     let mut i = 0;
-    while i < n {
-        if i == 4 {
-            return;
-        }
-        say_place(starts[i], ends[i]);
+    while i < 4 {
+        say_place(i < n, starts[i], ends[i]);
         i += 1;
     }
 }

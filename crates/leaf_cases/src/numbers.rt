@@ -6,12 +6,13 @@ use kinds::Method;
 
 fn address(s: &[u8]) {
     let r = addresses::numbers::read_address(s);
-    if !r.ok {
-        show::broken();
-        return;
-    }
     let bytes = r.bytes;
-    show::dotted(bytes);
+    if r.ok {
+        show::dotted(bytes);
+    } else {
+        show::broken();
+        show::no_address(bytes);
+    }
 }
 
 // The length of a mask.
@@ -43,29 +44,44 @@ fn mask_of(s: &[u8]) {
     show::say(&out[0..size]);
 }
 
-fn say_static(r: kinds::Ipv4) {
+// An address, its mask length and perhaps a gateway, as far as they are in use.
+fn say_static(r: kinds::Ipv4, used: bool) {
     let address = r.address;
-    show::dotted(address);
-    show::say(b"/");
-    show::byte(r.length);
+    let gateway = r.gateway;
+    if used {
+        show::dotted(address);
+        show::say(b"/");
+        show::byte(r.length);
+    } else {
+        show::no_address(address);
+        show::unused(&[r.length], 0);
+    }
     if r.has_gateway {
-        let gateway = r.gateway;
         show::say(b" via ");
         show::dotted(gateway);
+    } else {
+        show::no_address(gateway);
     }
 }
 
 fn ipv4(s: &[u8]) {
     let r = kinds::connman_ipv4::read_ipv4(s);
+    let method = r.method;
     if !r.ok {
         show::broken();
+        say_static(r, false);
         return;
     }
-    let method = r.method;
     match method {
-        Method::Off => show::say(b"off"),
-        Method::Dhcp => show::say(b"dhcp"),
-        Method::Static => say_static(r),
+        Method::Static => say_static(r, true),
+        Method::Off => {
+            show::say(b"off");
+            say_static(r, false)
+        }
+        Method::Dhcp => {
+            show::say(b"dhcp");
+            say_static(r, false)
+        }
     }
 }
 

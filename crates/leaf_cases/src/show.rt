@@ -38,11 +38,31 @@ pub(crate) fn hex(s: &[u8]) {
     }
 }
 
-// The first n bytes of s in hex.
-pub(crate) fn hex_front(s: &[u8], n: usize) {
-    if n <= s.len() {
-        hex(&s[0..n]);
+// Says so where a byte of s from n on is not zero, as a place that is not in use has to be.
+pub(crate) fn unused(s: &[u8], n: usize) {
+    let mut i = n;
+    while i < s.len() {
+        if s[i] != 0 {
+            say(b" not zero");
+            return;
+        }
+        i += 1;
     }
+}
+
+// The first n bytes of s in hex; the others are not in use.
+pub(crate) fn hex_front(s: &[u8], n: usize) {
+    if s.len() < n {
+        say(b"too long");
+        return;
+    }
+    hex(&s[0..n]);
+    unused(s, n);
+}
+
+// An address that is not in use.
+pub(crate) fn no_address(a: [u8; 4]) {
+    unused(&a, 0);
 }
 
 // An address: its four numbers.

@@ -1,4 +1,4 @@
--- Safe: the loop stops at four, the length of both arrays.
+-- Safe: the index stays in the two arrays.
 use Prim.Native.Nat.{_≤_, _-_}
 use borrow.Author.Needs.{needs}
 use Rattle.leaf_cases.proofs.lists.entries.Statement.{statement}
@@ -9,10 +9,9 @@ entries-spec =
     tie.close
     (tie.spec
     (λ s n starts ends i₀ i. i ≤ 4)
-    (λ s n starts ends i₀ i. n - i)
+    (λ s n starts ends i₀ i. 4 - i)
     (λ c κs. search needs)
     (λ c κs. search needs)
-    (λ c. search needs)
     (λ c. search needs)
     (λ c. search needs)
     (λ c. search needs)
