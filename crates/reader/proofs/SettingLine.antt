@@ -32,7 +32,7 @@ use Rattle.rules.specs.declared.Refusal.the-variants.{NoGroup, UnknownKey, Repe
 use Rattle.reader.specs.Store.{slot}
 use Rattle.reader.specs.History.{base, groupNumber, currentOf, latest}
 use Rattle.reader.specs.Holds.{Row}
-use Rattle.reader.specs.Says.{NewSlot, SettingIs, SettingSays}
+use Rattle.reader.specs.Says.{NewSetting, SettingIs, SettingSays}
 use Rattle.reader.specs.declared.Current.{Current}
 use Rattle.reader.specs.declared.Current.the-variants.{Outside, In}
 use Rattle.reader.specs.declared.Line.the-variants.{Setting, Refused}
@@ -139,5 +139,5 @@ module _ (d : Dialect) (file x : List ℕ) (c : Current) (key value : Place) whe
         pub setting-good : {v : Value} → j ≡ J.Good v → SettingSays d file x c key value (Setting (b + n) value v)
         setting-good v =
             record {
-              says = λ gs e rows. (judging gs e (rows g) ∙ value-good value (judged d kind (partAt file value)) (sym s ∙ v), record { group = g; in-force = sym e ∙ q; listed = placed; is = omega (arith, a, known .0) }, refl);
+              says = λ gs e rows. (judging gs e (rows g) ∙ value-good value (judged d kind (partAt file value)) (sym s ∙ v), record { group = g; in-force = sym e ∙ q; listed = placed; is = omega (arith, a, known .0); kind = kind; of-kind = known .1; reads = sym s ∙ v }, refl);
             }

@@ -8,6 +8,12 @@ use Rattle.text.specs.Words.{place}
 use Rattle.text.specs.declared.Dialect.{Dialect}
 use Rattle.text.specs.declared.Place.{Place}
 use Rattle.lines.specs.Lines.{setting}
+use Rattle.kinds.specs.Typed.{judged}
+use Rattle.kinds.specs.Answers.{judgementAt}
+use Rattle.kinds.specs.declared.Kind.{Kind}
+use Rattle.kinds.specs.declared.Value.{Value}
+use Rattle.kinds.specs.declared.Judgement.the-variants as J
+use Rattle.rules.specs.Tables.{kindOf}
 use Rattle.rules.specs.Lookups.{keyNames}
 use Rattle.rules.specs.Faults.{Section, fault, given}
 use Rattle.rules.specs.declared.Group.{Group}
@@ -18,18 +24,21 @@ use Rattle.reader.specs.declared.Current.the-variants.{Outside, In}
 use Rattle.reader.specs.declared.Line.{Line}
 use Rattle.reader.specs.declared.Line.the-variants.{Blank, Comment, Header, Setting, Refused}
 
--- a good setting's slot: it is that of a key k of the group in force, which is not given yet
-pub record NewSlot (gs : List Section) (k : List ℕ) (i : ℕ) : Type 0 where
+-- a good setting: its slot is that of its key in the group in force, and v is what its kind reads at p from the bytes b
+pub record NewSetting (d : Dialect) (gs : List Section) (k b : List ℕ) (i : ℕ) (p : Place) (v : Value) : Type 0 where
   pub group : Group
   pub in-force : currentOf gs ≡ In group
   pub listed : place k (keyNames group) ≡ 0 → ⊥
   pub is : i ≡ base group + place k (keyNames group)
+  pub kind : Kind
+  pub of-kind : kindOf group k ≡ some kind
+  pub reads : judgementAt p (judged d kind b) ≡ J.Good v
 
 abbrev pub SettingIs : Dialect → List ℕ → List Section → Place → Place → Line → Type 0
 SettingIs d file gs key value Blank = ⊥
 SettingIs d file gs key value Comment = ⊥
 SettingIs d file gs key value (Header p) = ⊥
-SettingIs d file gs key value (Setting i p v) = (fault d gs (setting (partAt file key) (partAt file value)) ≡ none) × NewSlot gs (partAt file key) i × (p ≡ value)
+SettingIs d file gs key value (Setting i p v) = (fault d gs (setting (partAt file key) (partAt file value)) ≡ none) × NewSetting d gs (partAt file key) (partAt file value) i value v × (p ≡ value)
 SettingIs d file gs key value (Refused r) = fault d gs (setting (partAt file key) (partAt file value)) ≡ some r
 
 pub record SettingSays (d : Dialect) (file x : List ℕ) (c : Current) (key value : Place) (r : Line) : Type 0 where
