@@ -31,7 +31,7 @@ abbrev latestFault : List Section → Option Fault
 latestFault [] = none
 latestFault (s ∷ gs) = cond (serves (s .group)) (sectionFault s) (latestFault gs)
 
-or-none : (o : Option Fault) → orElse o none ≡ o
+pub or-none : (o : Option Fault) → orElse o none ≡ o
 or-none none = refl
 or-none (some f) = refl
 
@@ -56,7 +56,7 @@ faultOf line es = cond (eqb line 0) none (faultAt line (serviceFault es))
 
 latest-fault : (d : Dialect) (gs : List Section) → WellNamed d gs → faultOf (headSlot Service gs .line) (latest Service gs) ≡ latestFault gs
 latest-fault d [] w = refl
-latest-fault d (s ∷ gs) w = rw (same-serves (s .group)) (go (serves (s .group)) (latest-fault d gs (w .2)))
+latest-fault d (s ∷ gs) w = rw (same-serves (s .group)) (go (serves (s .group)) (latest-fault d gs (w .3)))
   where
     go : (b : Bool) → faultOf (headSlot Service gs .line) (latest Service gs) ≡ latestFault gs → faultOf (cond b (record { start = s .start; end = s .start; line = s .line }) (headSlot Service gs) .line) (cond b (s .entries) (latest Service gs)) ≡ cond b (cond b (faultAt (s .line) (serviceFault (s .entries))) none) (latestFault gs)
     go true q = rw (ne-eqb (s .line) 0 (λ z. let p = w .1 in omega (arith, z, p)))

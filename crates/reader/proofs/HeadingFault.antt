@@ -46,7 +46,7 @@ abbrev pub headingFault : Heading → Option Refusal
 headingFault (Opens g) = none
 headingFault (Refused r) = some r
 
-base-serves : (g : Group) → eqb (base g) 80 ≡ serves g
+pub base-serves : (g : Group) → eqb (base g) 80 ≡ serves g
 base-serves Settings = refl
 base-serves Security = refl
 base-serves Ipv4 = refl
@@ -54,7 +54,7 @@ base-serves Ipv6 = refl
 base-serves Global = refl
 base-serves Service = refl
 
-serves-service : (g : Group) → serves g ≡ true → g ≡ Service
+pub serves-service : (g : Group) → serves g ≡ true → g ≡ Service
 serves-service Settings e = absurd (false≢true e)
 serves-service Security e = absurd (false≢true e)
 serves-service Ipv4 e = absurd (false≢true e)

@@ -6,6 +6,12 @@ pub mod RowRule
 pub mod ClosingFault
 pub mod ServiceHeading
 pub mod HeadingFault
+pub mod Backwards
+pub mod FileFault
+pub mod GoodHeader
+pub mod InFile
+pub mod OneLine
+pub mod WholeFile
 pub mod SettingLine
 pub mod Growing
 pub mod PlainHeading

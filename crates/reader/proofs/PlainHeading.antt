@@ -31,7 +31,7 @@ use Rattle.reader.proofs.Growing.{same-group, among-kept, spans-kept}
 
 -- ---- a group that is no service has one name
 
-abbrev groupName : Group → List ℕ
+abbrev pub groupName : Group → List ℕ
 groupName Settings = word "Settings"
 groupName Security = word "Security"
 groupName Ipv4 = word "IPv4"
@@ -58,14 +58,14 @@ connman-named n {g} e s = go (same n (word "global")) refl e
     go true p k = same-eq n (word "global") p ∙ ap groupName (Option·some-injective Global g k)
     go false p k = absurd (true≢false (ap serves (Option·some-injective Service g (only-some (isService n) (some Service) k .1)) ∙ s))
 
-one-name : (d : Dialect) (n : List ℕ) {g : Group} → groupOf d n ≡ some g → serves g ≡ false → n ≡ groupName g
+pub one-name : (d : Dialect) (n : List ℕ) {g : Group} → groupOf d n ≡ some g → serves g ≡ false → n ≡ groupName g
 one-name Iwd n e s = iwd-named n e
 one-name ConnMan n e s = connman-named n e s
 
 -- ---- whether such a group was named, by its header's slot
 
 module _ (d : Dialect) (n : List ℕ) (g : Group) (q : groupOf d n ≡ some g) (v : serves g ≡ false) where
-  other-name : (m : List ℕ) {h : Group} → groupOf d m ≡ some h → sameGroup g h ≡ false → same n m ≡ false
+  pub other-name : (m : List ℕ) {h : Group} → groupOf d m ≡ some h → sameGroup g h ≡ false → same n m ≡ false
   other-name m {h} e k = go (same n m) refl
     where
       go : (b : Bool) → same n m ≡ b → b ≡ false
@@ -79,7 +79,7 @@ module _ (d : Dialect) (n : List ℕ) (g : Group) (q : groupOf d n ≡ some g) (
 
   pub unnamed : (gs : List Section) → WellNamed d gs → headSlot g gs .line ≡ 0 → Unnamed gs
   unnamed [] w e = record { name = refl; none = refl }
-  unnamed (s ∷ gs) w e = go (sameGroup g (s .group)) refl (λ k. unnamed gs (w .2) k) e
+  unnamed (s ∷ gs) w e = go (sameGroup g (s .group)) refl (λ k. unnamed gs (w .3) k) e
     where
       go : (b : Bool) → sameGroup g (s .group) ≡ b → (headSlot g gs .line ≡ 0 → Unnamed gs) → cond b (record { start = s .start; end = s .start; line = s .line }) (headSlot g gs) .line ≡ 0 → Unnamed (s ∷ gs)
       go true p f k = absurd (omega (arith, k, w .1))
@@ -87,7 +87,7 @@ module _ (d : Dialect) (n : List ℕ) (g : Group) (q : groupOf d n ≡ some g) (
 
   pub renamed : (gs : List Section) → WellNamed d gs → (headSlot g gs .line ≡ 0 → ⊥) → nameGiven n gs ≡ true
   renamed [] w e = absurd (e refl)
-  renamed (s ∷ gs) w e = go (sameGroup g (s .group)) refl (λ k. renamed gs (w .2) k) e
+  renamed (s ∷ gs) w e = go (sameGroup g (s .group)) refl (λ k. renamed gs (w .3) k) e
     where
       go : (b : Bool) → sameGroup g (s .group) ≡ b → ((headSlot g gs .line ≡ 0 → ⊥) → nameGiven n gs ≡ true) → (cond b (record { start = s .start; end = s .start; line = s .line }) (headSlot g gs) .line ≡ 0 → ⊥) → (same n (s .name) || nameGiven n gs) ≡ true
       go true p f k =
@@ -140,5 +140,5 @@ module _ (d : Dialect) (n : List ℕ) (g : Group) (q : groupOf d n ≡ some g) (
           spans = spans-kept (h .spans) (λ i j. there (nameBase + i) (omega (arith, h .spans .few)) (λ t. omega (arith, t, number-few g)));
           names = λ m y. among-kept file x (stored (base g) s s l x) (st .services) (λ i j. there (nameBase + i) (omega (arith, h .spans .few)) (λ t. omega (arith, t, number-few g))) m ∙ h .names m y ∙ rw (service-other m y);
           found = rw v (row-kept (h .found) (λ m y. there (foundBase + place m (keyNames Service)) (omega (arith, keys-few Service m)) (λ t. omega (arith, t, number-few g))));
-          well = (q, k, h .well);
+          well = (q, k, unnamed gs (h .well) free .name, h .well);
         })

@@ -36,15 +36,16 @@ kept-word : (file : List ℕ) (s : Slot) (l : WordList) (w : Word) (o : Option E
 kept-word file s l w none q = rw q
 kept-word file s l w (some e) h = rw (ne-eqb (s .line) 0 (λ z. let p = h .some in omega (arith, z, p)), h .value) (number-is w (wordOf l (e .value)))
 
+-- a slot of a row is taken where its key is given
+pub taken-given : {file x : List ℕ} {b : ℕ} {t : List (List ℕ)} {es : List Entry} → Row file x b t es → (k : List ℕ) (n : ℕ) → place k t ≡ suc n → isTaken x (b + suc n) ≡ given k es
+taken-given {file} {x} {b} {t} {es} h k n q = rw (sym q) (sym (kept-given file (slot (b + place k t) x) (entryOf k es) (h .each k (λ z. let p = sym q ∙ z in omega (arith, p))) refl) ∙ sym (given-entry k es))
+
 -- ---- the row of a service
 
 module _ {file x : List ℕ} {es : List Entry} (h : Row file x 80 (keyNames Service) es) where
-  taken-given : (k : List ℕ) (n : ℕ) → place k (keyNames Service) ≡ suc n → isTaken x (80 + suc n) ≡ given k es
-  taken-given k n q = rw (sym q) (sym (kept-given file (slot (80 + place k (keyNames Service)) x) (entryOf k es) (h .each k (λ z. let p = sym q ∙ z in omega (arith, p))) refl) ∙ sym (given-entry k es))
-
   word-is : (l : WordList) (w : Word) (k : List ℕ) (n : ℕ) → place k (keyNames Service) ≡ suc n → numberIs (wordNumber w) (slotWord file l (slot (80 + suc n) x)) ≡ isWord w (wordIn l k es)
   word-is l w k n q = rw (sym q) (kept-word file (slot (80 + place k (keyNames Service)) x) l w (entryOf k es) (h .each k (λ z. let p = sym q ∙ z in omega (arith, p))))
 
   pub row-rule : slotsRule file x ≡ serviceFault es
   unfolding slotsRule serviceFault keysOf
-  row-rule = rw (taken-given (word "Type") 0 refl, taken-given (word "Name") 9 refl, taken-given (word "SSID") 10 refl, taken-given (word "Passphrase") 11 refl, taken-given (word "Security") 12 refl, taken-given (word "Hidden") 13 refl, word-is W.ServiceType Wifi (word "Type") 0 refl, word-is W.ServiceType Ethernet (word "Type") 0 refl, word-is W.Security Psk (word "Security") 12 refl, word-is W.Security None (word "Security") 12 refl)
+  row-rule = rw (taken-given h (word "Type") 0 refl, taken-given h (word "Name") 9 refl, taken-given h (word "SSID") 10 refl, taken-given h (word "Passphrase") 11 refl, taken-given h (word "Security") 12 refl, taken-given h (word "Hidden") 13 refl, word-is W.ServiceType Wifi (word "Type") 0 refl, word-is W.ServiceType Ethernet (word "Type") 0 refl, word-is W.Security Psk (word "Security") 12 refl, word-is W.Security None (word "Security") 12 refl)

@@ -29,7 +29,7 @@ use Rattle.reader.proofs.ClosingFault.{closed-fault, same-serves}
 
 -- ---- service w is the latest, or one before it
 
-numbered-latest : (w : ℕ) (gs : List Section) → numbered w gs ≡ cond (eqb w (services gs)) (latest Service gs) (olderNumbered w gs)
+pub numbered-latest : (w : ℕ) (gs : List Section) → numbered w gs ≡ cond (eqb w (services gs)) (latest Service gs) (olderNumbered w gs)
 numbered-latest w [] = go (eqb w 0)
   where
     go : (b : Bool) → numbered w [] ≡ cond b (latest Service []) (olderNumbered w [])
@@ -78,8 +78,8 @@ module _ {d : Dialect} {file : List ℕ} {w : ℕ} {st : State} {x : List ℕ} {
           (ap (λ (t : Slot). same m (part (t .start) (t .end) file)) (b .name) ∙ ap (same m) is)
           (among-kept file x y (st .services) (b .names) m ∙ h .names m v)
 
-      pub holds-service : {s l : ℕ} → header ≡ record { start = s; end = s; line = l } → 0 < l → {r : State} → r ≡ record { current = In Service; services = st .services + 1; settings = st .settings; pending = orPending (st .pending) (pendingOf (slotsFault file x)) } → Holds d file w r y (record { name = n; group = Service; line = l; start = s; entries = [] } ∷ gs)
-      holds-service {s} {l} e k v =
+      pub holds-service : {s l : ℕ} → header ≡ record { start = s; end = s; line = l } → 0 < l → nameGiven n gs ≡ false → {r : State} → r ≡ record { current = In Service; services = st .services + 1; settings = st .settings; pending = orPending (st .pending) (pendingOf (slotsFault file x)) } → Holds d file w r y (record { name = n; group = Service; line = l; start = s; entries = [] } ∷ gs)
+      holds-service {s} {l} e k u v =
           rw v
           (record {
             long = b .long;
@@ -92,5 +92,5 @@ module _ {d : Dialect} {file : List ℕ} {w : ℕ} {st : State} {x : List ℕ} {
             spans = spans-of;
             names = names-of;
             found = found-of;
-            well = (q, k, h .well);
+            well = (q, k, u, h .well);
           })

@@ -47,10 +47,10 @@ abbrev pub among : List ℕ → List ℕ → ℕ → List ℕ → Bool
 among file x zero w = false
 among file x (suc i) w = same w (part (slot (nameBase + i) x .start) (slot (nameBase + i) x .end) file) || among file x i w
 
--- each group is the one that its name names, and has a line
+-- each group is the one that its name names, has a line, and was not named before
 abbrev pub WellNamed : Dialect → List Section → Type 0
 WellNamed d [] = Unit
-WellNamed d (s ∷ gs) = (groupOf d (s .name) ≡ some (s .group)) × (0 < s .line) × WellNamed d gs
+WellNamed d (s ∷ gs) = (groupOf d (s .name) ≡ some (s .group)) × (0 < s .line) × (nameGiven (s .name) gs ≡ false) × WellNamed d gs
 
 abbrev pub pendingOf : Option Fault → Pending
 pendingOf none = P.Nothing

@@ -4,3 +4,6 @@ pub mod Holds
 pub mod Says
 pub mod Closing
 pub mod Headings
+pub mod FileRule
+pub mod Steps
+pub mod Ending

@@ -2,12 +2,16 @@
 ghost use mathlib.Core.Path.{_≡_};
 ghost use Prim.Native.Nat.{_+_, _≤_};
 ghost use lib.ListN.{length};
-ghost use Rattle.text.specs.Parts.{Inside, partAt};
+ghost use Rattle.text.specs.Parts.{Inside, part};
 ghost use Rattle.reader.specs.History.{base};
 ghost use Rattle.reader.specs.Says.{SettingSays};
+ghost use Rattle.reader.specs.Steps.{LineSays};
+ghost use Rattle.rules.specs.Faults.{breakOf};
 use crate::Current;
 use crate::Line;
 use kinds::Judgement;
+use lines::Break;
+use lines::Form;
 use rules::Group;
 use rules::Listed;
 use rules::Refusal;
@@ -60,5 +64,55 @@ pub fn setting_line(
         Judgement::BrokenText => Line::Refused(Refusal::ValueText),
         Judgement::BrokenKind => Line::Refused(Refusal::ValueKind),
         Judgement::Good(v) => Line::Setting(i, value, v),
+    }
+}
+
+// A place in the part of the file that starts at start, as a place in the file.
+fn moved(file: &[u8], p: Place, start: usize) -> Place
+    requires { ⌜ (p .start ≤ p .end) × (start + p .end ≤ length (now file)) ⌝ }
+    ensures { λ r. ⌜ r ≡ record { start = start + p .start; end = start + p .end } ⌝ }
+{
+    Place {
+        start: start + p.start,
+        end: start + p.end,
+    }
+}
+
+// The refusal of a line that breaks a rule by itself.
+fn refusal_of(b: Break) -> Refusal
+    ensures { λ r. ⌜ r ≡ breakOf b ⌝ }
+{
+    match b {
+        Break::Unrecognized => Refusal::Unrecognized,
+        Break::Extension => Refusal::Extension,
+        Break::BadHeader => Refusal::BadHeader,
+    }
+}
+
+// What the line from start to end is after the lines before it.
+pub fn line_at(
+    d: Dialect,
+    file: &[u8],
+    x: &[usize; 384],
+    current: Current,
+    start: usize,
+    end: usize,
+) -> Line
+    requires low { ⌜ start ≤ end ⌝ }
+    requires within { ⌜ end ≤ length (now file) ⌝ }
+    requires long { ⌜ length (now x) ≡ 384 ⌝ }
+    ensures { λ r. ⌜ LineSays d (now (file .entry)) (now (x .entry)) current start (part start end (now (file .entry))) r ⌝ }
+{
+    let form = lines::form_of(d, &file[start..end]);
+    match form {
+        Form::Blank => Line::Blank,
+        Form::Comment => Line::Comment,
+        Form::Header(name) => Line::Header(moved(file, name, start)),
+        Form::Setting(key, value) => {
+            let k = moved(file, key, start);
+            let v = moved(file, value, start);
+            setting_line(d, file, x, current, k, v)
+        }
+        Form::Broken(b) => Line::Refused(refusal_of(b)),
     }
 }

@@ -3,12 +3,17 @@
 // What the lines before left behind is a few scalars (`State`) and a lent table of places (`store`): a row for each group,
 // by the keys' places in it, a row for the service that is asked for, and the places of the services' names.
 pub mod closing;
+pub mod ending;
+pub mod file_rules;
 pub mod headings;
 pub mod judging;
+pub mod opening;
 pub mod services;
+pub mod steps;
 pub mod store;
 
 use kinds::Value;
+use names::Suffix;
 use rules::Group;
 use rules::Refusal;
 use text::Place;
@@ -19,7 +24,7 @@ pub enum Current {
     In(Group),
 }
 
-// The first fault of the services before the latest, if any.
+// The first fault of groups as a whole, if any: while lines are read, of the services before the latest.
 pub enum Pending {
     Nothing,
     At(Refusal, usize),
@@ -53,4 +58,17 @@ pub enum Rule {
 pub enum Heading {
     Opens(Group),
     Refused(Refusal),
+}
+
+// What a line does: the pass goes on with what is known after it, or it stops.
+pub enum Stepped {
+    Goes(State),
+    Stops(Refusal),
+}
+
+// What a file's name says: nothing good, or of which kind the file is.
+pub enum FileKind {
+    Misnamed,
+    Iwd(Suffix),
+    ConnMan,
 }

@@ -71,7 +71,7 @@ pub fn both(a: bool, b: bool) -> bool
     a && b
 }
 
-// Whether a key of the latest service is given, by its slot.
+// Whether a key is given, by its slot.
 pub fn taken(x: &[usize; 384], i: usize) -> bool
     requires { ⌜ (length (now x) ≡ 384) × (i < 128) ⌝ }
     ensures { λ r. ⌜ r ≡ not (eqb (slot i (now (x .entry)) .line) 0) ⌝ }

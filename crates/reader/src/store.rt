@@ -45,7 +45,7 @@ pub fn copy_row(x: &mut [usize; 384], from: usize, to: usize)
 }
 
 // Keeps the latest service's row where that is the service asked for.
-fn keep_found(x: &mut [usize; 384], wanted: usize, services: usize)
+pub fn keep_found(x: &mut [usize; 384], wanted: usize, services: usize)
     requires { ⌜ length (now x) ≡ 384 ⌝ }
     ensures { λ _. ⌜ Overwritten 96 16 (slotsFrom (cond (eqb wanted services) 80 96) (now (x .entry))) (now (x .entry)) (now (x .exit)) ⌝ }
 {

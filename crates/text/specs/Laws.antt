@@ -2,14 +2,14 @@
 use mathlib.Core.Path.{_≡_, refl, ap, ap₂, sym, _∙_}
 use borrow.Author.Tests.{eq-eqb, ne-eqb, eqb-true, eqb-false, le-leb, lt-leb, leb-true, not-true}
 use Prim.Native.Nat.{ℕ, zero, suc, _+_, _-_, _≤_, _<_, zero-le, suc-le-suc}
-use native.Mathlib.Nat.{not-suc-le-zero, sub-self}
+use native.Mathlib.Nat.{not-suc-le-zero, sub-self, zero-add}
 use native.Mathlib.Numerals.{add-one}
 use native.Mathlib.Omega.{arith}
 use mathlib.Core.Bool.{Bool, true, false, cond, not, _&&_, false≢true, true≢false}
 use mathlib.Core.List.{List, [], _∷_, _++_}
 use lib.Dec.{eqb, leb}
-use lib.ListN.{length, take, drop, set, getD, replicate, drop-of-length-le, length-append}
-use lib.Seq.{drop-cons, set-at, append-snoc}
+use lib.ListN.{length, take, drop, set, getD, replicate, drop-of-length-le, length-append, length-take, length-drop}
+use lib.Seq.{drop-cons, set-at, append-snoc, drop-drop, take-take, take-nil}
 use Rattle.text.specs.Bytes.{between, other, inLine}
 use Rattle.text.specs.Parts.{lead, front, after, all, onto, lines, pieces, part, empty, padded}
 use Rattle.text.specs.Words.{same}
@@ -226,3 +226,27 @@ part-some s a e h k = ap (λ (n : ℕ). empty (take n (drop a s))) le-suc ∙ rw
   where
     le-suc : e - a ≡ suc (e - a - 1)
     le-suc = omega arith
+
+-- ---- a part of a part
+
+drop-take : (a n : ℕ) (l : List ℕ) → drop a (take (a + n) l) ≡ take n (drop a l)
+drop-take zero n l = ap (λ (m : ℕ). take m l) (zero-add n)
+drop-take (suc a) n [] = ap (drop (suc a)) (take-nil (suc a + n)) ∙ sym (take-nil n)
+drop-take (suc a) n (x ∷ l) = ap (λ (m : ℕ). drop (suc a) (take m (x ∷ l))) k ∙ drop-take a n l
+  where
+    k : suc a + n ≡ suc (a + n)
+    k = omega arith
+
+pub part-long : (s : List ℕ) (i e : ℕ) → i ≤ e → e ≤ length s → length (part i e s) ≡ e - i
+part-long s i e h k = simp (length-take, length-drop) (omega arith)
+
+pub part-part : (s : List ℕ) (i e a b : ℕ) → i ≤ e → e ≤ length s → a ≤ b → b ≤ length (part i e s) → part a b (part i e s) ≡ part (i + a) (i + b) s
+part-part s i e a b h k l m =
+    let q : b ≤ e - i = omega (arith, part-long s i e h k) in
+    let r : e - i ≡ a + (e - i - a) = omega arith in
+    let w : b - a ≤ e - i - a = omega arith in
+    let y : b - a ≡ i + b - (i + a) = omega arith in
+    ap (λ (n : ℕ). take (b - a) (drop a (take n (drop i s)))) r
+    ∙ ap (take (b - a)) (drop-take a (e - i - a) (drop i s))
+    ∙ take-take (b - a) (e - i - a) (drop a (drop i s)) w
+    ∙ ap₂ (λ (n : ℕ) (t : List ℕ). take n t) y (drop-drop a i s)

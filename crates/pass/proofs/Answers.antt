@@ -1,0 +1,107 @@
+-- The reading of a file: one law for each return.
+use Prim.Native.Nat.{ℕ, _≤_, _<_}
+use native.Mathlib.Omega.{arith}
+use mathlib.Core.Path.{_≡_, refl, ap, sym, _∙_, subst}
+use mathlib.Core.Bool.{Bool, true, false}
+use mathlib.Core.List.{List, [], _∷_, reverse}
+use mathlib.Core.Option.{Option, none, some, Option·none-ne-some, Option·some-injective}
+use borrow.Author.Tests.{le-leb, lt-leb}
+use denote.Enum.Declared.{tagOf}
+use types.Run.{OneOf, miss}
+use lib.ListN.{length}
+use Rattle.text.specs.Options.{orElse, mapped, only}
+use Rattle.text.specs.Parts.{lines}
+use Rattle.text.specs.declared.Dialect.{Dialect}
+use Rattle.text.specs.declared.Dialect.the-variants.{Iwd, ConnMan}
+use Rattle.names.specs.Names.{Network, networkOf, connmanName}
+use Rattle.rules.specs.Faults.{Section}
+use Rattle.rules.specs.Groups.{Fault}
+use Rattle.rules.specs.Reading.{Name, iwdName, connmanFile, lineFault, grown, sectionsOf, nameIn, groupsFault, verdict, readingOf, reading}
+use Rattle.rules.specs.declared.Reading.{Reading}
+use Rattle.rules.specs.declared.Reading.the-variants.{Accepted, Refused}
+use Rattle.rules.specs.declared.Refusal.{Refusal}
+use Rattle.rules.specs.declared.Refusal.the-variants.{Size, FileName}
+use Rattle.reader.specs.Holds.{Holds}
+use Rattle.reader.specs.Steps.{Known}
+use Rattle.reader.specs.Ending.{kindOfName, dialectOf, Held, Ends}
+use Rattle.reader.specs.declared.FileKind.{FileKind}
+use Rattle.reader.specs.declared.FileKind.the-variants as K
+use Rattle.reader.specs.declared.State.{State}
+use Rattle.reader.proofs.FileKind.{the-type}
+use Rattle.pass.specs.Pass.{WalkIs, Walks, Found, ReadsKind, Reads}
+use Rattle.pass.specs.declared.Walked.{Walked}
+use Rattle.pass.specs.declared.Walked.the-variants.{Through, Stopped}
+
+-- ---- the kind of a name
+
+name-dialect : (d : Dialect) (name : List ℕ) {n : Name} → nameIn d name ≡ some n → dialectOf n ≡ d
+name-dialect Iwd name {n} e = go (networkOf name) e
+  where
+    go : (o : Option Network) → mapped (λ x. iwdName (x .suffix)) o ≡ some n → dialectOf n ≡ Iwd
+    go none e = absurd (Option·none-ne-some n e)
+    go (some x) e = ap dialectOf (sym (Option·some-injective (iwdName (x .suffix)) n e))
+name-dialect ConnMan name {n} e = go (connmanName name) e
+  where
+    go : (b : Bool) → only b (some connmanFile) ≡ some n → dialectOf n ≡ ConnMan
+    go true e = ap dialectOf (sym (Option·some-injective connmanFile n e))
+    go false e = absurd (Option·none-ne-some n e)
+
+some-kind : (n : Name) → K.Misnamed ≡ kindOfName (some n) → ⊥
+some-kind (iwdName s) e = let z : _≡_ {A = ℕ} 0 1 = cc in omega arith
+some-kind connmanFile e = let z : _≡_ {A = ℕ} 0 1 = cc in omega arith
+
+none-kind : (k : FileKind) → OneOf (1 ∷ 2 ∷ []) (tagOf the-type k) → k ≡ kindOfName none → ⊥
+none-kind K.Misnamed t e = miss (1 ∷ 2 ∷ []) 0 tt t
+none-kind (K.Iwd s) t e = let z : _≡_ {A = ℕ} 0 1 = cc in omega arith
+none-kind K.ConnMan t e = let z : _≡_ {A = ℕ} 0 1 = cc in omega arith
+
+refused-accepted : {A : Type 0} {f : Refusal} {l n m : ℕ} → Refused f l ≡ Accepted n m → A
+refused-accepted e = let z : _≡_ {A = ℕ} 0 1 = cc in absurd (omega arith)
+
+-- ---- a file whose size is allowed
+
+module _ {d : Dialect} {file : List ℕ} {w : ℕ} {y : List ℕ} where
+  pub kind-misnamed : {k : FileKind} → k ≡ K.Misnamed → ReadsKind k d file w y (Refused FileName 0)
+  kind-misnamed {k} e = record { is = λ name q. go (nameIn d name) q; found = λ q. refused-accepted q }
+    where
+      go : (o : Option Name) → k ≡ kindOfName o → Refused FileName 0 ≡ readingOf d o file
+      go none q = refl
+      go (some n) q = absurd (some-kind n (sym e ∙ q))
+
+module _ {d : Dialect} {file : List ℕ} {w : ℕ} {x : List ℕ} {r : Walked} (h : Walks d file w x r) where
+  walked : {q : Walked} → r ≡ q → WalkIs d file w x q
+  walked e = subst (WalkIs d file w x) e (h .is)
+
+  pub walked-held : {st : State} → r ≡ Through st → Held file w st x
+  walked-held e = record { dialect = d; known = record { groups = grown d 1 0 [] (lines file); holds = walked e .1 } }
+
+  module _ {k : FileKind} (t : OneOf (1 ∷ 2 ∷ []) (tagOf the-type k)) where
+    pub kind-stopped : {f : Refusal} {l : ℕ} → r ≡ Stopped f l → ReadsKind k d file w x (Refused f l)
+    kind-stopped {f} {l} e = record { is = λ name q. go (nameIn d name) q; found = λ q. refused-accepted q }
+      where
+        go : (o : Option Name) → k ≡ kindOfName o → Refused f l ≡ readingOf d o file
+        go none q = absurd (none-kind k t q)
+        go (some n) q = rw (walked e)
+
+    pub kind-through : {st : State} → r ≡ Through st → {a : Reading} {y : List ℕ} → Ends k file w st x a y → ReadsKind k d file w y a
+    unfolding sectionsOf
+    kind-through {st} e {a} {y} ends =
+        record {
+          is = λ name q. go name (nameIn d name) refl q;
+          found = λ q. record { groups = grown d 1 0 [] (lines file); all = refl; kept = ends .kept d (grown d 1 0 [] (lines file)) (walked e .1) };
+        }
+      where
+        go : (name : List ℕ) (o : Option Name) → nameIn d name ≡ o → k ≡ kindOfName o → a ≡ readingOf d o file
+        go name none v q = absurd (none-kind k t q)
+        go name (some n) v q = rw (walked e .0) (ends .reading n q (grown d 1 0 [] (lines file)) (subst (λ (b : Dialect). Holds b file w st x (grown d 1 0 [] (lines file))) (sym (name-dialect d name v)) (walked e .1)))
+
+-- ---- any file
+
+module _ {d : Dialect} {name file : List ℕ} {w : ℕ} {y : List ℕ} where
+  pub reads-large : 16384 < length file → Reads d name file w y (Refused Size 0)
+  unfolding reading
+  reads-large l = record { is = rw (lt-leb (length file) 16384 l); found = λ q. refused-accepted q }
+
+  pub reads-small : length file ≤ 16384 → {k : FileKind} → k ≡ kindOfName (nameIn d name) → {r : Reading} → ReadsKind k d file w y r → Reads d name file w y r
+  unfolding reading
+  reads-small l e h = record { is = rw (le-leb (length file) 16384 l) (h .is name e); found = h .found }

@@ -1,0 +1,15 @@
+-- The rules by the answers over their parts.
+use borrow.Author.Needs.{needs}
+use Rattle.reader.proofs.file_rules.file_lacks.Statement.{statement}
+use Rattle.reader.proofs.file_rules.file_lacks.Tie as tie
+
+pub file-lacks-spec : {M : Type 1} → statement M
+file-lacks-spec =
+    tie.close
+    (tie.spec
+    (λ c κs. search needs)
+    (λ c κs. search needs)
+    (λ c κs. search needs)
+    (λ c κs. search needs)
+    (λ c κs. search needs)
+    (λ c. cc))

@@ -1,0 +1,17 @@
+-- The rules by the answers over their parts.
+use borrow.Author.Needs.{needs}
+use Rattle.reader.proofs.file_rules.lacks_address.Statement.{statement}
+use Rattle.reader.proofs.file_rules.lacks_address.Tie as tie
+
+pub lacks-address-spec : {M : Type 1} → statement M
+lacks-address-spec =
+    tie.close
+    (tie.spec
+    (λ c κs. search needs)
+    (λ c κs. search needs)
+    (λ c κs. search needs)
+    (λ c κs. search needs)
+    (λ c κs. search needs)
+    (λ c κs. search needs)
+    (λ c κs. search needs)
+    (λ c. cc))

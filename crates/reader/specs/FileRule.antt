@@ -1,0 +1,36 @@
+-- The rules over an iwd file as a whole, by the slots of its groups' rows in the table of places.
+use Prim.Native.Nat.{ℕ}
+use mathlib.Core.Bool.{Bool, not, _&&_, _||_}
+use mathlib.Core.List.{List}
+use mathlib.Core.Option.{Option}
+use Rattle.names.specs.declared.Suffix.{Suffix}
+use Rattle.rules.specs.Groups.{isOpen, lackOrClash}
+use Rattle.rules.specs.declared.Refusal.{Refusal}
+use Rattle.reader.specs.Closing.{isTaken}
+
+-- ---- the slots of Passphrase and PreSharedKey
+
+abbrev pub slotsSecret : List ℕ → Bool
+slotsSecret x = isTaken x 17 || isTaken x 18
+
+abbrev pub slotsSecretless : Suffix → List ℕ → Bool
+slotsSecretless s x = not (isOpen s) && not (slotsSecret x)
+
+-- ---- the slots of Address, Gateway, Broadcast and Netmask
+
+abbrev pub slotsGatewayless : List ℕ → Bool
+slotsGatewayless x = isTaken x 33 && not (isTaken x 34)
+
+abbrev pub slotsAddressless : List ℕ → Bool
+slotsAddressless x = (isTaken x 34 || (isTaken x 36 || isTaken x 35)) && not (isTaken x 33)
+
+-- ---- the rules
+
+abbrev pub slotsFileLacks : Suffix → List ℕ → Bool
+slotsFileLacks s x = slotsSecretless s x || (slotsGatewayless x || slotsAddressless x)
+
+abbrev pub slotsFileClashes : Suffix → List ℕ → Bool
+slotsFileClashes s x = isOpen s && slotsSecret x
+
+unfoldable pub slotsFile : Suffix → List ℕ → Option Refusal
+slotsFile s x = lackOrClash (slotsFileLacks s x) (slotsFileClashes s x)

@@ -1,0 +1,47 @@
+// The step over one line.
+ghost use Prim.Native.Nat.{_≤_, _<_};
+ghost use lib.ListN.{length};
+ghost use Rattle.text.specs.Parts.{part};
+ghost use Rattle.lines.specs.Lines.{lineOf, valueStart};
+ghost use Rattle.reader.specs.Steps.{Known, Steps};
+use crate::Line;
+use crate::State;
+use crate::Stepped;
+use crate::judging::line_at;
+use crate::opening::header_step;
+use crate::store::put_slot;
+use text::Dialect;
+
+// The step over the line from start to end: blank and comment lines are passed over, a setting's place is stored.
+pub fn step(
+    d: Dialect,
+    file: &[u8],
+    x: &mut [usize; 384],
+    wanted: usize,
+    st: State,
+    start: usize,
+    end: usize,
+    line: usize,
+) -> Stepped
+    requires known { ⌜ Known d (now file) wanted st (now x) ⌝ }
+    requires low { ⌜ start ≤ end ⌝ }
+    requires within { ⌜ end ≤ length (now file) ⌝ }
+    requires counted { ⌜ st .settings < line ⌝ }
+    ensures { λ r. ⌜ Steps d (now (file .entry)) wanted st (now (x .entry)) line start (valueStart d (part start end (now (file .entry)))) (lineOf d (part start end (now (file .entry)))) (now (x .exit)) r ⌝ }
+{
+    let current = st.current;
+    let l = line_at(d, file, x, current, start, end);
+    if let Line::Header(name) = l {
+        return header_step(d, file, x, wanted, st, start, name, line);
+    }
+    if let Line::Refused(r) = l {
+        return Stepped::Stops(r);
+    }
+    let Line::Setting(i, value, v) = l else {
+        return Stepped::Goes(st);
+    };
+    put_slot(x, i, value.start, value.end, line);
+    let mut next = st;
+    next.settings = st.settings + 1;
+    Stepped::Goes(next)
+}
