@@ -1,3 +1,4 @@
 pub mod Names
+pub mod Dialects
 pub mod Laws
 pub mod Cases

@@ -1,7 +1,9 @@
 // File names: an iwd name to its network and back, and whether a name is ConnMan's.
 //
 // This is document 01's section "File names"; the definitions are in specs/Names, the laws (one network and kind has one
-// file name) in specs/Laws.
+// file name) in specs/Laws. `dialects` tells which dialect a name asks for.
+pub mod dialects;
+
 ghost use mathlib.Core.Path.{_≡_};
 ghost use mathlib.Core.Option.{none};
 ghost use Prim.Native.Nat.{_+_, _≤_};

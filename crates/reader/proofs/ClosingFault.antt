@@ -68,7 +68,7 @@ pending-or (some f) b = refl
 
 -- ---- the table's slots
 
-kept-in : (file x : List ℕ) (i : ℕ) (o : Option Entry) → length x ≡ 384 → i < 128 → Kept file (slot i x) o → SlotIn file x i
+pub kept-in : (file x : List ℕ) (i : ℕ) (o : Option Entry) → length x ≡ 384 → i < 128 → Kept file (slot i x) o → SlotIn file x i
 kept-in file x i none l few q = record { long = l; few = few; low = rw (ap (λ (s : Slot). s .start) q, ap (λ (s : Slot). s .end) q) (le-refl 0); high = rw (ap (λ (s : Slot). s .end) q) (omega arith) }
 kept-in file x i (some e) l few h = record { long = l; few = few; low = h .low; high = h .high }
 

@@ -12,6 +12,7 @@ pub mod GoodHeader
 pub mod InFile
 pub mod OneLine
 pub mod WholeFile
+pub mod Values
 pub mod SettingLine
 pub mod Growing
 pub mod PlainHeading

@@ -4,7 +4,9 @@ ghost use Prim.Native.Nat.{_+_, _≤_, _<_};
 ghost use mathlib.Core.Bool.{cond};
 ghost use lib.Dec.{eqb};
 ghost use lib.ListN.{length};
-ghost use Rattle.reader.specs.Store.{stored, Overwritten, nowhere, slotsFrom, Began};
+ghost use Rattle.text.specs.Parts.{part};
+ghost use Rattle.reader.specs.Store.{slot, stored, Overwritten, nowhere, slotsFrom, Began};
+ghost use Rattle.reader.specs.Closing.{SlotIn};
 use text::Place;
 
 // Puts a place and its line into a slot.
@@ -70,4 +72,14 @@ pub fn begin_service(
     clear_row(x, 80);
     put_slot(x, 80, header, header, line);
     put_slot(x, 112 + services, name.start, name.end, line);
+}
+
+// The value that stands at a slot, a part of the file; empty where there is none.
+pub fn value_at<'a, 'b>(file: &'a [u8], x: &'b [usize; 384], i: usize) -> &'a [u8]
+    requires { ⌜ SlotIn (now file) (now x) i ⌝ }
+    ensures { λ r. ⌜ now r ≡ part (slot i (now (x .entry)) .start) (slot i (now (x .entry)) .end) (now (file .entry)) ⌝ }
+{
+    let start = x[i];
+    let end = x[128 + i];
+    &file[start..end]
 }

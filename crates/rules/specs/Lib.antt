@@ -3,6 +3,7 @@ pub mod Tables
 pub mod Faults
 pub mod Groups
 pub mod Reading
+pub mod Asking
 pub mod Lookups
 pub mod Cases
 pub mod Acceptance

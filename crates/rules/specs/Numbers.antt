@@ -4,6 +4,8 @@ use Rattle.rules.specs.declared.Refusal.{Refusal}
 use Rattle.rules.specs.declared.Refusal.the-variants.{Size, FileName, Unrecognized, Extension, BadHeader, UnknownGroup, RepeatedGroup, NoGroup, UnknownKey, RepeatedKey, ValueText, ValueKind, ManyServices, Missing, Contradiction, NoPlace, ShortBuffer, NoService, Malformed}
 use Rattle.rules.specs.declared.Reading.{Reading}
 use Rattle.rules.specs.declared.Reading.the-variants.{Accepted, Refused}
+use Rattle.rules.specs.declared.Answer.{Answer}
+use Rattle.rules.specs.declared.Answer.the-variants as A
 
 -- 01's table, without 0, "accepted"
 abbrev pub numberOf : Refusal → ℕ
@@ -37,3 +39,12 @@ pub record Seen : Type 0 where
 abbrev pub seenOf : Reading → Seen
 seenOf (Accepted n m) = record { number = 0; line = 0; settings = n; services = m }
 seenOf (Refused r l) = record { number = numberOf r; line = l; settings = 0; services = 0 }
+
+-- the number and the line of any other answer; what else it gives stands beside it
+abbrev pub answerNumber : Answer → ℕ
+answerNumber A.Good = 0
+answerNumber (A.Refused r l) = numberOf r
+
+abbrev pub answerLine : Answer → ℕ
+answerLine A.Good = 0
+answerLine (A.Refused r l) = l

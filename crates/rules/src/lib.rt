@@ -2,6 +2,7 @@
 //
 // This is document 01's "The numbers a caller sees", its lists of groups and keys, and "Rules over a group".
 pub mod key_kinds;
+pub mod numbers;
 pub mod tables;
 
 use kinds::Kind;
@@ -32,6 +33,12 @@ pub enum Refusal {
 // What a reading answers: the numbers of settings and services, or the refusal and its line.
 pub enum Reading {
     Accepted(usize, usize),
+    Refused(Refusal, usize),
+}
+
+// What else is asked of a file: it is answered, or the refusal and its line.
+pub enum Answer {
+    Good,
     Refused(Refusal, usize),
 }
 

@@ -1,0 +1,122 @@
+// How a name or a file is written in the table: `%` and two hex digits stand for a byte, `%*` and five decimal digits for
+// that many times the byte written behind them; any other byte stands as it is.
+ghost use mathlib.Core.Path.{_≡_};
+ghost use Prim.Native.Nat.{_+_, _≤_, _<_};
+ghost use lib.ListN.{length};
+
+// A byte, how often it stands, and where the next one is written.
+struct Run {
+    value: u8,
+    count: usize,
+    next: usize,
+}
+
+// The byte that is written at i: by `%` and two hex digits, or as it stands.
+fn byte_at(s: &[u8], i: usize) -> Run
+    requires { ⌜ i < length (now s) ⌝ }
+    ensures { λ r. ⌜ (i < r .next) × (r .next ≤ length (now (s .entry))) ⌝ }
+{
+    let stands = Run {
+        value: s[i],
+        count: 1,
+        next: i + 1,
+    };
+    if s[i] != 37 {
+        return stands;
+    }
+    if s.len() - i < 3 {
+        return stands;
+    }
+    let high = hex::value(s[i + 1]);
+    let low = hex::value(s[i + 2]);
+    if 15 < high {
+        return stands;
+    }
+    if 15 < low {
+        return stands;
+    }
+    Run {
+        value: high * 16 + low,
+        count: 1,
+        next: i + 3,
+    }
+}
+
+// A decimal digit's value, 0 where c is none.
+fn digit(c: u8) -> usize
+    ensures { λ r. ⌜ r ≤ 9 ⌝ }
+{
+    let v = hex::value(c);
+    if 9 < v {
+        return 0;
+    }
+    v as usize
+}
+
+// The number that five decimal digits at i give.
+fn count_at(s: &[u8], i: usize) -> usize
+    requires { ⌜ i + 5 ≤ length (now s) ⌝ }
+    ensures { λ r. ⌜ r ≤ 99999 ⌝ }
+{
+    let tens = digit(s[i]) * 10 + digit(s[i + 1]);
+    let hundreds = tens * 10 + digit(s[i + 2]);
+    let thousands = hundreds * 10 + digit(s[i + 3]);
+    thousands * 10 + digit(s[i + 4])
+}
+
+// What is written at i: a byte that is repeated, or a single one.
+fn run_at(s: &[u8], i: usize) -> Run
+    requires { ⌜ i < length (now s) ⌝ }
+    ensures { λ r. ⌜ (i < r .next) × (r .next ≤ length (now (s .entry))) ⌝ }
+{
+    if s.len() - i < 8 {
+        return byte_at(s, i);
+    }
+    if s[i] != 37 {
+        return byte_at(s, i);
+    }
+    if s[i + 1] != 42 {
+        return byte_at(s, i);
+    }
+    let count = count_at(s, i + 2);
+    let b = byte_at(s, i + 7);
+    Run {
+        value: b.value,
+        count,
+        next: b.next,
+    }
+}
+
+// Writes a byte count times from a place of out on, and returns the place behind; more than out has where they do not fit.
+fn fill(out: &mut [u8], from: usize, value: u8, count: usize) -> usize
+    requires { ⌜ from ≤ length (now out) ⌝ }
+    ensures { λ r. ⌜ length (now (out .exit)) ≡ length (now (out .entry)) ⌝ }
+{
+    if out.len() - from < count {
+        return out.len() + 1;
+    }
+    let end = from + count;
+    let mut n = from;
+    while n < end {
+        out[n] = value;
+        n += 1;
+    }
+    n
+}
+
+// Writes the bytes that s gives at the front of out, and returns how many; more than out has where they do not fit.
+pub(crate) fn decode(out: &mut [u8], s: &[u8]) -> usize
+    ensures { λ r. ⌜ length (now (out .exit)) ≡ length (now (out .entry)) ⌝ }
+{
+    let mut n = 0;
+    let mut i = 0;
+    while i < s.len() {
+        let r = run_at(s, i);
+        n = fill(out, n, r.value, r.count);
+        if out.len() < n {
+            return n;
+        }
+        i = r.next;
+    }
+    n
+}

@@ -1,0 +1,4 @@
+pub mod Forming
+pub mod Fronts
+pub mod Parts
+pub mod Answering

@@ -1,0 +1,79 @@
+-- What a slot says of the setting that it keeps: what its value reads as, its line and its start; and the settings of a service by its number.
+use Prim.Native.Nat.{ℕ, zero, suc, _+_, _≤_, _<_}
+use native.Mathlib.Omega.{arith}
+use mathlib.Core.Path.{_≡_, refl, ap, sym, _∙_}
+use mathlib.Core.Bool.{Bool, true, false, cond, _&&_}
+use mathlib.Core.List.{List, [], _∷_, _++_, reverse, reverse-cons}
+use mathlib.Core.Option.{Option, none, some}
+use borrow.Author.Tests.{eq-eqb, ne-eqb, eqb-true, eqb-false}
+use lib.Dec.{eqb}
+use lib.ListN.{length}
+use Rattle.text.specs.Parts.{part}
+use Rattle.text.specs.Laws.{part-none}
+use Rattle.rules.specs.Faults.{Entry, Section, serves, services}
+use Rattle.rules.specs.Asking.{firstOr, serviceAt, readAs, lineIn, startIn}
+use Rattle.reader.specs.Store.{Slot}
+use Rattle.reader.specs.History.{numbered}
+use Rattle.reader.specs.Holds.{Kept}
+use Rattle.reader.proofs.Backwards.{services-reverse}
+
+module _ (file : List ℕ) (s : Slot) where
+  -- a kind that reads nothing from no bytes
+  pub kept-read : {A : Type 0} (f : List ℕ → Option A) → f [] ≡ none → (o : Option Entry) → Kept file s o → f (part (s .start) (s .end) file) ≡ readAs f o
+  kept-read f e none q = rw (ap (λ (t : Slot). t .start) q, ap (λ (t : Slot). t .end) q, part-none file 0) e
+  kept-read f e (some x) h = ap f (h .value)
+
+  pub kept-line : (o : Option Entry) → Kept file s o → s .line ≡ lineIn o
+  kept-line none q = ap (λ (t : Slot). t .line) q
+  kept-line (some x) h = h .line
+
+  pub kept-start : (o : Option Entry) → Kept file s o → s .start ≡ startIn o
+  kept-start none q = ap (λ (t : Slot). t .start) q
+  kept-start (some x) h = h .start
+
+-- ---- a service by its number, the groups in file order and the latest first
+
+-- a number at the end of a list of services, or one of those before
+abbrev lastOr : Section → Bool → List Entry → List Entry
+lastOr g b rest = cond (serves (g .group) && b) (g .entries) rest
+
+last-none : (g : Section) {b : Bool} (rest : List Entry) → b ≡ false → rest ≡ lastOr g b rest
+last-none g {b} rest e = rw e (go (serves (g .group)))
+  where
+    go : (t : Bool) → rest ≡ cond (t && false) (g .entries) rest
+    go true = refl
+    go false = refl
+
+eqb-suc : (a b : ℕ) → eqb a b ≡ eqb (suc a) (suc b)
+eqb-suc a b = go (eqb a b) refl
+  where
+    go : (t : Bool) → eqb a b ≡ t → t ≡ eqb (suc a) (suc b)
+    go true e = sym (eq-eqb (suc a) (suc b) (ap suc (eqb-true a b e)))
+    go false e = sym (ne-eqb (suc a) (suc b) (λ q. eqb-false a b e (omega (arith, q))))
+
+service-last : (a : List Section) (w : ℕ) (g : Section) → serviceAt w (a ++ (g ∷ [])) ≡ lastOr g (eqb w (suc (services a))) (serviceAt w a)
+service-last a zero g = last-none g [] (ne-eqb 0 (suc (services a)) (λ q. omega (arith, q)))
+service-last [] (suc zero) g = go (serves (g .group))
+  where
+    go : (b : Bool) → cond b (g .entries) [] ≡ cond (b && true) (g .entries) []
+    go true = refl
+    go false = refl
+service-last [] (suc (suc n)) g = go (serves (g .group)) ∙ last-none g [] (ne-eqb (suc (suc n)) 1 (λ q. omega (arith, q)))
+  where
+    go : (b : Bool) → _≡_ {A = List Entry} (cond b [] []) []
+    go true = refl
+    go false = refl
+service-last (x ∷ a) (suc n) g = go (serves (x .group)) n (service-last a n g) (service-last a (suc n) g)
+  where
+    go : (b : Bool) (n : ℕ) → serviceAt n (a ++ (g ∷ [])) ≡ lastOr g (eqb n (suc (services a))) (serviceAt n a) → serviceAt (suc n) (a ++ (g ∷ [])) ≡ lastOr g (eqb (suc n) (suc (services a))) (serviceAt (suc n) a) → cond b (firstOr n (x .entries) (serviceAt n (a ++ (g ∷ [])))) (serviceAt (suc n) (a ++ (g ∷ []))) ≡ lastOr g (eqb (suc n) (suc (cond b (suc (services a)) (services a)))) (cond b (firstOr n (x .entries) (serviceAt n a)) (serviceAt (suc n) a))
+    go false n p q = q
+    go true zero p q = last-none g (x .entries) (ne-eqb 1 (suc (suc (services a))) (λ z. omega (arith, z)))
+    go true (suc m) p q = p ∙ ap (λ (b : Bool). lastOr g b (serviceAt (suc m) a)) (eqb-suc (suc m) (suc (services a)))
+
+none-last : (w : ℕ) → [] ≡ serviceAt w []
+none-last zero = refl
+none-last (suc w) = refl
+
+pub numbered-service : (w : ℕ) (gs : List Section) → numbered w gs ≡ serviceAt w (reverse gs)
+numbered-service w [] = none-last w
+numbered-service w (g ∷ gs) = rw (reverse-cons g gs, service-last (reverse gs) w g, services-reverse gs) (ap (lastOr g (eqb w (suc (services gs)))) (numbered-service w gs))
