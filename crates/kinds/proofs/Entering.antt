@@ -81,20 +81,20 @@ ahead-some (a ∷ l) m = ap (prepend a) (ahead-some l m)
 
 -- ---- the loop: the entries done are good and stand in the arrays, and the rest of s starts at at
 
-pub record Entering (s : List ℕ) (at n : ℕ) (starts ends : List ℕ) : Type 0 where
+pub record Entering (b : ℕ) (s : List ℕ) (at n : ℕ) (starts ends : List ℕ) : Type 0 where
   pub within : at ≤ length s
   pub done : List (List ℕ)
   pub rest : pieces 44 s ≡ done ++ pieces 44 (drop at s)
   pub good : each entry done ≡ some done
   pub long : length done ≡ n
-  pub place : at ≡ behind 0 done
-  pub first : starts ≡ padded 4 (startsFrom 0 done)
-  pub last : ends ≡ padded 4 (endsFrom 0 done)
+  pub place : b + at ≡ behind b done
+  pub first : starts ≡ padded 4 (startsFrom b done)
+  pub last : ends ≡ padded 4 (endsFrom b done)
 
-pub entering-first : (s : List ℕ) → Entering s 0 0 (replicate 4 0) (replicate 4 0)
-entering-first s = record { within = omega arith; done = []; rest = refl; good = refl; long = refl; place = refl; first = refl; last = refl }
+pub entering-first : (b : ℕ) (s : List ℕ) → Entering b s 0 0 (replicate 4 0) (replicate 4 0)
+entering-first b s = record { within = omega arith; done = []; rest = refl; good = refl; long = refl; place = omega arith; first = refl; last = refl }
 
-module _ {s : List ℕ} {at n : ℕ} {starts ends : List ℕ} (h : Entering s at n starts ends) where
+module _ {b : ℕ} {s : List ℕ} {at n : ℕ} {starts ends : List ℕ} (h : Entering b s at n starts ends) where
   pub entering-full : 4 ≤ n → entries s ≡ none
   unfolding entries
   entering-full k =
@@ -115,29 +115,29 @@ module _ {s : List ℕ} {at n : ℕ} {starts ends : List ℕ} (h : Entering s at
     entering-broken k = rw (h .rest, each-append entry (h .done) (pieces 44 (drop at s)), h .good, here .1, entry-none (part at e s) p k) (ap (sized 1 4) (ahead-none (h .done)))
 
     module _ (k : not x ≡ false) (l : n < 4) where
-      size : at + length (part at e s) ≡ e
+      size : b + at + length (part at e s) ≡ b + e
       size = let m : length (part at e s) ≡ e - at = length-take-le (e - at) (drop at s) (simp length-drop (omega (arith, t .within))) in omega (arith, m, stop-low t)
 
       good-more : each entry (h .done ++ (part at e s ∷ [])) ≡ some (h .done ++ (part at e s ∷ []))
       good-more = each-append entry (h .done) (part at e s ∷ []) ∙ rw (h .good, entry-is (part at e s) p k) (ahead-some (h .done) (part at e s ∷ []))
 
-      first-more : set starts n at ≡ padded 4 (startsFrom 0 (h .done ++ (part at e s ∷ [])))
-      first-more = ap (λ (v : List ℕ). set v n at) (h .first) ∙ padded-set 4 (startsFrom 0 (h .done)) n at (starts-long 0 (h .done) ∙ h .long) l ∙ rw (starts-snoc 0 (h .done) (part at e s), ← h .place)
+      first-more : set starts n (b + at) ≡ padded 4 (startsFrom b (h .done ++ (part at e s ∷ [])))
+      first-more = ap (λ (v : List ℕ). set v n (b + at)) (h .first) ∙ padded-set 4 (startsFrom b (h .done)) n (b + at) (starts-long b (h .done) ∙ h .long) l ∙ rw (starts-snoc b (h .done) (part at e s), ← h .place)
 
-      last-more : set ends n e ≡ padded 4 (endsFrom 0 (h .done ++ (part at e s ∷ [])))
-      last-more = ap (λ (v : List ℕ). set v n e) (h .last) ∙ padded-set 4 (endsFrom 0 (h .done)) n e (ends-long 0 (h .done) ∙ h .long) l ∙ rw (ends-snoc 0 (h .done) (part at e s), ← h .place, size)
+      last-more : set ends n (b + e) ≡ padded 4 (endsFrom b (h .done ++ (part at e s ∷ [])))
+      last-more = ap (λ (v : List ℕ). set v n (b + e)) (h .last) ∙ padded-set 4 (endsFrom b (h .done)) n (b + e) (ends-long b (h .done) ∙ h .long) l ∙ rw (ends-snoc b (h .done) (part at e s), ← h .place, size)
 
       long-more : length (h .done ++ (part at e s ∷ [])) ≡ n + 1
       long-more = simp length-append (omega (arith, h .long))
 
-      pub entering-end : e ≡ length s → record { count = n + 1; starts = set starts n at; ends = set ends n e } ≡ entriesAnswer (entries s)
+      pub entering-end : e ≡ length s → record { count = n + 1; starts = set starts n (b + at); ends = set ends n (b + e) } ≡ entriesAnswer b (entries s)
       unfolding entries
       entering-end q =
           let w : pieces 44 s ≡ h .done ++ (part at e s ∷ []) = h .rest ∙ ap (λ (r : List (List ℕ)). h .done ++ r) (pieces-end 44 t q) in
           let v : sized 1 4 (each entry (pieces 44 s)) ≡ some (h .done ++ (part at e s ∷ [])) = rw (w, good-more, long-more, inside {x = n + 1} 1 4 (omega arith) (omega arith)) in
           rw (v, long-more, first-more, last-more)
 
-      pub entering-turn : (e ≡ length s → ⊥) → Entering s (e + 1) (n + 1) (set starts n at) (set ends n e)
+      pub entering-turn : (e ≡ length s → ⊥) → Entering b s (e + 1) (n + 1) (set starts n (b + at)) (set ends n (b + e))
       entering-turn q =
           let m : (e ≡ length s → ⊥) = q in
           record {
@@ -146,7 +146,7 @@ module _ {s : List ℕ} {at n : ℕ} {starts ends : List ℕ} (h : Entering s at
             rest = h .rest ∙ ap (λ (r : List (List ℕ)). h .done ++ r) (pieces-at 44 t q) ∙ sym (append-assoc (h .done) (part at e s ∷ []) (pieces 44 (drop (e + 1) s)));
             good = good-more;
             long = long-more;
-            place = sym (behind-snoc 0 (h .done) (part at e s) ∙ rw (← h .place, size));
+            place = sym (behind-snoc b (h .done) (part at e s) ∙ rw (← h .place, size) (omega arith));
             first = first-more;
             last = last-more;
           }

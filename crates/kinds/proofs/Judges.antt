@@ -109,7 +109,7 @@ module _ (d : Dialect) (v : List ℕ) (p : Place) {k : Kind} {r : Judgement} whe
   unfolding kindJudged typed A.addresses
   addresses-kind {sep} q e h = rw q (h ∙ kept-is p T.addresses (λ a. refl) (A.addresses sep v) (counted 4 (each A.address (A.fields sep v)) e))
 
-  pub entries-kind : k ≡ EntriesKind → {x : Entries} → x ≡ entriesAnswer (K.entries v) → r ≡ keptAt p (not (eqb (x .count) 0)) → r ≡ judgementAt p (kindJudged d k v)
+  pub entries-kind : k ≡ EntriesKind → {x : Entries} → x ≡ entriesAnswer 0 (K.entries v) → r ≡ keptAt p (not (eqb (x .count) 0)) → r ≡ judgementAt p (kindJudged d k v)
   unfolding kindJudged typed K.entries
   entries-kind q e h = rw q (h ∙ kept-is p T.entries (λ a. refl) (K.entries v) (counted 4 (each K.entry (pieces 44 v)) (ap (λ (x : Entries). x .count) e)))
 

@@ -52,8 +52,9 @@ abbrev pub endsFrom : ℕ → List (List ℕ) → List ℕ
 endsFrom at [] = []
 endsFrom at (e ∷ es) = (at + length e) ∷ endsFrom (at + length e + 1) es
 
-abbrev pub entriesAnswer : Option (List (List ℕ)) → Entries
-entriesAnswer o = record { count = length (plain o); starts = padded 4 (startsFrom 0 (plain o)); ends = padded 4 (endsFrom 0 (plain o)) }
+-- a list whose first entry starts at b
+abbrev pub entriesAnswer : ℕ → Option (List (List ℕ)) → Entries
+entriesAnswer b o = record { count = length (plain o); starts = padded 4 (startsFrom b (plain o)); ends = padded 4 (endsFrom b (plain o)) }
 
 abbrev pub macAnswer : Option (List ℕ) → Mac
 macAnswer none = record { ok = false; bytes = replicate 6 0 }

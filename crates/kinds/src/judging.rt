@@ -88,7 +88,7 @@ fn judge_kind(d: Dialect, kind: Kind, v: &[u8], at: Place) -> Judgement
         }
         Kind::Addresses(sep) => kept(addresses::lists::count_addresses(v, sep) != 0, at),
         Kind::Entries => {
-            let e = lists::read_entries(v);
+            let e = lists::read_entries(v, 0);
             kept(e.count != 0, at)
         }
         Kind::Mac => {

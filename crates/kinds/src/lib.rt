@@ -92,7 +92,7 @@ pub struct Ipv4 {
     pub gateway: [u8; 4],
 }
 
-// A list of 1 to 4 entries by their places in the value; count 0 where it is broken.
+// A list of 1 to 4 entries by their places; count 0 where it is broken.
 pub struct Entries {
     pub count: usize,
     pub starts: [usize; 4],

@@ -1,6 +1,8 @@
 // Lists of entries: SearchDomains and Timeservers.
 ghost use mathlib.Core.Path.{_≡_};
 ghost use mathlib.Core.Option.{none};
+ghost use Prim.Native.Nat.{_+_, _≤_};
+ghost use lib.ListN.{length};
 ghost use Rattle.text.specs.Options.{isSome};
 ghost use Rattle.kinds.specs.Kinds.{entry, entries};
 ghost use Rattle.kinds.specs.Answers.{entriesAnswer};
@@ -9,7 +11,7 @@ use text::Class;
 use text::scan;
 
 fn no_entries() -> Entries
-    ensures { λ r. ⌜ r ≡ entriesAnswer none ⌝ }
+    ensures { λ r. ⌜ r ≡ entriesAnswer 0 none ⌝ }
 {
     Entries {
         count: 0,
@@ -31,9 +33,10 @@ fn is_entry(p: &[u8]) -> bool
     scan::all_of(p, Class::Entry)
 }
 
-// One to four entries, one comma between two, by their places.
-pub fn read_entries(s: &[u8]) -> Entries
-    ensures { λ r. ⌜ r ≡ entriesAnswer (entries (now (s .entry))) ⌝ }
+// One to four entries, one comma between two, by their places counted from base, where s starts.
+pub fn read_entries(s: &[u8], base: usize) -> Entries
+    requires { ⌜ base + length (now s) ≤ 18446744073709551615 ⌝ }
+    ensures { λ r. ⌜ r ≡ entriesAnswer base (entries (now (s .entry))) ⌝ }
 {
     let mut starts = [0usize; 4];
     let mut ends = [0usize; 4];
@@ -44,8 +47,8 @@ pub fn read_entries(s: &[u8]) -> Entries
         if !is_entry(&s[at..end]) {
             return no_entries();
         }
-        starts[n] = at;
-        ends[n] = end;
+        starts[n] = base + at;
+        ends[n] = base + end;
         n += 1;
         if end == s.len() {
             return Entries {

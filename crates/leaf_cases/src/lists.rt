@@ -55,7 +55,7 @@ fn say_place(used: bool, start: usize, end: usize) {
 
 // How many entries there are, and where each of them stands.
 fn entries(s: &[u8]) {
-    let r = kinds::lists::read_entries(s);
+    let r = kinds::lists::read_entries(s, 0);
     let n = r.count;
     let starts = r.starts;
     let ends = r.ends;

@@ -50,7 +50,7 @@ pub record Running (d : Dialect) (file : List ℕ) (w : ℕ) (x : List ℕ) (st 
 empty-slot : (i : ℕ) → i < 128 → slot i (replicate 384 0) ≡ emptySlot
 empty-slot i h = rw (getD-replicate {A = ℕ} 384 i 0 0 (omega (arith, h)), getD-replicate {A = ℕ} 384 (128 + i) 0 0 (omega (arith, h)), getD-replicate {A = ℕ} 384 (256 + i) 0 0 (omega (arith, h)))
 
-empty-row : (file : List ℕ) (b : ℕ) (t : List (List ℕ)) → ((k : List ℕ) → b + place k t < 128) → Row file (replicate 384 0) b t []
+pub empty-row : (file : List ℕ) (b : ℕ) (t : List (List ℕ)) → ((k : List ℕ) → b + place k t < 128) → Row file (replicate 384 0) b t []
 empty-row file b t h = record { each = λ k z. empty-slot (b + place k t) (h k) }
 
 pub running-first : (d : Dialect) (file : List ℕ) (w : ℕ) → length file ≤ 16384 → {x : List ℕ} → x ≡ replicate 384 0 → Running d file w x (record { current = Outside; services = 0; settings = 0; pending = Nothing }) 0 1

@@ -1,8 +1,14 @@
 // The entry points: what a program that uses the library calls.
 //
-// None of them has a `requires`: whatever bytes come in, each answers as document 01's table says.
+// None of them has a `requires`: whatever bytes come in, each answers as document 01's table says. `check` reads a file,
+// `typed` gives its settings, `strings` the bytes of its strings, and `is_well_formed` judges a join record.
+pub mod strings;
+pub mod typed;
+
 ghost use mathlib.Core.Path.{_≡_};
 ghost use Rattle.rules.specs.Reading.{reading};
+ghost use Rattle.records.specs.Formed.{formed};
+use records::JoinRecord;
 use rules::Reading;
 use text::Dialect;
 
@@ -13,4 +19,11 @@ pub fn check(d: Dialect, name: &[u8], file: &[u8]) -> Reading
 {
     let mut places = [0; 384];
     pass::read(d, name, file, &mut places, 0)
+}
+
+// Whether a join record and its name servers are well formed.
+pub fn is_well_formed(r: JoinRecord, servers: [[u8; 4]; 4]) -> bool
+    ensures { λ a. ⌜ a ≡ formed r servers ⌝ }
+{
+    records::is_well_formed(r, servers)
 }

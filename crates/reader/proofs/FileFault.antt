@@ -27,7 +27,7 @@ use Rattle.reader.proofs.Backwards.{entries-reverse}
 
 -- the settings of the group with a name are those of the latest such group
 module _ (d : Dialect) (g : Group) (q : groupOf d (groupName g) ≡ some g) (v : serves g ≡ false) where
-  entries-latest : (gs : List Section) → WellNamed d gs → entriesIn (groupName g) gs ≡ latest g gs
+  pub entries-latest : (gs : List Section) → WellNamed d gs → entriesIn (groupName g) gs ≡ latest g gs
   entries-latest [] w = refl
   entries-latest (s ∷ gs) w = go (sameGroup g (s .group)) refl (entries-latest gs (w .3))
     where

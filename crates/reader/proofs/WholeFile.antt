@@ -42,6 +42,7 @@ module _ (k : FileKind) {file : List ℕ} {w : ℕ} {st : State} {x : List ℕ} 
   kept-end : {d : Dialect} {gs : List Section} → Holds d file w st x gs → Kept d file w y gs
   kept-end {d} {gs} h =
       record {
+        long = o .long;
         rows = λ g. row-kept (h .rows g) (λ m z. o .below (base g + place m (keyNames g)) (omega (arith, number-few g, keys-few g m)));
         heads = λ g. o .below (base g) (omega (arith, number-few g)) ∙ h .heads g;
         found = rw (numbered-latest w gs, sym (h .services)) (go (eqb w (st .services)) refl);

@@ -3,6 +3,7 @@ use Prim.Native.Nat.{ℕ, _+_}
 use mathlib.Core.Path.{_≡_}
 use mathlib.Core.List.{List, reverse}
 use mathlib.Core.Option.{Option, none, some}
+use lib.ListN.{length}
 use Rattle.text.specs.declared.Dialect.{Dialect}
 use Rattle.text.specs.declared.Dialect.the-variants as D
 use Rattle.rules.specs.Lookups.{keyNames}
@@ -52,6 +53,7 @@ pub record Held (file : List ℕ) (w : ℕ) (st : State) (x : List ℕ) : Type 0
 
 -- where the settings of each group stand, and those of service w
 pub record Kept (d : Dialect) (file : List ℕ) (w : ℕ) (y : List ℕ) (gs : List Section) : Type 0 where
+  pub long : length y ≡ 384
   pub rows : (g : Group) → Row file y (base g) (keyNames g) (latest g gs)
   pub heads : (g : Group) → slot (base g) y ≡ headSlot g gs
   pub found : Row file y foundBase (keyNames Service) (numbered w gs)

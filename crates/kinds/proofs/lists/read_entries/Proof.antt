@@ -1,5 +1,6 @@
 -- The loop keeps the entries read and their places (`Entering`).
 use Prim.Native.Nat.{_-_}
+use native.Mathlib.Omega.{arith}
 use mathlib.Core.Path.{ap, sym, _∙_}
 use Rattle.kinds.specs.Answers.{entriesAnswer}
 use Rattle.kinds.proofs.Entering.{Entering, entering-first, entering-full, entering-broken, entering-end, entering-turn}
@@ -11,18 +12,20 @@ pub read-entries-spec : {M : Type 1} → statement M
 read-entries-spec =
     tie.close
     (tie.spec
-    (λ s starts₀ ends₀ at₀ n₀ starts ends at n. Entering s at n starts ends)
-    (λ s starts₀ ends₀ at₀ n₀ starts ends at n. 4 - n)
-    (λ c. entering-first _)
+    (λ s base starts₀ ends₀ at₀ n₀ starts ends at n. Entering base s at n starts ends)
+    (λ s base starts₀ ends₀ at₀ n₀ starts ends at n. 4 - n)
+    (λ c. entering-first _ _)
     (λ c κs. search needs)
     (λ c. search needs)
     (λ c. search needs)
     (λ c. search needs)
     (λ c κs. search needs)
     (λ c κs. search needs)
-    (λ c. c .no-entries .ensures ∙ ap entriesAnswer (sym (entering-broken (c .before .before .before .before .before .before .loop .inv) (c .before .before .before .before .find .ensures) (c .before .before .is-entry .ensures) (c .before .if1 .taken))))
+    (λ c. c .no-entries .ensures ∙ ap (entriesAnswer (c .before .before .before .before .before .before .before .before .args .base)) (sym (entering-broken (c .before .before .before .before .before .before .loop .inv) (c .before .before .before .before .find .ensures) (c .before .before .is-entry .ensures) (c .before .if1 .taken))))
+    (λ c. omega (arith, c .before .before .before .before .before .loop .inv .within, c .before .before .before .before .before .before .before .pre))
     (λ c. search needs)
     (λ c. search needs)
+    (λ c. omega (arith, c .before .before .before .find .ensures .within, c .before .before .before .before .before .before .before .pre))
     (λ c. search needs)
     (λ c. search needs)
     (λ c. search needs)
@@ -31,4 +34,4 @@ read-entries-spec =
     (λ c. search needs)
     (λ c. entering-turn (c .before .before .before .before .before .before .loop .inv) (c .before .before .before .before .find .ensures) (c .before .before .is-entry .ensures) (c .before .if1 .left) (c .before .before .before .before .before .loop-test .taken) (c .if2 .left))
     (λ c κs. search needs)
-    (λ c. c .no-entries2 .ensures ∙ ap entriesAnswer (sym (entering-full (c .before .before .loop .inv) (c .before .loop-test .left)))))
+    (λ c. c .no-entries2 .ensures ∙ ap (entriesAnswer (c .before .before .before .before .args .base)) (sym (entering-full (c .before .before .loop .inv) (c .before .loop-test .left)))))

@@ -1,0 +1,18 @@
+-- Each method by its own places.
+use borrow.Author.Needs.{needs}
+use Rattle.records.proofs.is_ipv4.Statement.{statement}
+use Rattle.records.proofs.is_ipv4.Tie as tie
+
+pub is-ipv4-spec : {M : Type 1} → statement M
+is-ipv4-spec =
+    tie.close
+    (tie.spec
+    (λ c. search needs)
+    (λ c κs. search needs)
+    (λ c. search needs)
+    (λ c κs. search needs)
+    (λ c. search needs)
+    (λ c κs. search needs)
+    (λ c. rw (c .before .enum-told .given .1) (c .is-unnumbered .ensures))
+    (λ c. rw (c .before .enum-told2 .given .1) (c .is-unnumbered2 .ensures))
+    (λ c. rw (c .before .enum-told3 .given .1) (c .is-numbered .ensures)))

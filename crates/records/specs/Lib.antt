@@ -1,0 +1,5 @@
+pub mod Record
+pub mod Formed
+pub mod PartLaws
+pub mod Laws
+pub mod Cases

@@ -1,0 +1,4 @@
+pub mod Told
+pub mod Rowwise
+pub mod IwdFile
+pub mod ServiceFile

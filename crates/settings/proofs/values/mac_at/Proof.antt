@@ -1,0 +1,17 @@
+-- The value at the slot, read.
+use Prim.Native.Nat.{ℕ}
+use mathlib.Core.Path.{ap, _∙_}
+use mathlib.Core.List.{List}
+use Rattle.kinds.specs.Kinds.{mac}
+use Rattle.kinds.specs.Answers.{macAnswer}
+use borrow.Author.Needs.{needs}
+use Rattle.settings.proofs.values.mac_at.Statement.{statement}
+use Rattle.settings.proofs.values.mac_at.Tie as tie
+
+pub mac-at-spec : {M : Type 1} → statement M
+mac-at-spec =
+    tie.close
+    (tie.spec
+    (λ c κs. search needs)
+    (λ c κs. search needs)
+    (λ c. c .read-mac .ensures ∙ ap (λ (s : List ℕ). macAnswer (mac s)) (c .before .value-at .ensures)))

@@ -1,0 +1,4 @@
+pub mod Values
+pub mod Settings
+pub mod Rows
+pub mod Asked

@@ -1,0 +1,57 @@
+// The settings of an iwd file.
+ghost use mathlib.Core.Path.{_≡_};
+ghost use Rattle.settings.specs.Asked.{IwdRows, IwdTyped, iwdAnswered, iwdServersAfter};
+use crate::IwdAnswer;
+use crate::IwdSettings;
+use crate::rows;
+use crate::values;
+use addresses::Separator;
+use rules::Answer;
+use rules::Reading;
+use text::Dialect;
+
+// The settings of an iwd file, by the rows of its four groups.
+fn iwd_rows(file: &[u8], x: &[usize; 384]) -> IwdSettings
+    requires { ⌜ IwdRows (now file) (now x) ⌝ }
+    ensures { λ r. ⌜ IwdTyped (now (file .entry)) (now (x .entry)) r ⌝ }
+{
+    IwdSettings {
+        general: rows::general_settings(file, x),
+        security: rows::security_settings(file, x),
+        ipv4: rows::ipv4_settings(file, x),
+        enabled: values::choice_at(Dialect::Iwd, file, x, 49),
+    }
+}
+
+// Puts four name servers into the caller's array.
+pub fn store(out: &mut [[u8; 4]; 4], from: [[u8; 4]; 4])
+    ensures { λ _. ⌜ now (out .exit) ≡ from ⌝ }
+{
+    *out = from;
+}
+
+// The typed settings of an iwd file, and its name servers. A refusal gives settings that are all absent and leaves the name
+// servers as they were.
+pub fn iwd_settings(name: &[u8], file: &[u8], servers: &mut [[u8; 4]; 4]) -> IwdAnswer
+    ensures { λ r. ⌜ r ≡ iwdAnswered (now (name .entry)) (now (file .entry)) ⌝ }
+    ensures { λ r. ⌜ now (servers .exit) ≡ iwdServersAfter (now (name .entry)) (now (file .entry)) (now (servers .entry)) ⌝ }
+{
+    let mut x = [0; 384];
+    let reading = pass::read(Dialect::Iwd, name, file, &mut x, 0);
+    match reading {
+        Reading::Accepted(settings, services) => {
+            store(servers, values::servers_at(Separator::Spaces, file, &x, 37));
+            IwdAnswer {
+                answer: Answer::Good,
+                settings: iwd_rows(file, &x),
+            }
+        }
+        Reading::Refused(refusal, line) => {
+            let none = [0; 384];
+            IwdAnswer {
+                answer: Answer::Refused(refusal, line),
+                settings: iwd_rows(file, &none),
+            }
+        }
+    }
+}

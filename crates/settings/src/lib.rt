@@ -1,0 +1,104 @@
+// The typed settings of an iwd file, and of a ConnMan service by its number: every key that document 01 lists, with its
+// value or absent.
+//
+// A string gives its line here; its bytes are looked up. The name servers stand beside the settings, in an array that the
+// caller lends.
+pub mod iwd;
+pub mod rows;
+pub mod services;
+pub mod values;
+
+use addresses::Address;
+use kinds::Entries;
+use kinds::Ipv4;
+use kinds::Key;
+use kinds::Mac;
+use kinds::Ssid;
+use kinds::Word;
+use rules::Answer;
+
+// A yes/no that may be absent.
+pub enum Choice {
+    Absent,
+    No,
+    Yes,
+}
+
+// A named word that may be absent.
+pub enum Chosen {
+    Absent,
+    Is(Word),
+}
+
+// iwd's group Settings.
+pub struct GeneralSettings {
+    pub auto_connect: Choice,
+    pub hidden: Choice,
+    pub always_randomize_address: Choice,
+    pub address_override: Mac,
+}
+
+// iwd's group Security.
+pub struct SecuritySettings {
+    pub passphrase: usize,
+    pub pre_shared_key: Key,
+}
+
+// iwd's group IPv4.
+pub struct Ipv4Settings {
+    pub address: Address,
+    pub gateway: Address,
+    pub broadcast: Address,
+    pub netmask: u8,
+    pub dns: usize,
+    pub domain_name: usize,
+    pub send_hostname: Choice,
+}
+
+// The settings of an iwd file, by its groups. An absent address, MAC or key is not ok; an absent mask, list or string is 0.
+pub struct IwdSettings {
+    pub general: GeneralSettings,
+    pub security: SecuritySettings,
+    pub ipv4: Ipv4Settings,
+    pub enabled: Choice,
+}
+
+// Which network a ConnMan service joins, and how.
+pub struct NetworkSettings {
+    pub service_type: Chosen,
+    pub name: usize,
+    pub ssid: Ssid,
+    pub passphrase: usize,
+    pub security: Chosen,
+    pub hidden: Choice,
+}
+
+// The addresses of a ConnMan service. The entries of a list stand at places in the file.
+pub struct AddressSettings {
+    pub ipv4: Ipv4,
+    pub ipv6: Chosen,
+    pub privacy: Chosen,
+    pub mac: Mac,
+    pub nameservers: usize,
+    pub search_domains: Entries,
+    pub timeservers: Entries,
+    pub domain: usize,
+}
+
+// The settings of a ConnMan service; what is absent is as in iwd's.
+pub struct ServiceSettings {
+    pub network: NetworkSettings,
+    pub addresses: AddressSettings,
+}
+
+// The answer and the settings of an iwd file; where it is refused, all are absent.
+pub struct IwdAnswer {
+    pub answer: Answer,
+    pub settings: IwdSettings,
+}
+
+// The answer and the settings of a service; where it is refused, all are absent.
+pub struct ServiceAnswer {
+    pub answer: Answer,
+    pub settings: ServiceSettings,
+}
