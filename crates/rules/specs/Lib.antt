@@ -7,3 +7,5 @@ pub mod Asking
 pub mod Lookups
 pub mod Cases
 pub mod Acceptance
+pub mod GoodEntries
+pub mod GoodValues
