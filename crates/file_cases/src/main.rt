@@ -1,11 +1,9 @@
 // Cases of whole files: reads a table of names and files, and writes each line again with its answer behind it.
 //
 // A line that is empty or begins with `#` is written as it stands. Any other is a file name, a space and a file; with no
-// space the file is empty. Both are written as `decoding` says. Behind it come ` = ` and what the library answers:
+// space the file is empty. Both are written as crate `cases` says. Behind it come ` = ` and what the library answers:
 // `accepted` with the numbers of settings and services, or `refused` with the number and the line. The expected side, the
 // file stdout, is written by hand from document 01 and docs/DECISIONS.md.
-mod decoding;
-
 use libc::STDOUT_FILENO;
 use rules::Reading;
 
@@ -52,14 +50,14 @@ fn answer_case(s: &[u8], n: usize, written: &[u8]) {
         return;
     }
     let mut file = [0u8; 16448];
-    let k = decoding::decode(&mut file, written);
+    let k = cases::decode(&mut file, written);
     answer_file(&s[0..n], &file, k);
 }
 
 // The answer to a name and a file, both as they are written.
 fn answer(written_name: &[u8], written: &[u8]) {
     let mut name = [0u8; 640];
-    let n = decoding::decode(&mut name, written_name);
+    let n = cases::decode(&mut name, written_name);
     answer_case(&name, n, written);
 }
 

@@ -3,3 +3,4 @@ pub mod Typed
 pub mod Answers
 pub mod Judging
 pub mod Cases
+pub mod Values

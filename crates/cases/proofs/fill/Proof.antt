@@ -3,8 +3,8 @@ use mathlib.Core.Path.{_≡_}
 use Prim.Native.Nat.{_≤_, _-_}
 use lib.ListN.{length, length-set}
 use borrow.Author.Needs.{needs}
-use Rattle.file_cases.proofs.decoding.fill.Statement.{statement}
-use Rattle.file_cases.proofs.decoding.fill.Tie as tie
+use Rattle.cases.proofs.fill.Statement.{statement}
+use Rattle.cases.proofs.fill.Tie as tie
 
 pub fill-spec : {M : Type 1} → statement M
 fill-spec =

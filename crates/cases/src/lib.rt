@@ -1,5 +1,7 @@
-// How a name or a file is written in the table: `%` and two hex digits stand for a byte, `%*` and five decimal digits for
-// that many times the byte written behind them; any other byte stands as it is.
+// How names, files and other inputs are written in the tables of the programs that run cases.
+//
+// `%` and two hex digits stand for a byte, `%*` and five decimal digits for that many times the byte written behind them;
+// any other byte stands as it is.
 ghost use mathlib.Core.Path.{_≡_};
 ghost use Prim.Native.Nat.{_+_, _≤_, _<_};
 ghost use lib.ListN.{length};
@@ -105,7 +107,7 @@ fn fill(out: &mut [u8], from: usize, value: u8, count: usize) -> usize
 }
 
 // Writes the bytes that s gives at the front of out, and returns how many; more than out has where they do not fit.
-pub(crate) fn decode(out: &mut [u8], s: &[u8]) -> usize
+pub fn decode(out: &mut [u8], s: &[u8]) -> usize
     ensures { λ r. ⌜ length (now (out .exit)) ≡ length (now (out .entry)) ⌝ }
 {
     let mut n = 0;

@@ -1,10 +1,10 @@
--- Safe: the count stays in the buffer, and the place in the input goes on by what `byte_at` ensures.
+-- Safe: the count stays in the buffer, and the place in the input goes on by what `run_at` ensures.
 use mathlib.Core.Path.{_≡_}
 use Prim.Native.Nat.{_≤_, _-_}
-use lib.ListN.{length, length-set}
+use lib.ListN.{length}
 use borrow.Author.Needs.{needs}
-use Rattle.leaf_cases.proofs.decode.Statement.{statement}
-use Rattle.leaf_cases.proofs.decode.Tie as tie
+use Rattle.cases.proofs.decode.Statement.{statement}
+use Rattle.cases.proofs.decode.Tie as tie
 
 pub decode-spec : {M : Type 1} → statement M
 decode-spec =
@@ -13,13 +13,11 @@ decode-spec =
     (λ out₀ s n₀ i₀ out n i. (length out ≡ length out₀) × (n ≤ length out) × (i ≤ length s))
     (λ out₀ s n₀ i₀ out n i. length s - i)
     (λ c. search needs)
-    (λ c. search needs)
-    (λ c. search needs)
-    (λ c. search needs)
+    (λ c κs. search needs)
     (λ c κs. search needs)
     (λ c. search needs)
     (λ c. search needs)
     (λ c. search needs)
-    (λ c. (simp length-set (search needs), simp length-set (search needs), search needs))
+    (λ c. search needs)
     (λ c. search needs)
     (λ c. search needs))
