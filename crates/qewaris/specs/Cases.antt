@@ -1,5 +1,6 @@
--- Document 01's "Twelve cases for the one table", by computation. What they say of join records, of writing a file and of the move is not in it yet.
+-- Document 01's "Twelve cases for the one table", by computation. What they say of writing a file and of the move is not in it yet.
 use mathlib.Core.Path.{_≡_, refl}
+use mathlib.Core.Bool.{false}
 use mathlib.Core.List.{List, [], _∷_, map}
 use mathlib.Core.Option.{Option, none, some}
 use Prim.Native.Nat.{ℕ}
@@ -18,15 +19,20 @@ use Rattle.lines.specs.Lines.{bracketOf, settingOf, lineOf, valueStart}
 use Rattle.names.specs.Names.{nameOf, networkOf, stem, suffixOf, fileName}
 use Rattle.names.specs.declared.Suffix.{Suffix}
 use Rattle.names.specs.declared.Suffix.the-variants.{Psk}
+use Rattle.kinds.specs.Kinds.{dhcp, static}
+use Rattle.records.specs.Record.{noSecret}
+use Rattle.records.specs.declared.Ipv6.the-variants.{Auto}
+use Rattle.joins.specs.Joins.{Joined, joined, iwdJoined}
 use Rattle.rules.specs.Numbers.{Seen, seenOf}
 use Rattle.rules.specs.Tables.{isService, groupOf, keysOf}
 use Rattle.rules.specs.Faults.{fault, after}
 use Rattle.rules.specs.Groups.{serviceFault, fileFault}
 use Rattle.rules.specs.Reading.{lineFault, grown, sectionsOf, reading}
 
--- what is asked: the reading of a file under a name, the string that is written so, how a string is written, the length of a mask, the file name of a network
+-- what is asked: the reading of a file under a name, the join record of an iwd file, the string that is written so, how a string is written, the length of a mask, the file name of a network
 pub data Question : Type 0 where
   reads : Dialect → String → String → Question
+  joins : String → String → Question
   string-of : String → Question
   written : List ℕ → Question
   mask : String → Question
@@ -34,11 +40,13 @@ pub data Question : Type 0 where
 
 pub data Answer : Type 0 where
   seen : Seen → Answer
+  record-is : Joined → Answer
   bytes : Option (List ℕ) → Answer
   length-is : Option ℕ → Answer
 
 abbrev of : Question → Answer
 of (reads d name file) = seen (seenOf (reading d (word name) (word file)))
+of (joins name file) = record-is (iwdJoined (word name) (word file))
 of (string-of s) = bytes (unescape (word s))
 of (written s) = bytes (some (escape s))
 of (mask s) = length-is (netmask (word s))
@@ -57,6 +65,7 @@ Case = ℕ × Question × Answer
 abbrev cases : List Case
 cases =
     (1, reads Iwd "Desk.open" "", accepted 0 0)
+    ∷ (1, joins "Desk.open" "", record-is (joined (record { name = word "Desk"; credential = noSecret; hidden = false; ipv4 = dhcp; servers = []; domain = []; ipv6 = Auto })))
     ∷ (2, reads Iwd "Desk.psk" "", refused 14 0)
     ∷ (3, string-of "\\sab", bytes (some (32 ∷ 97 ∷ 98 ∷ [])))
     ∷ (3, written (32 ∷ 97 ∷ 98 ∷ []), bytes (some (word "\\sab")))
@@ -66,6 +75,7 @@ cases =
     ∷ (7, reads Iwd "Desk.open" "[IPv4]\nAddress=10.0.0.2\nGateway=10.0.0.1\nNetmask=255.0.255.0\n", refused 12 4)
     ∷ (8, reads Iwd "Desk.open" "[IPv4]\nAddress=10.0.0.2\nGateway=10.0.0.1\nNetmask=255.255.254.0\n", accepted 3 0)
     ∷ (8, mask "255.255.254.0", length-is (some 23))
+    ∷ (8, joins "Desk.open" "[IPv4]\nAddress=10.0.0.2\nGateway=10.0.0.1\nNetmask=255.255.254.0\n", record-is (joined (record { name = word "Desk"; credential = noSecret; hidden = false; ipv4 = static (10 ∷ 0 ∷ 0 ∷ 2 ∷ []) 23 (some (10 ∷ 0 ∷ 0 ∷ 1 ∷ [])); servers = []; domain = []; ipv6 = Auto })))
     ∷ (9, reads ConnMan "a.config" "[service_a]\nType=wifi\nName=a\nIPv4=10.0.0.2/24\n", accepted 3 1)
     ∷ (10, reads Iwd "Desk.open" "[IPv4]\nGateway=10.0.0.1\nAddress=01.2.3.4\n", refused 12 3)
     ∷ (10, reads Iwd "Desk.open" "[IPv4]\nGateway=10.0.0.1\nAddress=256.1.1.1\n", refused 12 3)

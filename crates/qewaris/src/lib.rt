@@ -1,7 +1,8 @@
 // The entry points: what a program that uses the library calls.
 //
 // None of them has a `requires`: whatever bytes come in, each answers as document 01's table says. `check` reads a file,
-// `typed` gives its settings, `strings` the bytes of its strings, and `is_well_formed` judges a join record.
+// `typed` gives its settings, `strings` the bytes of its strings, `joined` its join record, and `is_well_formed` judges a record.
+pub mod joined;
 pub mod strings;
 pub mod typed;
 

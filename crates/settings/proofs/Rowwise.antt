@@ -48,18 +48,18 @@ unfolding flag
 flag-none Iwd = refl
 flag-none ConnMan = refl
 
-word-none : (l : WordList) → wordOf l [] ≡ none
+pub word-none : (l : WordList) → wordOf l [] ≡ none
 unfolding wordOf
 word-none L.ServiceType = refl
 word-none L.Ipv6Method = refl
 word-none L.Privacy = refl
 word-none L.Security = refl
 
-address-none : address [] ≡ none
+pub address-none : address [] ≡ none
 unfolding address number value
 address-none = refl
 
-netmask-none : netmask [] ≡ none
+pub netmask-none : netmask [] ≡ none
 unfolding netmask address number value
 netmask-none = refl
 
@@ -68,7 +68,7 @@ unfolding addresses address number value
 addresses-none Spaces = refl
 addresses-none Comma = refl
 
-ipv4-none : ipv4 [] ≡ none
+pub ipv4-none : ipv4 [] ≡ none
 unfolding ipv4
 ipv4-none = refl
 
@@ -80,11 +80,11 @@ mac-none : mac [] ≡ none
 unfolding mac
 mac-none = refl
 
-key-none : key [] ≡ none
+pub key-none : key [] ≡ none
 unfolding key
 key-none = refl
 
-ssid-none : ssid [] ≡ none
+pub ssid-none : ssid [] ≡ none
 unfolding ssid
 ssid-none = refl
 

@@ -1,0 +1,133 @@
+-- The answers, one law for each return: what the file's reading, the service's number and its lines say.
+use Prim.Native.Nat.{ℕ, _≤_, _<_}
+use mathlib.Core.Path.{_≡_, refl, ap, sym, _∙_, subst}
+use mathlib.Core.Bool.{Bool, true, false}
+use mathlib.Core.List.{List}
+use mathlib.Core.Option.{Option, none, some}
+use Rattle.text.specs.Laws.{inside, under, over}
+use Rattle.text.specs.Options.{only, orElse}
+use Rattle.text.specs.Words.{word}
+use Rattle.text.specs.declared.Dialect.the-variants.{Iwd, ConnMan}
+use Rattle.addresses.specs.Addresses.{addresses, rows}
+use Rattle.addresses.specs.declared.Separator.the-variants.{Spaces, Comma}
+use Rattle.kinds.specs.Kinds.{wordOf}
+use Rattle.kinds.specs.declared.Word.the-variants as W
+use Rattle.kinds.specs.declared.WordList.the-variants as L
+use Rattle.names.specs.Names.{networkOf}
+use Rattle.rules.specs.Tables.{groupOf, keysOf}
+use Rattle.rules.specs.Lookups.{keyNames}
+use Rattle.rules.specs.Faults.{Entry, serves}
+use Rattle.rules.specs.Groups.{entryOf, entriesIn, isWord}
+use Rattle.rules.specs.Asking.{iwdEntry, serviceAt, readAs, lineIn}
+use Rattle.rules.specs.Reading.{sectionsOf}
+use Rattle.rules.specs.declared.Group.{Group}
+use Rattle.rules.specs.declared.Group.the-variants as G
+use Rattle.rules.specs.declared.Refusal.{Refusal}
+use Rattle.rules.specs.declared.Refusal.the-variants.{NoPlace, NoService}
+use Rattle.rules.specs.declared.Reading.{Reading}
+use Rattle.rules.specs.declared.Reading.the-variants as R
+use Rattle.rules.specs.declared.Answer.the-variants.{Good, Refused}
+use Rattle.reader.specs.Store.{slot}
+use Rattle.reader.specs.History.{base}
+use Rattle.reader.specs.Holds.{Row}
+use Rattle.reader.proofs.PlainHeading.{groupName}
+use Rattle.reader.proofs.FileFault.{entries-latest}
+use Rattle.reader.proofs.Backwards.{entries-reverse}
+use Rattle.reader.proofs.Values.{numbered-service}
+use Rattle.pass.specs.Pass.{Found, Reads}
+use Rattle.settings.specs.Values.{bytesAt}
+use Rattle.settings.specs.Rows.{RowOf, Typed}
+use Rattle.settings.proofs.Rowwise.{word-none, addresses-none, row-read, row-line}
+use Rattle.records.specs.Record.{laid, laidServers}
+use Rattle.records.specs.declared.JoinRecord.{JoinRecord}
+use Rattle.joins.specs.Joins.{iwdJoin, networkName, foreignSecurity, noRecord, serviceJoin, zeroRecord, iwdRecord, iwdRecordServers, serviceRecord, serviceRecordServers}
+use Rattle.joins.specs.Answers.{hindranceOf, hindrance}
+use Rattle.joins.specs.Places.{IwdRows, Answers, ofService, ofNumber}
+use Rattle.joins.specs.declared.Hindrance.{Hindrance}
+use Rattle.joins.specs.declared.Hindrance.the-variants as H
+use Rattle.joins.specs.declared.RecordAnswer.{RecordAnswer}
+
+-- ---- the rows after a reading
+
+module _ {file : List ℕ} {w : ℕ} {y : List ℕ} where
+  group-row : (g : Group) → groupOf Iwd (groupName g) ≡ some g → serves g ≡ false → Found Iwd file w y → Row file y (base g) (keyNames g) (entriesIn (groupName g) (sectionsOf Iwd file))
+  group-row g q v f = subst (λ (es : List Entry). Row file y (base g) (keyNames g) es) (sym (entries-latest Iwd g q v (f .groups) (f .kept .well)) ∙ sym (entries-reverse (groupName g) Iwd (f .groups) (f .kept .well)) ∙ ap (entriesIn (groupName g)) (f .all)) (f .kept .rows g)
+
+  pub iwd-rows : Found Iwd file w y → IwdRows file y
+  unfolding groupOf
+  iwd-rows f = record { long = f .kept .long; general = group-row G.Settings refl refl f; security = group-row G.Security refl refl f; ipv4 = group-row G.Ipv4 refl refl f; ipv6 = group-row G.Ipv6 refl refl f }
+
+  service-row : Found ConnMan file w y → Row file y 96 (keyNames G.Service) (serviceAt w (sectionsOf ConnMan file))
+  service-row f = subst (λ (es : List Entry). Row file y 96 (keyNames G.Service) es) (numbered-service w (f .groups) ∙ ap (serviceAt w) (f .all)) (f .kept .found)
+
+  pub found-row : Found ConnMan file w y → RowOf file y 96 G.Service
+  found-row f = record { long = f .kept .long; settings = serviceAt w (sectionsOf ConnMan file); row = service-row f }
+
+-- ---- an iwd file
+
+pub iwd-servers : {file x : List ℕ} {s : List (List ℕ)} (n : List ℕ) → IwdRows file x → s ≡ rows (addresses Spaces (bytesAt file (slot 37 x))) → s ≡ laidServers (iwdJoin n (iwdEntry (sectionsOf Iwd file)))
+unfolding keysOf
+iwd-servers n h e = e ∙ ap rows (row-read G.Ipv4 (h .ipv4) (word "DNS") 4 refl (addresses Spaces) (addresses-none Spaces))
+
+module _ {name file : List ℕ} {w : ℕ} {y : List ℕ} {q : Reading} (h : Reads Iwd name file w y q) (old : List (List ℕ)) where
+  pub iwd-accepted : {n m : ℕ} → q ≡ R.Accepted n m → {r : RecordAnswer} {new : List (List ℕ)} → (r ≡ record { answer = Good; «record» = laid (iwdJoin (networkName (networkOf name)) (iwdEntry (sectionsOf Iwd file))) }) × (new ≡ laidServers (iwdJoin (networkName (networkOf name)) (iwdEntry (sectionsOf Iwd file)))) → (r ≡ iwdRecord name file) × (new ≡ iwdRecordServers name file old)
+  unfolding iwdRecord iwdRecordServers
+  iwd-accepted e p = rw (sym (h .is) ∙ e) p
+
+  pub iwd-refused : {f : Refusal} {l : ℕ} → q ≡ R.Refused f l → {r : RecordAnswer} → r ≡ record { answer = Refused f l; «record» = zeroRecord } → (r ≡ iwdRecord name file) × (old ≡ iwdRecordServers name file old)
+  unfolding iwdRecord iwdRecordServers
+  iwd-refused e p = rw (sym (h .is) ∙ e) (p, refl)
+
+-- ---- a service that there is
+
+hindered : (a : Bool) (l : ℕ) (b : Bool) (m : ℕ) → hindrance a l b m ≡ hindranceOf (orElse (only a (some l)) (only b (some m)))
+hindered true l b m = refl
+hindered false l true m = refl
+hindered false l false m = refl
+
+abbrev hindranceIn : Hindrance → Option ℕ
+hindranceIn H.Nothing = none
+hindranceIn (H.At l) = some l
+
+hindrance-back : (o : Option ℕ) → hindranceIn (hindranceOf o) ≡ o
+hindrance-back none = refl
+hindrance-back (some l) = refl
+
+module _ {file x : List ℕ} {h : Hindrance} (e : h ≡ hindrance (isWord W.Ethernet (wordOf L.ServiceType (bytesAt file (slot 97 x)))) (slot 97 x .line) (foreignSecurity (wordOf L.Security (bytesAt file (slot 109 x)))) (slot 109 x .line)) where
+  no-record : {g : Hindrance} → h ≡ g → (es : List Entry) → Row file x 96 (keyNames G.Service) es → noRecord (λ k. entryOf k es) ≡ hindranceIn g
+  unfolding keysOf
+  no-record q es w =
+      rw (← q, e, row-read G.Service w (word "Type") 0 refl (wordOf L.ServiceType) (word-none L.ServiceType), row-read G.Service w (word "Security") 12 refl (wordOf L.Security) (word-none L.Security), row-line G.Service w (word "Type") 0 refl, row-line G.Service w (word "Security") 12 refl)
+      (sym (ap hindranceIn (hindered (isWord W.Ethernet (readAs (wordOf L.ServiceType) (entryOf (word "Type") es))) (lineIn (entryOf (word "Type") es)) (foreignSecurity (readAs (wordOf L.Security) (entryOf (word "Security") es))) (lineIn (entryOf (word "Security") es))) ∙ hindrance-back (noRecord (λ k. entryOf k es))))
+
+  pub found-hindered : (old : List (List ℕ)) {l : ℕ} → h ≡ H.At l → {r : RecordAnswer} → r ≡ record { answer = Refused NoPlace l; «record» = zeroRecord } → Answers file x ofService old old r
+  found-hindered old q p = record { is = λ es w. rw (no-record q es w) p; servers = λ es w. rw (no-record q es w) }
+
+  pub found-joined : (old : List (List ℕ)) → h ≡ H.Nothing → {j : JoinRecord} → Typed file x 96 G.Service (λ at. laid (serviceJoin at)) j → {s : List (List ℕ)} → s ≡ rows (addresses Comma (bytesAt file (slot 102 x))) → Answers file x ofService old s (record { answer = Good; «record» = j })
+  unfolding keysOf
+  found-joined old q t {s} p =
+      record {
+        is = λ es w. rw (no-record q es w) (ap (λ (j : JoinRecord). record { answer = Good; «record» = j }) (t .is es w));
+        servers = λ es w. rw (no-record q es w) (p ∙ ap rows (row-read G.Service w (word "Nameservers") 5 refl (addresses Comma) (addresses-none Comma)));
+      }
+
+-- ---- a service by its number
+
+module _ {file x : List ℕ} (m w : ℕ) (old : List (List ℕ)) where
+  pub number-zero : w < 1 → {r : RecordAnswer} → r ≡ record { answer = Refused NoService 0; «record» = zeroRecord } → Answers file x (ofNumber m w) old old r
+  number-zero l p = record { is = λ es h. rw (under {x = w} 1 m l) p; servers = λ es h. rw (under {x = w} 1 m l) }
+
+  pub number-above : m < w → {r : RecordAnswer} → r ≡ record { answer = Refused NoService 0; «record» = zeroRecord } → Answers file x (ofNumber m w) old old r
+  number-above l p = record { is = λ es h. rw (over {x = w} 1 m l) p; servers = λ es h. rw (over {x = w} 1 m l) }
+
+  pub number-among : 1 ≤ w → w ≤ m → {new : List (List ℕ)} {r : RecordAnswer} → Answers file x ofService old new r → Answers file x (ofNumber m w) old new r
+  number-among a b p = record { is = λ es h. rw (inside {x = w} 1 m a b) (p .is es h); servers = λ es h. rw (inside {x = w} 1 m a b) (p .servers es h) }
+
+module _ {name file : List ℕ} {w : ℕ} {y : List ℕ} {q : Reading} (h : Reads ConnMan name file w y q) (old : List (List ℕ)) where
+  pub service-accepted : {n m : ℕ} → q ≡ R.Accepted n m → {r : RecordAnswer} {new : List (List ℕ)} → Answers file y (ofNumber m w) old new r → (r ≡ serviceRecord name file w) × (new ≡ serviceRecordServers name file w old)
+  unfolding serviceRecord serviceRecordServers
+  service-accepted e p = let s = service-row (h .found e) in rw (sym (h .is) ∙ e) (p .is _ s, p .servers _ s)
+
+  pub service-refused : {f : Refusal} {l : ℕ} → q ≡ R.Refused f l → {r : RecordAnswer} → r ≡ record { answer = Refused f l; «record» = zeroRecord } → (r ≡ serviceRecord name file w) × (old ≡ serviceRecordServers name file w old)
+  unfolding serviceRecord serviceRecordServers
+  service-refused e p = rw (sym (h .is) ∙ e) (p, refl)

@@ -1,0 +1,4 @@
+pub mod Sizing
+pub mod Choosing
+pub mod Assembling
+pub mod Asked

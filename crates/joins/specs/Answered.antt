@@ -1,0 +1,345 @@
+-- Every join record that is answered is well-formed: of an iwd file, and of a ConnMan service.
+use Prim.Native.Nat.{ℕ, zero, suc, _≤_}
+use native.Mathlib.Omega.{arith}
+use mathlib.Core.Path.{_≡_, refl, ap, sym, _∙_, subst}
+use mathlib.Core.Bool.{Bool, true, false, cond, not, _&&_, _||_, true≢false}
+use mathlib.Core.List.{List, [], _∷_}
+use mathlib.Core.Option.{Option, none, some, Option·none-ne-some, Option·some-injective}
+use Rattle.text.specs.Bytes.{between}
+use Rattle.text.specs.Words.{word, same}
+use Rattle.text.specs.Options.{andThen, mapped, orElse, only, plain}
+use Rattle.text.specs.OptionLaws.{Holds, only-some, sized-some}
+use Rattle.text.specs.Laws.{between-low, between-high}
+use Rattle.text.specs.declared.Dialect.{Dialect}
+use Rattle.text.specs.declared.Dialect.the-variants as D
+use Rattle.utf8.specs.Utf8.{utf8From, text, valueText}
+use Rattle.escapes.specs.Strings.{stringOf}
+use Rattle.addresses.specs.Addresses.{address, isAddress, netmask, addresses}
+use Rattle.addresses.specs.declared.Separator.{Separator}
+use Rattle.addresses.specs.declared.Separator.the-variants.{Spaces, Comma}
+use Rattle.kinds.specs.Kinds as K
+use Rattle.kinds.specs.Kinds.{IPv4, dhcp, off, static, wordOf, ipv4, ssid, string}
+use Rattle.kinds.specs.Typed as T
+use Rattle.kinds.specs.Typed.{typed}
+use Rattle.kinds.specs.Values.{string-size, key-size, ssid-size, address-good, netmask-good, addresses-good, Ipv4Good, ipv4-good, text-bytes, string-text}
+use Rattle.kinds.specs.declared.Kind.the-variants as Kind
+use Rattle.kinds.specs.declared.Word.{Word}
+use Rattle.kinds.specs.declared.Word.the-variants as W
+use Rattle.kinds.specs.declared.WordList.the-variants as L
+use Rattle.names.specs.Names.{NetworkName, Network, networkOf, connmanName}
+use Rattle.names.specs.Laws.{network-bytes}
+use Rattle.rules.specs.Tables.{groupOf, keysOf}
+use Rattle.rules.specs.Faults.{Entry, Section, given, serves, services}
+use Rattle.rules.specs.Groups.{faultAt, entryOf, isWord, typeIs, securityIs, lacks, clashes, lackOrClash, serviceFault, servicesFault}
+use Rattle.rules.specs.Reading.{Name, iwdName, connmanFile, nameIn, groupsFault, sectionsOf, settings, reading}
+use Rattle.rules.specs.Asking.{iwdEntry, firstOr, serviceAt, readAs, lineIn, asked, askedOf}
+use Rattle.rules.specs.Acceptance.{obeys-accepted, accepted-obeys}
+use Rattle.rules.specs.GoodValues.{GoodValue, group-value, service-value}
+use Rattle.rules.specs.declared.Answer.the-variants as A
+use Rattle.rules.specs.declared.Reading.{Reading}
+use Rattle.rules.specs.declared.Reading.the-variants.{Accepted, Refused}
+use Rattle.rules.specs.declared.Refusal.{Refusal}
+use Rattle.rules.specs.declared.Refusal.the-variants.{Missing, NoService}
+use Rattle.records.specs.Record.{Join}
+use Rattle.records.specs.Formed.{GoodPassphrase, GoodKey, GoodSecret, GoodIpv4, GoodServers, GoodDomain, WellFormed}
+use Rattle.joins.specs.Joins.{joined, secretFrom, staticOrDhcp, ipv4OrDhcp, nameFrom, iwdJoin, serviceJoin, wired, foreignSecurity, noRecord, networkName, iwdJoined, settingOf, serviceJoined}
+use Rattle.joins.specs.Saturday.{joined-good}
+
+-- ---- what is read from a setting
+
+-- it has a property that its kind gives to all it reads
+read-holds : {A : Type 0} (P : A → Type 0) (f : List ℕ → Option A) (o : Option Entry) → ((e : Entry) → o ≡ some e → (a : A) → f (e .value) ≡ some a → P a) → Holds P (readAs f o)
+read-holds P f none h = tt
+read-holds {A} P f (some e) h = go (f (e .value)) refl
+  where
+    go : (o : Option A) → f (e .value) ≡ o → Holds P o
+    go none q = tt
+    go (some a) q = h e refl a q
+
+string-of : (d : Dialect) (low high : ℕ) (v : List ℕ) {t : List ℕ} → string d low high v ≡ some t → stringOf d v ≡ some t
+unfolding string
+string-of d low high v e = sized-some low high (stringOf d v) e .1
+
+good-passphrase : (d : Dialect) (v : List ℕ) {p : List ℕ} → valueText v ≡ true → K.passphrase d v ≡ some p → GoodPassphrase p
+good-passphrase d v h e =
+    let s = string-size d 8 63 v e in
+    record { low = s .0; high = s .1; text = string-text d v h (string-of d 8 63 v e) }
+
+good-key : (v : List ℕ) {k : List ℕ} → K.key v ≡ some k → GoodKey k
+good-key v e = let s = key-size v e in record { long = s .0; bytes = s .1 }
+
+good-domain : (d : Dialect) (v : List ℕ) {t : List ℕ} → valueText v ≡ true → string d 1 253 v ≡ some t → GoodDomain t
+good-domain d v h e = record { high = string-size d 1 253 v e .1; text = string-text d v h (string-of d 1 253 v e) }
+
+-- ---- the parts of a record, of what is read
+
+secret-formed : (p k : Option (List ℕ)) → Holds GoodPassphrase p → Holds GoodKey k → GoodSecret (secretFrom p k)
+secret-formed (some p) k g h = g
+secret-formed none (some k) g h = h
+secret-formed none none g h = tt
+
+static-formed : (a : Option (List ℕ)) (m : Option ℕ) (g : Option (List ℕ)) → Holds (λ x. isAddress x ≡ true) a → Holds (λ n. (1 ≤ n) × (n ≤ 32)) m → Holds (λ x. isAddress x ≡ true) g → GoodIpv4 (staticOrDhcp a m g)
+static-formed none m g x y z = tt
+static-formed (some a) none g x y z = record { address = x; low = omega arith; high = omega arith; gateway = z }
+static-formed (some a) (some n) g x y z = record { address = x; low = y .0; high = y .1; gateway = z }
+
+servers-formed : (o : Option (List (List ℕ))) → Holds GoodServers o → GoodServers (plain o)
+servers-formed none h = record { high = omega arith; addresses = refl }
+servers-formed (some l) h = h
+
+good-servers : (sep : Separator) (at : Option Entry) → GoodServers (plain (readAs (addresses sep) at))
+good-servers sep at = servers-formed (readAs (addresses sep) at) (read-holds GoodServers (addresses sep) at (λ e q x r. let h = addresses-good sep (e .value) r in record { high = h .1; addresses = h .2 }))
+
+domain-formed : (o : Option (List ℕ)) → Holds GoodDomain o → GoodDomain (plain o)
+unfolding text utf8From
+domain-formed none h = record { high = omega arith; text = refl }
+domain-formed (some d) h = h
+
+-- ---- an iwd file
+
+network-formed : (name : List ℕ) (o : Option Network) → networkOf name ≡ o → {k : Name} → mapped (λ x. iwdName (x .suffix)) o ≡ some k → NetworkName (networkName o)
+network-formed name none q {k} e = absurd (Option·none-ne-some k e)
+network-formed name (some x) q e = network-bytes name q
+
+-- of an accepted file
+module _ (name file : List ℕ) {n m : ℕ} (a : reading D.Iwd name file ≡ Accepted n m) where
+  iwd-secret-formed : GoodSecret (iwdJoin (networkName (networkOf name)) (iwdEntry (sectionsOf D.Iwd file)) .credential)
+  unfolding groupOf keysOf
+  iwd-secret-formed =
+      secret-formed (readAs (K.passphrase D.Iwd) (iwdEntry (sectionsOf D.Iwd file) (word "Security") (word "Passphrase"))) (readAs K.key (iwdEntry (sectionsOf D.Iwd file) (word "Security") (word "PreSharedKey")))
+      (read-holds GoodPassphrase (K.passphrase D.Iwd) (iwdEntry (sectionsOf D.Iwd file) (word "Security") (word "Passphrase")) (λ e q x r. good-passphrase D.Iwd (e .value) (group-value D.Iwd name file a (word "Security") (word "Passphrase") refl refl q .text) r))
+      (read-holds GoodKey K.key (iwdEntry (sectionsOf D.Iwd file) (word "Security") (word "PreSharedKey")) (λ e q x r. good-key (e .value) r))
+
+  iwd-domain-formed : GoodDomain (iwdJoin (networkName (networkOf name)) (iwdEntry (sectionsOf D.Iwd file)) .domain)
+  unfolding groupOf keysOf
+  iwd-domain-formed =
+      domain-formed (readAs (string D.Iwd 1 253) (iwdEntry (sectionsOf D.Iwd file) (word "IPv4") (word "DomainName")))
+      (read-holds GoodDomain (string D.Iwd 1 253) (iwdEntry (sectionsOf D.Iwd file) (word "IPv4") (word "DomainName")) (λ e q x r. good-domain D.Iwd (e .value) (group-value D.Iwd name file a (word "IPv4") (word "DomainName") refl refl q .text) r))
+
+address-formed : (at : Option Entry) → Holds (λ x. isAddress x ≡ true) (readAs address at)
+address-formed at = read-holds (λ (x : List ℕ). isAddress x ≡ true) address at (λ e q x r. address-good (e .value) r)
+
+iwd-ipv4-formed : (at : List ℕ → Option Entry) → GoodIpv4 (staticOrDhcp (readAs address (at (word "Address"))) (readAs netmask (at (word "Netmask"))) (readAs address (at (word "Gateway"))))
+iwd-ipv4-formed at =
+    static-formed (readAs address (at (word "Address"))) (readAs netmask (at (word "Netmask"))) (readAs address (at (word "Gateway")))
+    (address-formed (at (word "Address")))
+    (read-holds (λ (n : ℕ). (1 ≤ n) × (n ≤ 32)) netmask (at (word "Netmask")) (λ e q x r. netmask-good (e .value) r))
+    (address-formed (at (word "Gateway")))
+
+asked-reading : (r : Reading) → asked r ≡ A.Good → (n : ℕ) × ((m : ℕ) × (r ≡ Accepted n m))
+asked-reading (Accepted n m) e = (n, (m, refl))
+asked-reading (Refused r l) e = let z : _≡_ {A = ℕ} 0 1 = cc in absurd (omega arith)
+
+pub iwd-formed : (name file : List ℕ) {j : Join} → iwdJoined name file ≡ joined j → WellFormed j
+iwd-formed name file a =
+    let h = joined-good (asked (reading D.Iwd name file)) none (iwdJoin (networkName (networkOf name)) (iwdEntry (sectionsOf D.Iwd file))) a in
+    let r = asked-reading (reading D.Iwd name file) (h .0) .1 .1 in
+    subst WellFormed (h .1) (
+    record {
+      name = network-formed name (networkOf name) refl (accepted-obeys D.Iwd name file r .named);
+      credential = iwd-secret-formed name file r;
+      ipv4 = iwd-ipv4-formed (iwdEntry (sectionsOf D.Iwd file) (word "IPv4"));
+      servers = good-servers Spaces (iwdEntry (sectionsOf D.Iwd file) (word "IPv4") (word "DNS"));
+      domain = iwd-domain-formed name file r;
+    }
+    )
+
+-- ---- a service of a ConnMan file: what its group has
+
+module _ {A : Type 0} where
+  or-none : (x y : Option A) → orElse x y ≡ none → (x ≡ none) × (y ≡ none)
+  or-none none y e = (refl, e)
+  or-none (some a) y e = absurd (Option·none-ne-some a (sym e))
+
+  mapped-some : {B : Type 0} (f : A → B) (o : Option A) {b : B} → mapped f o ≡ some b → (a : A) × (o ≡ some a)
+  mapped-some f none {b} e = absurd (Option·none-ne-some b e)
+  mapped-some f (some a) e = (a, refl)
+
+or-false : (a b : Bool) → a || b ≡ false → (a ≡ false) × (b ≡ false)
+or-false true b e = absurd (true≢false e)
+or-false false b e = (refl, e)
+
+faultless : (l : ℕ) (o : Option Refusal) → faultAt l o ≡ none → o ≡ none
+faultless l none e = refl
+faultless l (some r) e = absurd (Option·none-ne-some (record { refusal = r; line = l }) (sym e))
+
+-- "each service": service w among them
+service-faultless : (w : ℕ) (gs : List Section) → servicesFault gs ≡ none → 1 ≤ w → w ≤ services gs → serviceFault (serviceAt w gs) ≡ none
+service-faultless zero gs f l h = absurd (omega (arith, l))
+service-faultless (suc n) [] f l h = absurd (omega (arith, h))
+service-faultless (suc n) (g ∷ gs) f l h = go (serves (g .group)) n (λ p q r. service-faultless n gs p q r) (λ p q r. service-faultless (suc n) gs p q r) f h
+  where
+    go : (b : Bool) (n : ℕ) → (servicesFault gs ≡ none → 1 ≤ n → n ≤ services gs → serviceFault (serviceAt n gs) ≡ none) → (servicesFault gs ≡ none → 1 ≤ suc n → suc n ≤ services gs → serviceFault (serviceAt (suc n) gs) ≡ none) → orElse (cond b (faultAt (g .line) (serviceFault (g .entries))) none) (servicesFault gs) ≡ none → suc n ≤ cond b (suc (services gs)) (services gs) → serviceFault (cond b (firstOr n (g .entries) (serviceAt n gs)) (serviceAt (suc n) gs)) ≡ none
+    go true zero i k f h = faultless (g .line) (serviceFault (g .entries)) (or-none (faultAt (g .line) (serviceFault (g .entries))) (servicesFault gs) f .0)
+    go true (suc n) i k f h = i (or-none (faultAt (g .line) (serviceFault (g .entries))) (servicesFault gs) f .1) (omega arith) (omega (arith, h))
+    go false n i k f h = k f (omega arith) h
+
+-- it lacks nothing
+whole : (es : List Entry) → serviceFault es ≡ none → lacks es ≡ false
+unfolding serviceFault
+whole es e = go (lacks es) e
+  where
+    go : (b : Bool) → lackOrClash b (clashes es) ≡ none → b ≡ false
+    go true e = absurd (Option·none-ne-some Missing (sym e))
+    go false e = refl
+
+-- a key without a setting is not given
+not-given : (k : List ℕ) (es : List Entry) → entryOf k es ≡ none → given k es ≡ false
+not-given k [] e = refl
+not-given k (x ∷ es) e = go (same k (x .key)) (λ f. not-given k es f) e
+  where
+    go : (b : Bool) → (entryOf k es ≡ none → given k es ≡ false) → cond b (some x) (entryOf k es) ≡ none → b || given k es ≡ false
+    go true f e = absurd (Option·none-ne-some x (sym e))
+    go false f e = f e
+
+-- a service that is not ethernet is wifi
+wifi-word : (v : List ℕ) {w : Word} → wordOf L.ServiceType v ≡ some w → isWord W.Ethernet (some w) ≡ false → isWord W.Wifi (some w) ≡ true
+unfolding wordOf
+wifi-word v {w} e h = go (same v (word "wifi")) (same v (word "ethernet")) e
+  where
+    go : (b c : Bool) → cond b (some W.Wifi) (cond c (some W.Ethernet) none) ≡ some w → isWord W.Wifi (some w) ≡ true
+    go true c e = sym (ap (isWord W.Wifi) e)
+    go false true e = absurd (true≢false (ap (isWord W.Ethernet) e ∙ h))
+    go false false e = absurd (Option·none-ne-some w e)
+
+-- so it has a name: of a group that lacks nothing, with a Type that is read
+has-name : (es : List Entry) → lacks es ≡ false → ((e : Entry) → entryOf (word "Type") es ≡ some e → (w : Word) × (wordOf L.ServiceType (e .value) ≡ some w)) → wired (λ k. entryOf k es) ≡ false → entryOf (word "SSID") es ≡ none → entryOf (word "Name") es ≡ none → ⊥
+has-name es h t r s n = go (entryOf (word "Type") es) refl
+  where
+    parts : (not (given (word "Type") es) ≡ false) × ((typeIs W.Wifi es && not (given (word "Name") es || given (word "SSID") es)) || (securityIs W.Psk es && not (given (word "Passphrase") es)) ≡ false)
+    parts = or-false (not (given (word "Type") es)) ((typeIs W.Wifi es && not (given (word "Name") es || given (word "SSID") es)) || (securityIs W.Psk es && not (given (word "Passphrase") es))) h
+
+    unnamed : typeIs W.Wifi es && not (given (word "Name") es || given (word "SSID") es) ≡ false
+    unnamed = or-false (typeIs W.Wifi es && not (given (word "Name") es || given (word "SSID") es)) (securityIs W.Psk es && not (given (word "Passphrase") es)) (parts .1) .0
+
+    go : (o : Option Entry) → entryOf (word "Type") es ≡ o → ⊥
+    go none q = true≢false (sym (ap not (not-given (word "Type") es q)) ∙ parts .0)
+    go (some e) q =
+        let w = t e q in
+        let v : isWord W.Wifi (some (w .0)) ≡ true = wifi-word (e .value) (w .1) (sym (ap (λ (o : Option Entry). isWord W.Ethernet (readAs (wordOf L.ServiceType) o)) q ∙ ap (isWord W.Ethernet) (w .1)) ∙ r) in
+        let y : typeIs W.Wifi es ≡ true = ap (λ (o : Option Entry). isWord W.Wifi (andThen o (λ x. wordOf L.ServiceType (x .value)))) q ∙ ap (isWord W.Wifi) (w .1) ∙ v in
+        let z : (given (word "Name") es || given (word "SSID") es) ≡ false = ap (λ (b : Bool). b || given (word "SSID") es) (not-given (word "Name") es n) ∙ not-given (word "SSID") es s in
+        true≢false (sym (ap (λ (b : Bool). b && not (given (word "Name") es || given (word "SSID") es)) y ∙ ap not z) ∙ unnamed)
+
+-- ---- the name of a service
+
+ssid-name : (v : List ℕ) {s : List ℕ} → ssid v ≡ some s → NetworkName s
+ssid-name v e = let h = ssid-size v e in record { low = h .0; high = h .1; bytes = h .2 }
+
+text-name : (v : List ℕ) {t : List ℕ} → valueText v ≡ true → string D.ConnMan 1 32 v ≡ some t → NetworkName t
+text-name v {t} h e =
+    let s = string-size D.ConnMan 1 32 v e in
+    record { low = s .0; high = s .1; bytes = text-bytes t (string-text D.ConnMan v h (string-of D.ConnMan 1 32 v e)) }
+
+reads-ssid : (v : List ℕ) → GoodValue D.ConnMan Kind.Ssid v → (s : List ℕ) × (ssid v ≡ some s)
+unfolding typed
+reads-ssid v g = mapped-some T.bytes (ssid v) (g .reads)
+
+reads-name : (v : List ℕ) → GoodValue D.ConnMan (Kind.Text 1 32) v → (s : List ℕ) × (string D.ConnMan 1 32 v ≡ some s)
+unfolding typed
+reads-name v g = mapped-some T.bytes (string D.ConnMan 1 32 v) (g .reads)
+
+reads-type : (v : List ℕ) → GoodValue D.ConnMan (Kind.Named L.ServiceType) v → (w : Word) × (wordOf L.ServiceType v ≡ some w)
+unfolding typed
+reads-type v g = mapped-some T.word (wordOf L.ServiceType v) (g .reads)
+
+name-formed : (s n : Option Entry) → ((e : Entry) → s ≡ some e → GoodValue D.ConnMan Kind.Ssid (e .value)) → ((e : Entry) → n ≡ some e → GoodValue D.ConnMan (Kind.Text 1 32) (e .value)) → (s ≡ none → n ≡ none → ⊥) → NetworkName (nameFrom (readAs ssid s) (readAs (string D.ConnMan 1 32) n))
+name-formed (some e) n f g h =
+    let r = reads-ssid (e .value) (f e refl) in
+    subst (λ (o : Option (List ℕ)). NetworkName (nameFrom o (readAs (string D.ConnMan 1 32) n))) (sym (r .1)) (ssid-name (e .value) (r .1))
+name-formed none (some e) f g h =
+    let r = reads-name (e .value) (g e refl) in
+    subst (λ (o : Option (List ℕ)). NetworkName (nameFrom none o)) (sym (r .1)) (text-name (e .value) (g e refl .text) (r .1))
+name-formed none none f g h = absurd (h refl refl)
+
+-- ---- the other parts
+
+ipv4-formed : (i : IPv4) → Ipv4Good i → GoodIpv4 i
+ipv4-formed dhcp h = tt
+ipv4-formed off h = tt
+ipv4-formed (static a n g) h = record { address = h .address; low = h .low; high = h .high; gateway = h .gateway }
+
+or-dhcp-formed : (o : Option IPv4) → Holds GoodIpv4 o → GoodIpv4 (ipv4OrDhcp o)
+or-dhcp-formed none h = tt
+or-dhcp-formed (some i) h = h
+
+service-ipv4-formed : (at : Option Entry) → GoodIpv4 (ipv4OrDhcp (readAs ipv4 at))
+service-ipv4-formed at = or-dhcp-formed (readAs ipv4 at) (read-holds GoodIpv4 ipv4 at (λ e q x r. ipv4-formed x (ipv4-good (e .value) r)))
+
+-- of service w of an accepted file
+module _ (name file : List ℕ) (w : ℕ) {n m : ℕ} (a : reading D.ConnMan name file ≡ Accepted n m) where
+  service-secret-formed : GoodSecret (serviceJoin (settingOf w file) .credential)
+  unfolding keysOf
+  service-secret-formed =
+      secret-formed (readAs (K.passphrase D.ConnMan) (settingOf w file (word "Passphrase"))) none
+      (read-holds GoodPassphrase (K.passphrase D.ConnMan) (settingOf w file (word "Passphrase")) (λ e q x r. good-passphrase D.ConnMan (e .value) (service-value D.ConnMan name file a w (word "Passphrase") refl q .text) r))
+      tt
+
+  service-domain-formed : GoodDomain (serviceJoin (settingOf w file) .domain)
+  unfolding keysOf
+  service-domain-formed =
+      domain-formed (readAs (string D.ConnMan 1 253) (settingOf w file (word "Domain")))
+      (read-holds GoodDomain (string D.ConnMan 1 253) (settingOf w file (word "Domain")) (λ e q x r. good-domain D.ConnMan (e .value) (service-value D.ConnMan name file a w (word "Domain") refl q .text) r))
+
+  service-name-formed : lacks (serviceAt w (sectionsOf D.ConnMan file)) ≡ false → wired (settingOf w file) ≡ false → NetworkName (serviceJoin (settingOf w file) .name)
+  unfolding keysOf
+  service-name-formed l r =
+      name-formed (settingOf w file (word "SSID")) (settingOf w file (word "Name"))
+      (λ e q. service-value D.ConnMan name file a w (word "SSID") refl q)
+      (λ e q. service-value D.ConnMan name file a w (word "Name") refl q)
+      (λ s t. has-name (serviceAt w (sectionsOf D.ConnMan file)) l (λ e q. reads-type (e .value) (service-value D.ConnMan name file a w (word "Type") refl q)) r s t)
+
+-- ---- the service that is asked for
+
+-- a reading that is accepted, and a service of it
+record ServiceOf (w : ℕ) (r : Reading) : Type 0 where
+  settings : ℕ
+  count : ℕ
+  is : r ≡ Accepted settings count
+  low : 1 ≤ w
+  high : w ≤ count
+
+asked-service : (w : ℕ) (r : Reading) → askedOf w r ≡ A.Good → ServiceOf w r
+asked-service w (Accepted n m) e = go (between 1 m w) refl e
+  where
+    go : (b : Bool) → between 1 m w ≡ b → cond b A.Good (A.Refused NoService 0) ≡ A.Good → ServiceOf w (Accepted n m)
+    go true q e = record { settings = n; count = m; is = refl; low = between-low {x = w} 1 m q; high = between-high {x = w} 1 m q }
+    go false q e = let z : _≡_ {A = ℕ} 0 1 = cc in absurd (omega arith)
+asked-service w (Refused r l) e = let z : _≡_ {A = ℕ} 0 1 = cc in absurd (omega arith)
+
+-- the count of an accepted file is that of its services
+counted : (name file : List ℕ) {n m : ℕ} → reading D.ConnMan name file ≡ Accepted n m → services (sectionsOf D.ConnMan file) ≡ m
+counted name file {n} {m} a =
+    let q : Accepted (settings (sectionsOf D.ConnMan file)) (services (sectionsOf D.ConnMan file)) ≡ Accepted n m = sym (obeys-accepted D.ConnMan name file (accepted-obeys D.ConnMan name file a)) ∙ a in
+    cc
+
+connman-kind : (name : List ℕ) (k : Name) → nameIn D.ConnMan name ≡ some k → connmanFile ≡ k
+connman-kind name k e = Option·some-injective connmanFile k (only-some (connmanName name) (some connmanFile) e .1)
+
+accepted-services : (name file : List ℕ) {n m : ℕ} → reading D.ConnMan name file ≡ Accepted n m → servicesFault (sectionsOf D.ConnMan file) ≡ none
+accepted-services name file a =
+    let o = accepted-obeys D.ConnMan name file a in
+    subst (λ (k : Name). groupsFault k (sectionsOf D.ConnMan file) ≡ none) (sym (connman-kind name (o .kind) (o .named))) (o .groups)
+
+-- "Asking the record of an ethernet .. service is 16"
+record-unwired : (at : List ℕ → Option Entry) → noRecord at ≡ none → wired at ≡ false
+record-unwired at e = go (wired at) e
+  where
+    go : (b : Bool) → orElse (only b (some (lineIn (at (word "Type"))))) (only (foreignSecurity (readAs (wordOf L.Security) (at (word "Security")))) (some (lineIn (at (word "Security"))))) ≡ none → b ≡ false
+    go true e = absurd (Option·none-ne-some (lineIn (at (word "Type"))) (sym e))
+    go false e = refl
+
+pub service-formed : (name file : List ℕ) (w : ℕ) {j : Join} → serviceJoined name file w ≡ joined j → WellFormed j
+service-formed name file w a =
+    let h = joined-good (askedOf w (reading D.ConnMan name file)) (noRecord (settingOf w file)) (serviceJoin (settingOf w file)) a in
+    let s = asked-service w (reading D.ConnMan name file) (h .0) in
+    let f = service-faultless w (sectionsOf D.ConnMan file) (accepted-services name file (s .is)) (s .low) (omega (arith, s .high, counted name file (s .is))) in
+    subst WellFormed (h .1) (
+    record {
+      name = service-name-formed name file w (s .is) (whole (serviceAt w (sectionsOf D.ConnMan file)) f) (record-unwired (settingOf w file) (h .2));
+      credential = service-secret-formed name file w (s .is);
+      ipv4 = service-ipv4-formed (settingOf w file (word "IPv4"));
+      servers = good-servers Comma (settingOf w file (word "Nameservers"));
+      domain = service-domain-formed name file w (s .is);
+    }
+    )

@@ -1,0 +1,105 @@
+-- Worked join records: document 01's service and iwd file, defaults, and what has no record.
+use mathlib.Core.Path.{_≡_, refl}
+use mathlib.Core.Bool.{true, false}
+use mathlib.Core.List.{List, [], _∷_, map}
+use mathlib.Core.Option.{none, some}
+use Prim.Native.Nat.{ℕ}
+use Prim.Native.String.{String}
+use lib.ListN.{replicate}
+use Rattle.text.specs.Bytes.{isKeyByte, isPlain}
+use Rattle.text.specs.Words.{word}
+use Rattle.utf8.specs.Utf8.{follow, utf8From, text}
+use Rattle.escapes.specs.Escapes.{reading as unescaping}
+use Rattle.hex.specs.Hex.{nibble, unhex}
+use Rattle.addresses.specs.Addresses.{value, number, address, prefixLength, lengthUpTo, maskLength, netmask, addresses}
+use Rattle.kinds.specs.Kinds.{IPv4, dhcp, static, flag, wordOf, ipv4, entries, colonPairs, mac, key, ssid, string}
+use Rattle.kinds.specs.Typed.{typed, stringJudged, kindJudged, judged}
+use Rattle.lines.specs.Lines.{bracketOf, settingOf, lineOf, valueStart}
+use Rattle.names.specs.Names.{nameOf, networkOf}
+use Rattle.rules.specs.Tables.{isService, groupOf, keysOf}
+use Rattle.rules.specs.Faults.{fault, after}
+use Rattle.rules.specs.Groups.{serviceFault, fileFault}
+use Rattle.rules.specs.Reading.{lineFault, grown, sectionsOf, reading}
+use Rattle.rules.specs.declared.Refusal.the-variants.{Missing, NoPlace, NoService}
+use Rattle.records.specs.Record.{Secret, noSecret, passphrase, Join}
+use Rattle.records.specs.Record as R
+use Rattle.records.specs.declared.Ipv6.the-variants as Ipv6
+use Rattle.joins.specs.Joins.{Joined, joined, refused, iwdJoined, serviceJoined}
+
+-- a record that is all defaults but for its name and credential
+abbrev plainJoin : String → Secret → Join
+plainJoin n c = record { name = word n; credential = c; hidden = false; ipv4 = dhcp; servers = []; domain = []; ipv6 = Ipv6.Auto }
+
+-- document 01's worked service, which is also the record of the iwd file that it becomes
+abbrev worked : Join
+worked =
+    record {
+      name = word "Desk 4";
+      credential = passphrase (word "low\\tide 88");
+      hidden = true;
+      ipv4 = static (10 ∷ 20 ∷ 0 ∷ 14 ∷ []) 24 (some (10 ∷ 20 ∷ 0 ∷ 1 ∷ []));
+      servers = (10 ∷ 20 ∷ 0 ∷ 2 ∷ []) ∷ (10 ∷ 20 ∷ 0 ∷ 3 ∷ []) ∷ [];
+      domain = [];
+      ipv6 = Ipv6.Off;
+    }
+
+-- an open network whose addresses are given
+abbrev numbered : IPv4 → Join
+numbered i = record { name = word "Desk"; credential = noSecret; hidden = false; ipv4 = i; servers = []; domain = []; ipv6 = Ipv6.Auto }
+
+-- ---- iwd
+
+abbrev IwdCase : Type 0
+IwdCase = String × String × Joined
+
+-- cases 1, 2 and 8 of the twelve are the second, third and fourth; a Passphrase wins over a PreSharedKey; a mask is absent; a domain is unescaped
+abbrev iwdCases : List IwdCase
+iwdCases =
+    ("Desk 4.psk", "[Settings]\nHidden=true\n[Security]\nPassphrase=low\\\\tide 88\n[IPv4]\nAddress=10.20.0.14\nNetmask=255.255.255.0\nGateway=10.20.0.1\nDNS=10.20.0.2 10.20.0.3\n[IPv6]\nEnabled=false\n", joined worked)
+    ∷ ("Desk.open", "", joined (plainJoin "Desk" noSecret))
+    ∷ ("Desk.psk", "", refused Missing 0)
+    ∷ ("Desk.open", "[IPv4]\nAddress=10.0.0.2\nNetmask=255.255.254.0\nGateway=10.0.0.1", joined (numbered (static (10 ∷ 0 ∷ 0 ∷ 2 ∷ []) 23 (some (10 ∷ 0 ∷ 0 ∷ 1 ∷ [])))))
+    ∷ ("Desk.open", "[IPv4]\nAddress=10.0.0.2\nGateway=10.0.0.1", joined (numbered (static (10 ∷ 0 ∷ 0 ∷ 2 ∷ []) 24 (some (10 ∷ 0 ∷ 0 ∷ 1 ∷ [])))))
+    ∷ ("Desk.psk", "[Security]\nPreSharedKey=0101010101010101010101010101010101010101010101010101010101010101", joined (plainJoin "Desk" (R.key (replicate 32 1))))
+    ∷ ("Desk.psk", "[Security]\nPreSharedKey=0101010101010101010101010101010101010101010101010101010101010101\nPassphrase=1234567 ", joined (plainJoin "Desk" (passphrase (word "1234567 "))))
+    ∷ ("Desk.open", "[IPv4]\nDomainName=\\sab\n[IPv6]\nEnabled=1\n[Settings]\nHidden=0", joined (record { name = word "Desk"; credential = noSecret; hidden = false; ipv4 = dhcp; servers = []; domain = word " ab"; ipv6 = Ipv6.Auto }))
+    ∷ []
+
+abbrev ofIwd : IwdCase → Joined
+ofIwd c = iwdJoined (word (c .0)) (word (c .1))
+
+abbrev iwdAnswer : IwdCase → Joined
+iwdAnswer c = c .2
+
+pub iwd-table : map ofIwd iwdCases ≡ map iwdAnswer iwdCases
+unfolding reading lineFault grown sectionsOf serviceFault fileFault fault after isService groupOf keysOf nameOf networkOf isKeyByte isPlain bracketOf settingOf lineOf valueStart typed stringJudged kindJudged judged flag wordOf ipv4 entries colonPairs mac key ssid string value number address prefixLength lengthUpTo maskLength netmask addresses nibble unhex unescaping follow utf8From text
+iwd-table = refl
+
+-- ---- ConnMan
+
+abbrev ServiceCase : Type 0
+ServiceCase = ℕ × String × Joined
+
+-- case 9 of the twelve, without its move, is the fourth; SSID wins over Name; a Passphrase without Security, and neither; the second service; what has no record, and services that are not there
+abbrev serviceCases : List ServiceCase
+serviceCases =
+    (1, "[service_till]\nType = wifi\nName = Desk 4\nPassphrase = low\\tide 88\nIPv4 = 10.20.0.14/24/10.20.0.1\nNameservers = 10.20.0.2,10.20.0.3\nHidden = true\nIPv6 = off\n", joined worked)
+    ∷ (1, "[service_a]\nType=wifi\nName=Till\nSSID=4465736b\nPassphrase=12345678", joined (plainJoin "Desk" (passphrase (word "12345678"))))
+    ∷ (2, "[service_a]\nType=ethernet\n[global]\nName=x\n[service_b]\nType=wifi\nName=Desk", joined (plainJoin "Desk" noSecret))
+    ∷ (1, "[service_a]\nType=wifi\nName=Desk\nIPv4=10.0.0.2/24", joined (numbered (static (10 ∷ 0 ∷ 0 ∷ 2 ∷ []) 24 none)))
+    ∷ (1, "[service_a]\nType=ethernet\n[service_b]\nType=wifi\nName=Desk", refused NoPlace 2)
+    ∷ (1, "[service_a]\nType=wifi\nName=Desk\nSecurity=wep\nPassphrase=12345678", refused NoPlace 4)
+    ∷ (1, "[service_a]\nType=wifi\nSecurity=ieee8021x\nName=Desk", refused NoPlace 3)
+    ∷ (2, "[service_a]\nType=ethernet", refused NoService 0)
+    ∷ (0, "[service_a]\nType=wifi\nName=Desk", refused NoService 0)
+    ∷ []
+
+abbrev ofService : ServiceCase → Joined
+ofService c = serviceJoined (word "shop.config") (word (c .1)) (c .0)
+
+abbrev serviceAnswer : ServiceCase → Joined
+serviceAnswer c = c .2
+
+pub service-table : map ofService serviceCases ≡ map serviceAnswer serviceCases
+unfolding reading lineFault grown sectionsOf serviceFault fileFault fault after isService groupOf keysOf nameOf networkOf isKeyByte isPlain bracketOf settingOf lineOf valueStart typed stringJudged kindJudged judged flag wordOf ipv4 entries colonPairs mac key ssid string value number address prefixLength lengthUpTo maskLength netmask addresses nibble unhex unescaping follow utf8From text
+service-table = refl

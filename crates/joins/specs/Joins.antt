@@ -1,0 +1,215 @@
+-- The join record of an iwd file and of a ConnMan service, as document 01 says it under "The join record". Every value is read by its kind.
+use Prim.Native.Nat.{ℕ}
+use mathlib.Core.Bool.{Bool, true, false, cond, _||_}
+use mathlib.Core.List.{List, []}
+use mathlib.Core.Option.{Option, none, some}
+use lib.ListN.{replicate}
+use Rattle.text.specs.Words.{word}
+use Rattle.text.specs.Options.{only, orElse, plain}
+use Rattle.text.specs.declared.Dialect.the-variants as D
+use Rattle.addresses.specs.Addresses.{address, netmask, addresses, noAddress}
+use Rattle.addresses.specs.declared.Separator.the-variants.{Spaces, Comma}
+use Rattle.kinds.specs.Kinds as K
+use Rattle.kinds.specs.Kinds.{IPv4, dhcp, static, flag, wordOf, ipv4, ssid, string}
+use Rattle.kinds.specs.declared.Method.the-variants as M
+use Rattle.kinds.specs.declared.Word.{Word}
+use Rattle.kinds.specs.declared.Word.the-variants as W
+use Rattle.kinds.specs.declared.WordList.the-variants as L
+use Rattle.names.specs.Names.{Network, networkOf}
+use Rattle.rules.specs.Faults.{Entry}
+use Rattle.rules.specs.Groups.{entryOf, isWord}
+use Rattle.rules.specs.Asking.{iwdEntry, serviceAt, readAs, lineIn, asked, askedOf}
+use Rattle.rules.specs.Reading.{sectionsOf, reading}
+use Rattle.rules.specs.declared.Refusal.{Refusal}
+use Rattle.rules.specs.declared.Refusal.the-variants.{NoPlace}
+use Rattle.rules.specs.declared.Answer.{Answer}
+use Rattle.rules.specs.declared.Answer.the-variants.{Good, Refused}
+use Rattle.records.specs.Record.{Secret, noSecret, passphrase, key, Join, laid, laidServers}
+use Rattle.records.specs.declared.Credential.the-variants as C
+use Rattle.records.specs.declared.Ipv6.{Ipv6}
+use Rattle.records.specs.declared.Ipv6.the-variants as Ipv6
+use Rattle.records.specs.declared.JoinRecord.{JoinRecord}
+use Rattle.joins.specs.declared.RecordAnswer.{RecordAnswer}
+
+-- ---- what an absent value means
+
+-- "a Passphrase wins over a PreSharedKey"
+abbrev pub secretFrom : Option (List ℕ) → Option (List ℕ) → Secret
+secretFrom (some p) k = passphrase p
+secretFrom none (some k) = key k
+secretFrom none none = noSecret
+
+-- "Netmask absent means 24"
+abbrev pub lengthOr24 : Option ℕ → ℕ
+lengthOr24 none = 24
+lengthOr24 (some n) = n
+
+-- "no Address means dhcp"
+abbrev pub staticOrDhcp : Option (List ℕ) → Option ℕ → Option (List ℕ) → IPv4
+staticOrDhcp none m g = dhcp
+staticOrDhcp (some a) m g = static a (lengthOr24 m) g
+
+-- "IPv4 absent is dhcp"
+abbrev pub ipv4OrDhcp : Option IPv4 → IPv4
+ipv4OrDhcp none = dhcp
+ipv4OrDhcp (some i) = i
+
+-- "Hidden absent means false", in both
+abbrev pub orFalse : Option Bool → Bool
+orFalse none = false
+orFalse (some b) = b
+
+-- "Enabled absent or true means auto (house)"
+abbrev pub enabledIpv6 : Option Bool → Ipv6
+enabledIpv6 none = Ipv6.Auto
+enabledIpv6 (some true) = Ipv6.Auto
+enabledIpv6 (some false) = Ipv6.Off
+
+-- "IPv6 absent auto"
+abbrev pub wordIpv6 : Option Word → Ipv6
+wordIpv6 o = cond (isWord W.Off o) Ipv6.Off Ipv6.Auto
+
+-- "SSID, if present, is the name and Name is ignored"
+abbrev pub nameFrom : Option (List ℕ) → Option (List ℕ) → List ℕ
+nameFrom (some s) n = s
+nameFrom none n = plain n
+
+-- ---- the record of an iwd file, at giving the setting with a key in the group with a name
+
+abbrev pub iwdSecret : (List ℕ → Option Entry) → Secret
+iwdSecret at = secretFrom (readAs (K.passphrase D.Iwd) (at (word "Passphrase"))) (readAs K.key (at (word "PreSharedKey")))
+
+abbrev pub iwdIpv4 : (List ℕ → Option Entry) → IPv4
+iwdIpv4 at = staticOrDhcp (readAs address (at (word "Address"))) (readAs netmask (at (word "Netmask"))) (readAs address (at (word "Gateway")))
+
+-- "iwd: the name from the file name; a Passphrase wins over a PreSharedKey; Netmask absent means 24; no Address means dhcp;
+-- Enabled absent or true means auto (house); Hidden absent means false."
+abbrev pub iwdJoin : List ℕ → (List ℕ → List ℕ → Option Entry) → Join
+iwdJoin name at =
+    record {
+      name = name;
+      credential = iwdSecret (at (word "Security"));
+      hidden = orFalse (readAs (flag D.Iwd) (at (word "Settings") (word "Hidden")));
+      ipv4 = iwdIpv4 (at (word "IPv4"));
+      servers = plain (readAs (addresses Spaces) (at (word "IPv4") (word "DNS")));
+      domain = plain (readAs (string D.Iwd 1 253) (at (word "IPv4") (word "DomainName")));
+      ipv6 = enabledIpv6 (readAs (flag D.Iwd) (at (word "IPv6") (word "Enabled")));
+    }
+
+-- ---- the record of a ConnMan service, at giving the setting with a key
+
+-- "Security absent means psk with a Passphrase, none without": the credential is the Passphrase, if there is one. Security psk
+-- has one (14), Security none has none (15), and the other two have no record.
+abbrev pub serviceSecret : (List ℕ → Option Entry) → Secret
+serviceSecret at = secretFrom (readAs (K.passphrase D.ConnMan) (at (word "Passphrase"))) none
+
+-- "ConnMan: SSID, if present, is the name and Name is ignored, though its line is still judged; Security absent means psk with
+-- a Passphrase, none without; IPv4 absent is dhcp, IPv6 absent auto, Hidden absent false."
+abbrev pub serviceJoin : (List ℕ → Option Entry) → Join
+serviceJoin at =
+    record {
+      name = nameFrom (readAs ssid (at (word "SSID"))) (readAs (string D.ConnMan 1 32) (at (word "Name")));
+      credential = serviceSecret at;
+      hidden = orFalse (readAs (flag D.ConnMan) (at (word "Hidden")));
+      ipv4 = ipv4OrDhcp (readAs ipv4 (at (word "IPv4")));
+      servers = plain (readAs (addresses Comma) (at (word "Nameservers")));
+      domain = plain (readAs (string D.ConnMan 1 253) (at (word "Domain")));
+      ipv6 = wordIpv6 (readAs (wordOf L.Ipv6Method) (at (word "IPv6")));
+    }
+
+-- "Asking the record of an ethernet, wep or ieee8021x service is 16": the Type or Security line that causes it
+abbrev pub wired : (List ℕ → Option Entry) → Bool
+wired at = isWord W.Ethernet (readAs (wordOf L.ServiceType) (at (word "Type")))
+
+abbrev pub foreignSecurity : Option Word → Bool
+foreignSecurity o = isWord W.Wep o || isWord W.Ieee8021x o
+
+abbrev pub noRecord : (List ℕ → Option Entry) → Option ℕ
+noRecord at =
+    orElse (only (wired at) (some (lineIn (at (word "Type")))))
+    (only (foreignSecurity (readAs (wordOf L.Security) (at (word "Security")))) (some (lineIn (at (word "Security")))))
+
+-- "A service needs a key when its credential is not none."
+abbrev pub secretGiven : Secret → Bool
+secretGiven noSecret = false
+secretGiven (passphrase p) = true
+secretGiven (key k) = true
+
+abbrev pub needsKey : Join → Bool
+needsKey j = secretGiven (j .credential)
+
+-- ---- the answers
+
+-- a join record, or the refusal and its line
+pub data Joined : Type 0 where
+  joined : Join → Joined
+  refused : Refusal → ℕ → Joined
+
+-- the name that the file name gives
+abbrev pub networkName : Option Network → List ℕ
+networkName none = []
+networkName (some x) = x .name
+
+abbrev pub orRefused : Answer → Joined → Joined
+orRefused Good j = j
+orRefused (Refused r l) j = refused r l
+
+abbrev pub orNoPlace : Option ℕ → Join → Joined
+orNoPlace none j = joined j
+orNoPlace (some l) j = refused NoPlace l
+
+-- of an iwd file under its name
+abbrev pub iwdJoined : List ℕ → List ℕ → Joined
+iwdJoined name file = orRefused (asked (reading D.Iwd name file)) (joined (iwdJoin (networkName (networkOf name)) (iwdEntry (sectionsOf D.Iwd file))))
+
+-- of service w of a ConnMan file: 16 "asked after 18"
+abbrev pub settingOf : ℕ → List ℕ → List ℕ → Option Entry
+settingOf w file k = entryOf k (serviceAt w (sectionsOf D.ConnMan file))
+
+abbrev pub serviceJoined : List ℕ → List ℕ → ℕ → Joined
+serviceJoined name file w = orRefused (askedOf w (reading D.ConnMan name file)) (orNoPlace (noRecord (settingOf w file)) (serviceJoin (settingOf w file)))
+
+-- ---- the answers as the code gives them
+
+-- all zeros; zero of an enum is its case 0
+abbrev pub zeroRecord : JoinRecord
+zeroRecord =
+    record {
+      «name_len» = 0;
+      name = replicate 32 0;
+      credential = C.None;
+      «passphrase_len» = 0;
+      passphrase = replicate 63 0;
+      key = replicate 32 0;
+      hidden = false;
+      ipv4 = M.Dhcp;
+      address = noAddress;
+      length = 0;
+      «has_gateway» = false;
+      gateway = noAddress;
+      «server_count» = 0;
+      «domain_len» = 0;
+      domain = replicate 253 0;
+      ipv6 = Ipv6.Auto;
+    }
+
+-- "Every answer but 0 leaves all lent buffers unchanged and all other result fields zero."
+abbrev pub recordAnswer : Joined → RecordAnswer
+recordAnswer (joined j) = record { answer = Good; «record» = laid j }
+recordAnswer (refused r l) = record { answer = Refused r l; «record» = zeroRecord }
+
+abbrev pub serversAfter : Joined → List (List ℕ) → List (List ℕ)
+serversAfter (joined j) old = laidServers j
+serversAfter (refused r l) old = old
+
+unfoldable pub iwdRecord : List ℕ → List ℕ → RecordAnswer
+iwdRecord name file = recordAnswer (iwdJoined name file)
+
+unfoldable pub iwdRecordServers : List ℕ → List ℕ → List (List ℕ) → List (List ℕ)
+iwdRecordServers name file old = serversAfter (iwdJoined name file) old
+
+unfoldable pub serviceRecord : List ℕ → List ℕ → ℕ → RecordAnswer
+serviceRecord name file w = recordAnswer (serviceJoined name file w)
+
+unfoldable pub serviceRecordServers : List ℕ → List ℕ → ℕ → List (List ℕ) → List (List ℕ)
+serviceRecordServers name file w old = serversAfter (serviceJoined name file w) old

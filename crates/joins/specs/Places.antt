@@ -1,0 +1,67 @@
+-- What the table of places must say before a record is read from it.
+use Prim.Native.Nat.{ℕ}
+use mathlib.Core.Path.{_≡_}
+use mathlib.Core.Bool.{Bool, cond}
+use mathlib.Core.List.{List}
+use mathlib.Core.Option.{Option}
+use lib.ListN.{length}
+use Rattle.text.specs.Bytes.{between}
+use Rattle.text.specs.Words.{word}
+use Rattle.text.specs.declared.Dialect.the-variants.{Iwd}
+use Rattle.kinds.specs.declared.Ipv4.{Ipv4}
+use Rattle.rules.specs.Lookups.{keyNames}
+use Rattle.rules.specs.Faults.{Entry}
+use Rattle.rules.specs.Groups.{entryOf, entriesIn}
+use Rattle.rules.specs.Reading.{sectionsOf}
+use Rattle.rules.specs.declared.Group.the-variants as G
+use Rattle.rules.specs.declared.Refusal.the-variants.{NoService}
+use Rattle.rules.specs.declared.Answer.the-variants.{Good, Refused}
+use Rattle.reader.specs.Holds.{Row}
+use Rattle.records.specs.declared.Ipv6.{Ipv6}
+use Rattle.records.specs.declared.JoinRecord.{JoinRecord}
+use Rattle.joins.specs.Joins.{Joined, orRefused, orNoPlace, noRecord, serviceJoin, recordAnswer, serversAfter}
+use Rattle.joins.specs.declared.Login.{Login}
+use Rattle.joins.specs.declared.Domain.{Domain}
+use Rattle.joins.specs.declared.RecordAnswer.{RecordAnswer}
+
+-- the rows of iwd's groups keep the settings of the file
+pub record IwdRows (file x : List ℕ) : Type 0 where
+  pub long : length x ≡ 384
+  pub general : Row file x 0 (keyNames G.Settings) (entriesIn (word "Settings") (sectionsOf Iwd file))
+  pub security : Row file x 16 (keyNames G.Security) (entriesIn (word "Security") (sectionsOf Iwd file))
+  pub ipv4 : Row file x 32 (keyNames G.Ipv4) (entriesIn (word "IPv4") (sectionsOf Iwd file))
+  pub ipv6 : Row file x 48 (keyNames G.Ipv6) (entriesIn (word "IPv6") (sectionsOf Iwd file))
+
+-- a record from its parts
+abbrev pub assembled : ℕ → List ℕ → Login → Bool → Ipv4 → ℕ → Domain → Ipv6 → JoinRecord
+assembled n name login hidden numbers servers domain ipv6 =
+    record {
+      «name_len» = n;
+      name = name;
+      credential = login .credential;
+      «passphrase_len» = login .length;
+      passphrase = login .passphrase;
+      key = login .key;
+      hidden = hidden;
+      ipv4 = numbers .method;
+      address = numbers .address;
+      length = numbers .length;
+      «has_gateway» = numbers .«has_gateway»;
+      gateway = numbers .gateway;
+      «server_count» = servers;
+      «domain_len» = domain .length;
+      domain = domain .bytes;
+      ipv6 = ipv6;
+    }
+
+-- what is answered of the service whose settings the row from 96 on keeps: the answer, and the lent servers after it
+pub record Answers (file x : List ℕ) (f : (List ℕ → Option Entry) → Joined) (old new : List (List ℕ)) (r : RecordAnswer) : Type 0 where
+  pub is : (es : List Entry) → Row file x 96 (keyNames G.Service) es → r ≡ recordAnswer (f (λ k. entryOf k es))
+  pub servers : (es : List Entry) → Row file x 96 (keyNames G.Service) es → new ≡ serversAfter (f (λ k. entryOf k es)) old
+
+-- a service that there is, and one by its number among m
+abbrev pub ofService : (List ℕ → Option Entry) → Joined
+ofService at = orNoPlace (noRecord at) (serviceJoin at)
+
+abbrev pub ofNumber : ℕ → ℕ → (List ℕ → Option Entry) → Joined
+ofNumber m w at = orRefused (cond (between 1 m w) Good (Refused NoService 0)) (ofService at)

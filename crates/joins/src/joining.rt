@@ -1,0 +1,109 @@
+// A join record from its parts, by the rows of the table of places.
+ghost use mathlib.Core.Path.{_≡_};
+ghost use Rattle.names.specs.Names.{networkOf};
+ghost use Rattle.rules.specs.Asking.{iwdEntry};
+ghost use Rattle.rules.specs.Reading.{sectionsOf};
+ghost use Rattle.settings.specs.Rows.{RowOf, Typed};
+ghost use Rattle.records.specs.Record.{laid};
+ghost use Rattle.joins.specs.Joins.{iwdJoin, networkName, serviceJoin};
+ghost use Rattle.joins.specs.Places.{IwdRows, assembled};
+use crate::Domain;
+use crate::Login;
+use crate::parts;
+use addresses::Separator;
+use kinds::Ipv4;
+use records::Ipv6;
+use records::JoinRecord;
+use rules::Group;
+use settings::values;
+use text::Dialect;
+
+// Lays the parts of a record out.
+fn assemble(
+    length: usize,
+    name: [u8; 32],
+    login: Login,
+    hidden: bool,
+    numbers: Ipv4,
+    servers: usize,
+    domain: Domain,
+    ipv6: Ipv6,
+) -> JoinRecord
+    ensures { λ r. ⌜ r ≡ assembled length name login hidden numbers servers domain ipv6 ⌝ }
+{
+    let credential = login.credential;
+    let passphrase = login.passphrase;
+    let key = login.key;
+    let ipv4 = numbers.method;
+    let address = numbers.address;
+    let gateway = numbers.gateway;
+    let bytes = domain.bytes;
+    JoinRecord {
+        name_len: length,
+        name,
+        credential,
+        passphrase_len: login.length,
+        passphrase,
+        key,
+        hidden,
+        ipv4,
+        address,
+        length: numbers.length,
+        has_gateway: numbers.has_gateway,
+        gateway,
+        server_count: servers,
+        domain_len: domain.length,
+        domain: bytes,
+        ipv6,
+    }
+}
+
+// The record of an accepted iwd file.
+pub fn iwd_join(name: &[u8], file: &[u8], x: &[usize; 384]) -> JoinRecord
+    requires { ⌜ IwdRows (now file) (now x) ⌝ }
+    ensures { λ r. ⌜ r ≡ laid (iwdJoin (networkName (networkOf (now (name .entry)))) (iwdEntry (sectionsOf Dialect.Iwd (now (file .entry))))) ⌝ }
+{
+    let network = names::read_iwd_name(name);
+    let login = parts::iwd_login(file, x);
+    let hidden = parts::hidden_at(Dialect::Iwd, file, x, 2);
+    let numbers = parts::iwd_numbers(file, x);
+    let count = values::count_at(Separator::Spaces, file, x, 37);
+    let domain = parts::domain_at(Dialect::Iwd, file, x, 38);
+    let ipv6 = parts::iwd_ipv6(file, x);
+    let bytes = network.bytes;
+    assemble(
+        network.length,
+        bytes,
+        login,
+        hidden,
+        numbers,
+        count,
+        domain,
+        ipv6,
+    )
+}
+
+// The record of the service asked for, which has one.
+pub fn service_join(file: &[u8], x: &[usize; 384]) -> JoinRecord
+    requires { ⌜ RowOf (now file) (now x) 96 Group.Service ⌝ }
+    ensures { λ r. ⌜ Typed (now (file .entry)) (now (x .entry)) 96 Group.Service (λ at. laid (serviceJoin at)) r ⌝ }
+{
+    let name = parts::service_name(file, x);
+    let login = parts::service_login(file, x);
+    let hidden = parts::hidden_at(Dialect::ConnMan, file, x, 110);
+    let numbers = values::ipv4_at(file, x, 98);
+    let count = values::count_at(Separator::Comma, file, x, 102);
+    let domain = parts::domain_at(Dialect::ConnMan, file, x, 105);
+    let ipv6 = parts::service_ipv6(file, x);
+    let bytes = name.bytes;
+    assemble(
+        name.length,
+        bytes,
+        login,
+        hidden,
+        numbers,
+        count,
+        domain,
+        ipv6,
+    )
+}

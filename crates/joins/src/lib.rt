@@ -1,0 +1,177 @@
+// The join record of an iwd file, and of a ConnMan service by its number: document 01's section "The join record".
+//
+// The definitions are in specs/Joins; that a Passphrase line is never lost and that every record answered is well formed, in
+// specs/Saturday and specs/Answered. `parts` reads one part of a record each, by the slots of the table of places;
+// `joining` puts them together.
+pub mod joining;
+pub mod parts;
+
+ghost use mathlib.Core.Path.{_≡_};
+ghost use Rattle.names.specs.Names.{networkOf};
+ghost use Rattle.rules.specs.Asking.{iwdEntry};
+ghost use Rattle.rules.specs.Reading.{sectionsOf};
+ghost use Rattle.settings.specs.Rows.{RowOf};
+ghost use Rattle.records.specs.Record.{laid, laidServers};
+ghost use Rattle.joins.specs.Joins.{iwdJoin, networkName, zeroRecord, iwdRecord, iwdRecordServers, serviceRecord, serviceRecordServers};
+ghost use Rattle.joins.specs.Places.{IwdRows, Answers, ofService, ofNumber};
+use addresses::Separator;
+use kinds::Method;
+use records::Credential;
+use records::Ipv6;
+use records::JoinRecord;
+use rules::Answer;
+use rules::Group;
+use rules::Reading;
+use rules::Refusal;
+use settings::values;
+use text::Dialect;
+
+// The answer, and the record where it is good; a refused answer's record is all zero.
+pub struct RecordAnswer {
+    pub answer: Answer,
+    pub record: JoinRecord,
+}
+
+// A passphrase, the first `length` of `bytes`, with zeros behind it; one that is absent is not ok, and zeros.
+pub struct Phrase {
+    pub ok: bool,
+    pub length: usize,
+    pub bytes: [u8; 63],
+}
+
+// A domain, the first `length` of `bytes`, with zeros behind it; one that is absent has length 0.
+pub struct Domain {
+    pub length: usize,
+    pub bytes: [u8; 253],
+}
+
+// A record's credential with its places.
+pub struct Login {
+    pub credential: Credential,
+    pub length: usize,
+    pub passphrase: [u8; 63],
+    pub key: [u8; 32],
+}
+
+// The line for which a service has no record, if there is one.
+pub enum Hindrance {
+    Nothing,
+    At(usize),
+}
+
+fn zero_record() -> JoinRecord
+    ensures { λ r. ⌜ r ≡ zeroRecord ⌝ }
+{
+    JoinRecord {
+        name_len: 0,
+        name: [0; 32],
+        credential: Credential::None,
+        passphrase_len: 0,
+        passphrase: [0; 63],
+        key: [0; 32],
+        hidden: false,
+        ipv4: Method::Dhcp,
+        address: [0; 4],
+        length: 0,
+        has_gateway: false,
+        gateway: [0; 4],
+        server_count: 0,
+        domain_len: 0,
+        domain: [0; 253],
+        ipv6: Ipv6::Auto,
+    }
+}
+
+fn refused(refusal: Refusal, line: usize) -> RecordAnswer
+    ensures { λ r. ⌜ r ≡ record { answer = Answer.Refused refusal line; «record» = zeroRecord } ⌝ }
+{
+    let record = zero_record();
+    RecordAnswer {
+        answer: Answer::Refused(refusal, line),
+        record,
+    }
+}
+
+// The record of an accepted iwd file.
+fn iwd_found(name: &[u8], file: &[u8], x: &[usize; 384], servers: &mut [[u8; 4]; 4]) -> RecordAnswer
+    requires { ⌜ IwdRows (now file) (now x) ⌝ }
+    ensures { λ r. ⌜ (r ≡ record { answer = Answer.Good; «record» = laid (iwdJoin (networkName (networkOf (now (name .entry)))) (iwdEntry (sectionsOf Dialect.Iwd (now (file .entry))))) })
+        × (now (servers .exit) ≡ laidServers (iwdJoin (networkName (networkOf (now (name .entry)))) (iwdEntry (sectionsOf Dialect.Iwd (now (file .entry)))))) ⌝ }
+{
+    let record = joining::iwd_join(name, file, x);
+    *servers = values::servers_at(Separator::Spaces, file, x, 37);
+    RecordAnswer {
+        answer: Answer::Good,
+        record,
+    }
+}
+
+// The join record of an iwd file under its name; the name servers go into the lent ones.
+pub fn iwd_record(name: &[u8], file: &[u8], servers: &mut [[u8; 4]; 4]) -> RecordAnswer
+    ensures { λ r. ⌜ (r ≡ iwdRecord (now (name .entry)) (now (file .entry)))
+        × (now (servers .exit) ≡ iwdRecordServers (now (name .entry)) (now (file .entry)) (now (servers .entry))) ⌝ }
+{
+    let mut x = [0; 384];
+    let reading = pass::read(Dialect::Iwd, name, file, &mut x, 0);
+    match reading {
+        Reading::Accepted(_, _) => iwd_found(name, file, &x, servers),
+        Reading::Refused(refusal, line) => refused(refusal, line),
+    }
+}
+
+// The record of a service that there is, or the line for which it has none.
+fn service_found(file: &[u8], x: &[usize; 384], servers: &mut [[u8; 4]; 4]) -> RecordAnswer
+    requires { ⌜ RowOf (now file) (now x) 96 Group.Service ⌝ }
+    ensures { λ r. ⌜ Answers (now (file .entry)) (now (x .entry)) ofService (now (servers .entry)) (now (servers .exit)) r ⌝ }
+{
+    let hindrance = parts::hindrance_at(file, x);
+    match hindrance {
+        Hindrance::At(line) => refused(Refusal::NoPlace, line),
+        Hindrance::Nothing => {
+            let record = joining::service_join(file, x);
+            *servers = values::servers_at(Separator::Comma, file, x, 102);
+            RecordAnswer {
+                answer: Answer::Good,
+                record,
+            }
+        }
+    }
+}
+
+// The same of a service by its number, where there are this many.
+fn service_numbered(
+    file: &[u8],
+    x: &[usize; 384],
+    services: usize,
+    service: usize,
+    servers: &mut [[u8; 4]; 4],
+) -> RecordAnswer
+    requires { ⌜ RowOf (now file) (now x) 96 Group.Service ⌝ }
+    ensures { λ r. ⌜ Answers (now (file .entry)) (now (x .entry)) (ofNumber services service) (now (servers .entry)) (now (servers .exit)) r ⌝ }
+{
+    if service < 1 {
+        return refused(Refusal::NoService, 0);
+    }
+    if services < service {
+        return refused(Refusal::NoService, 0);
+    }
+    service_found(file, x, servers)
+}
+
+// The join record of a service, counted from 1, of a ConnMan file under its name; the name servers go into the lent ones.
+pub fn service_record(
+    name: &[u8],
+    file: &[u8],
+    service: usize,
+    servers: &mut [[u8; 4]; 4],
+) -> RecordAnswer
+    ensures { λ r. ⌜ (r ≡ serviceRecord (now (name .entry)) (now (file .entry)) service)
+        × (now (servers .exit) ≡ serviceRecordServers (now (name .entry)) (now (file .entry)) service (now (servers .entry))) ⌝ }
+{
+    let mut x = [0; 384];
+    let reading = pass::read(Dialect::ConnMan, name, file, &mut x, service);
+    match reading {
+        Reading::Accepted(_, services) => service_numbered(file, &x, services, service, servers),
+        Reading::Refused(refusal, line) => refused(refusal, line),
+    }
+}

@@ -1,0 +1,27 @@
+// The join record of a file.
+ghost use mathlib.Core.Path.{_≡_};
+ghost use Rattle.joins.specs.Joins.{iwdRecord, iwdRecordServers, serviceRecord, serviceRecordServers};
+use joins::RecordAnswer;
+
+// The join record of an iwd file, and its name servers in the lent array. A refusal gives a record that is all zero and
+// leaves the array as it was.
+pub fn iwd_record(name: &[u8], file: &[u8], servers: &mut [[u8; 4]; 4]) -> RecordAnswer
+    ensures { λ r. ⌜ (r ≡ iwdRecord (now (name .entry)) (now (file .entry)))
+        × (now (servers .exit) ≡ iwdRecordServers (now (name .entry)) (now (file .entry)) (now (servers .entry))) ⌝ }
+{
+    joins::iwd_record(name, file, servers)
+}
+
+// The join record of a ConnMan service, counted from 1, and its name servers in the lent array. A refusal gives a record that
+// is all zero and leaves the array as it was.
+pub fn service_record(
+    name: &[u8],
+    file: &[u8],
+    service: usize,
+    servers: &mut [[u8; 4]; 4],
+) -> RecordAnswer
+    ensures { λ r. ⌜ (r ≡ serviceRecord (now (name .entry)) (now (file .entry)) service)
+        × (now (servers .exit) ≡ serviceRecordServers (now (name .entry)) (now (file .entry)) service (now (servers .entry))) ⌝ }
+{
+    joins::service_record(name, file, service, servers)
+}
