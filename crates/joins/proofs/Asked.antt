@@ -1,6 +1,6 @@
 -- The answers, one law for each return: what the file's reading, the service's number and its lines say.
 use Prim.Native.Nat.{ℕ, _≤_, _<_}
-use mathlib.Core.Path.{_≡_, refl, ap, sym, _∙_, subst}
+use mathlib.Core.Path.{_≡_, refl, ap, sym, _∙_}
 use mathlib.Core.Bool.{Bool, true, false}
 use mathlib.Core.List.{List}
 use mathlib.Core.Option.{Option, none, some}
@@ -14,13 +14,12 @@ use Rattle.kinds.specs.Kinds.{wordOf}
 use Rattle.kinds.specs.declared.Word.the-variants as W
 use Rattle.kinds.specs.declared.WordList.the-variants as L
 use Rattle.names.specs.Names.{networkOf}
-use Rattle.rules.specs.Tables.{groupOf, keysOf}
+use Rattle.rules.specs.Tables.{keysOf}
 use Rattle.rules.specs.Lookups.{keyNames}
-use Rattle.rules.specs.Faults.{Entry, serves}
-use Rattle.rules.specs.Groups.{entryOf, entriesIn, isWord}
-use Rattle.rules.specs.Asking.{iwdEntry, serviceAt, readAs, lineIn}
+use Rattle.rules.specs.Faults.{Entry}
+use Rattle.rules.specs.Groups.{entryOf, isWord}
+use Rattle.rules.specs.Asking.{iwdEntry, readAs, lineIn}
 use Rattle.rules.specs.Reading.{sectionsOf}
-use Rattle.rules.specs.declared.Group.{Group}
 use Rattle.rules.specs.declared.Group.the-variants as G
 use Rattle.rules.specs.declared.Refusal.{Refusal}
 use Rattle.rules.specs.declared.Refusal.the-variants.{NoPlace, NoService}
@@ -28,15 +27,12 @@ use Rattle.rules.specs.declared.Reading.{Reading}
 use Rattle.rules.specs.declared.Reading.the-variants as R
 use Rattle.rules.specs.declared.Answer.the-variants.{Good, Refused}
 use Rattle.reader.specs.Store.{slot}
-use Rattle.reader.specs.History.{base}
 use Rattle.reader.specs.Holds.{Row}
-use Rattle.reader.proofs.PlainHeading.{groupName}
-use Rattle.reader.proofs.FileFault.{entries-latest}
-use Rattle.reader.proofs.Backwards.{entries-reverse}
-use Rattle.reader.proofs.Values.{numbered-service}
 use Rattle.pass.specs.Pass.{Found, Reads}
 use Rattle.settings.specs.Values.{bytesAt}
-use Rattle.settings.specs.Rows.{RowOf, Typed}
+use Rattle.settings.specs.Rows.{Typed}
+use Rattle.settings.proofs.IwdFile.{found-rows}
+use Rattle.settings.proofs.ServiceFile.{service-row}
 use Rattle.settings.proofs.Rowwise.{word-none, addresses-none, row-read, row-line}
 use Rattle.records.specs.Record.{laid, laidServers}
 use Rattle.records.specs.declared.JoinRecord.{JoinRecord}
@@ -49,25 +45,14 @@ use Rattle.joins.specs.declared.RecordAnswer.{RecordAnswer}
 
 -- ---- the rows after a reading
 
-module _ {file : List ℕ} {w : ℕ} {y : List ℕ} where
-  group-row : (g : Group) → groupOf Iwd (groupName g) ≡ some g → serves g ≡ false → Found Iwd file w y → Row file y (base g) (keyNames g) (entriesIn (groupName g) (sectionsOf Iwd file))
-  group-row g q v f = subst (λ (es : List Entry). Row file y (base g) (keyNames g) es) (sym (entries-latest Iwd g q v (f .groups) (f .kept .well)) ∙ sym (entries-reverse (groupName g) Iwd (f .groups) (f .kept .well)) ∙ ap (entriesIn (groupName g)) (f .all)) (f .kept .rows g)
-
-  pub iwd-rows : Found Iwd file w y → IwdRows file y
-  unfolding groupOf
-  iwd-rows f = record { long = f .kept .long; general = group-row G.Settings refl refl f; security = group-row G.Security refl refl f; ipv4 = group-row G.Ipv4 refl refl f; ipv6 = group-row G.Ipv6 refl refl f }
-
-  service-row : Found ConnMan file w y → Row file y 96 (keyNames G.Service) (serviceAt w (sectionsOf ConnMan file))
-  service-row f = subst (λ (es : List Entry). Row file y 96 (keyNames G.Service) es) (numbered-service w (f .groups) ∙ ap (serviceAt w) (f .all)) (f .kept .found)
-
-  pub found-row : Found ConnMan file w y → RowOf file y 96 G.Service
-  found-row f = record { long = f .kept .long; settings = serviceAt w (sectionsOf ConnMan file); row = service-row f }
+pub iwd-rows : {file : List ℕ} {w : ℕ} {y : List ℕ} → Found Iwd file w y → IwdRows file y
+iwd-rows f = record { long = f .kept .long; rows = found-rows f }
 
 -- ---- an iwd file
 
 pub iwd-servers : {file x : List ℕ} {s : List (List ℕ)} (n : List ℕ) → IwdRows file x → s ≡ rows (addresses Spaces (bytesAt file (slot 37 x))) → s ≡ laidServers (iwdJoin n (iwdEntry (sectionsOf Iwd file)))
 unfolding keysOf
-iwd-servers n h e = e ∙ ap rows (row-read G.Ipv4 (h .ipv4) (word "DNS") 4 refl (addresses Spaces) (addresses-none Spaces))
+iwd-servers n h e = e ∙ ap rows (row-read G.Ipv4 (h .rows .ipv4) (word "DNS") 4 refl (addresses Spaces) (addresses-none Spaces))
 
 module _ {name file : List ℕ} {w : ℕ} {y : List ℕ} {q : Reading} (h : Reads Iwd name file w y q) (old : List (List ℕ)) where
   pub iwd-accepted : {n m : ℕ} → q ≡ R.Accepted n m → {r : RecordAnswer} {new : List (List ℕ)} → (r ≡ record { answer = Good; «record» = laid (iwdJoin (networkName (networkOf name)) (iwdEntry (sectionsOf Iwd file))) }) × (new ≡ laidServers (iwdJoin (networkName (networkOf name)) (iwdEntry (sectionsOf Iwd file)))) → (r ≡ iwdRecord name file) × (new ≡ iwdRecordServers name file old)

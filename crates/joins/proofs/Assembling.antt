@@ -55,16 +55,16 @@ phrase-none ConnMan = refl
 
 module _ {file x : List ℕ} (h : IwdRows file x) where
   pub general-row : RowOf file x 0 G.Settings
-  general-row = record { long = h .long; settings = _; row = h .general }
+  general-row = record { long = h .long; settings = _; row = h .rows .general }
 
   pub security-row : RowOf file x 16 G.Security
-  security-row = record { long = h .long; settings = _; row = h .security }
+  security-row = record { long = h .long; settings = _; row = h .rows .security }
 
   pub ipv4-row : RowOf file x 32 G.Ipv4
-  ipv4-row = record { long = h .long; settings = _; row = h .ipv4 }
+  ipv4-row = record { long = h .long; settings = _; row = h .rows .ipv4 }
 
   pub ipv6-row : RowOf file x 48 G.Ipv6
-  ipv6-row = record { long = h .long; settings = _; row = h .ipv6 }
+  ipv6-row = record { long = h .long; settings = _; row = h .rows .ipv6 }
 
 -- ---- an iwd file
 
@@ -87,12 +87,12 @@ module _ (name : List ℕ) {file x : List ℕ} (h : IwdRows file x) where
       ∙ rw (
         ap (λ (n : IwdName). n .length) p ∙ network-long (networkOf name),
         ap (λ (n : IwdName). n .bytes) p ∙ network-padded (networkOf name),
-        q ∙ ap₂ (λ (a b : Option (List ℕ)). loginAnswer (secretFrom a b)) (row-read G.Security (h .security) (word "Passphrase") 0 refl (passphrase Iwd) (phrase-none Iwd)) (row-read G.Security (h .security) (word "PreSharedKey") 1 refl key key-none),
-        s ∙ ap orFalse (row-read G.Settings (h .general) (word "Hidden") 1 refl (flag Iwd) (flag-none Iwd)),
-        t ∙ ap₂ (λ (a g : Option (List ℕ)). numbersAnswer (staticOrDhcp a (netmask (bytesAt file (slot 36 x))) g)) (row-read G.Ipv4 (h .ipv4) (word "Address") 0 refl address address-none) (row-read G.Ipv4 (h .ipv4) (word "Gateway") 1 refl address address-none) ∙ ap (λ (m : Option ℕ). numbersAnswer (staticOrDhcp (readAs address (iwdEntry (sectionsOf Iwd file) (word "IPv4") (word "Address"))) m (readAs address (iwdEntry (sectionsOf Iwd file) (word "IPv4") (word "Gateway"))))) (row-read G.Ipv4 (h .ipv4) (word "Netmask") 3 refl netmask netmask-none),
-        u ∙ ap (λ (o : Option (List (List ℕ))). length (plain o)) (row-read G.Ipv4 (h .ipv4) (word "DNS") 4 refl (addresses Spaces) (addresses-none Spaces)),
-        v ∙ ap domainAnswer (row-read G.Ipv4 (h .ipv4) (word "DomainName") 5 refl (string Iwd 1 253) (string-none Iwd 253)),
-        w ∙ ap enabledIpv6 (row-read G.Ipv6 (h .ipv6) (word "Enabled") 0 refl (flag Iwd) (flag-none Iwd)),
+        q ∙ ap₂ (λ (a b : Option (List ℕ)). loginAnswer (secretFrom a b)) (row-read G.Security (h .rows .security) (word "Passphrase") 0 refl (passphrase Iwd) (phrase-none Iwd)) (row-read G.Security (h .rows .security) (word "PreSharedKey") 1 refl key key-none),
+        s ∙ ap orFalse (row-read G.Settings (h .rows .general) (word "Hidden") 1 refl (flag Iwd) (flag-none Iwd)),
+        t ∙ ap₂ (λ (a g : Option (List ℕ)). numbersAnswer (staticOrDhcp a (netmask (bytesAt file (slot 36 x))) g)) (row-read G.Ipv4 (h .rows .ipv4) (word "Address") 0 refl address address-none) (row-read G.Ipv4 (h .rows .ipv4) (word "Gateway") 1 refl address address-none) ∙ ap (λ (m : Option ℕ). numbersAnswer (staticOrDhcp (readAs address (iwdEntry (sectionsOf Iwd file) (word "IPv4") (word "Address"))) m (readAs address (iwdEntry (sectionsOf Iwd file) (word "IPv4") (word "Gateway"))))) (row-read G.Ipv4 (h .rows .ipv4) (word "Netmask") 3 refl netmask netmask-none),
+        u ∙ ap (λ (o : Option (List (List ℕ))). length (plain o)) (row-read G.Ipv4 (h .rows .ipv4) (word "DNS") 4 refl (addresses Spaces) (addresses-none Spaces)),
+        v ∙ ap domainAnswer (row-read G.Ipv4 (h .rows .ipv4) (word "DomainName") 5 refl (string Iwd 1 253) (string-none Iwd 253)),
+        w ∙ ap enabledIpv6 (row-read G.Ipv6 (h .rows .ipv6) (word "Enabled") 0 refl (flag Iwd) (flag-none Iwd)),
       )
 
 -- ---- a service

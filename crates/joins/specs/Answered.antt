@@ -21,7 +21,8 @@ use Rattle.kinds.specs.Kinds as K
 use Rattle.kinds.specs.Kinds.{IPv4, dhcp, off, static, wordOf, ipv4, ssid, string}
 use Rattle.kinds.specs.Typed as T
 use Rattle.kinds.specs.Typed.{typed}
-use Rattle.kinds.specs.Values.{string-size, key-size, ssid-size, address-good, netmask-good, addresses-good, Ipv4Good, ipv4-good, text-bytes, string-text}
+use Rattle.addresses.specs.Laws.{address-bytes}
+use Rattle.kinds.specs.Values.{string-size, key-size, ssid-size, netmask-good, addresses-good, Ipv4Good, ipv4-good, text-bytes, string-text}
 use Rattle.kinds.specs.declared.Kind.the-variants as Kind
 use Rattle.kinds.specs.declared.Word.{Word}
 use Rattle.kinds.specs.declared.Word.the-variants as W
@@ -117,7 +118,7 @@ module _ (name file : List ℕ) {n m : ℕ} (a : reading D.Iwd name file ≡ Acc
       (read-holds GoodDomain (string D.Iwd 1 253) (iwdEntry (sectionsOf D.Iwd file) (word "IPv4") (word "DomainName")) (λ e q x r. good-domain D.Iwd (e .value) (group-value D.Iwd name file a (word "IPv4") (word "DomainName") refl refl q .text) r))
 
 address-formed : (at : Option Entry) → Holds (λ x. isAddress x ≡ true) (readAs address at)
-address-formed at = read-holds (λ (x : List ℕ). isAddress x ≡ true) address at (λ e q x r. address-good (e .value) r)
+address-formed at = read-holds (λ (x : List ℕ). isAddress x ≡ true) address at (λ e q x r. address-bytes (e .value) r)
 
 iwd-ipv4-formed : (at : List ℕ → Option Entry) → GoodIpv4 (staticOrDhcp (readAs address (at (word "Address"))) (readAs netmask (at (word "Netmask"))) (readAs address (at (word "Gateway"))))
 iwd-ipv4-formed at =

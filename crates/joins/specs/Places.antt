@@ -6,7 +6,6 @@ use mathlib.Core.List.{List}
 use mathlib.Core.Option.{Option}
 use lib.ListN.{length}
 use Rattle.text.specs.Bytes.{between}
-use Rattle.text.specs.Words.{word}
 use Rattle.text.specs.declared.Dialect.the-variants.{Iwd}
 use Rattle.kinds.specs.declared.Ipv4.{Ipv4}
 use Rattle.rules.specs.Lookups.{keyNames}
@@ -17,6 +16,7 @@ use Rattle.rules.specs.declared.Group.the-variants as G
 use Rattle.rules.specs.declared.Refusal.the-variants.{NoService}
 use Rattle.rules.specs.declared.Answer.the-variants.{Good, Refused}
 use Rattle.reader.specs.Holds.{Row}
+use Rattle.settings.specs.Asked.{FourRows}
 use Rattle.records.specs.declared.Ipv6.{Ipv6}
 use Rattle.records.specs.declared.JoinRecord.{JoinRecord}
 use Rattle.joins.specs.Joins.{Joined, orRefused, orNoPlace, noRecord, serviceJoin, recordAnswer, serversAfter}
@@ -27,10 +27,7 @@ use Rattle.joins.specs.declared.RecordAnswer.{RecordAnswer}
 -- the rows of iwd's groups keep the settings of the file
 pub record IwdRows (file x : List ℕ) : Type 0 where
   pub long : length x ≡ 384
-  pub general : Row file x 0 (keyNames G.Settings) (entriesIn (word "Settings") (sectionsOf Iwd file))
-  pub security : Row file x 16 (keyNames G.Security) (entriesIn (word "Security") (sectionsOf Iwd file))
-  pub ipv4 : Row file x 32 (keyNames G.Ipv4) (entriesIn (word "IPv4") (sectionsOf Iwd file))
-  pub ipv6 : Row file x 48 (keyNames G.Ipv6) (entriesIn (word "IPv6") (sectionsOf Iwd file))
+  pub rows : FourRows file x (λ n. entriesIn n (sectionsOf Iwd file))
 
 -- a record from its parts
 abbrev pub assembled : ℕ → List ℕ → Login → Bool → Ipv4 → ℕ → Domain → Ipv6 → JoinRecord

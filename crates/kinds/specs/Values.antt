@@ -53,9 +53,6 @@ ssid-size v {s} e =
 
 -- ---- addresses and mask lengths
 
-pub address-good : (v : List ℕ) {a : List ℕ} → address v ≡ some a → isAddress a ≡ true
-address-good v e = address-bytes v e
-
 upTo-size : (m : ℕ) (o : Option ℕ) {n : ℕ} → upTo m o ≡ some n → n ≤ m
 upTo-size m none {n} e = absurd (Option·none-ne-some n e)
 upTo-size m (some x) {n} e =
@@ -127,13 +124,13 @@ static-good (a ∷ m ∷ []) {i} e =
     let x = then-some (address a) (λ x. andThen (lengthOf m) (λ n. some (static x n none))) e in
     let n = then-some (lengthOf m) (λ n. some (static (x .0) n none)) (x .2) in
     let k = length-good m (n .1) in
-    subst Ipv4Good (Option·some-injective (static (x .0) (n .0) none) i (n .2)) (record { address = address-good a (x .1); low = k .0; high = k .1; gateway = tt })
+    subst Ipv4Good (Option·some-injective (static (x .0) (n .0) none) i (n .2)) (record { address = address-bytes a (x .1); low = k .0; high = k .1; gateway = tt })
 static-good (a ∷ m ∷ g ∷ []) {i} e =
     let x = then-some (address a) (λ x. andThen (lengthOf m) (λ n. andThen (address g) (λ y. some (static x n (some y))))) e in
     let n = then-some (lengthOf m) (λ n. andThen (address g) (λ y. some (static (x .0) n (some y)))) (x .2) in
     let y = then-some (address g) (λ y. some (static (x .0) (n .0) (some y))) (n .2) in
     let k = length-good m (n .1) in
-    subst Ipv4Good (Option·some-injective (static (x .0) (n .0) (some (y .0))) i (y .2)) (record { address = address-good a (x .1); low = k .0; high = k .1; gateway = address-good g (y .1) })
+    subst Ipv4Good (Option·some-injective (static (x .0) (n .0) (some (y .0))) i (y .2)) (record { address = address-bytes a (x .1); low = k .0; high = k .1; gateway = address-bytes g (y .1) })
 static-good (a ∷ m ∷ g ∷ h ∷ t) {i} e = absurd (Option·none-ne-some i e)
 
 pub ipv4-good : (v : List ℕ) {i : IPv4} → ipv4 v ≡ some i → Ipv4Good i

@@ -14,6 +14,7 @@ use Rattle.text.specs.declared.Place.{Place}
 use Rattle.lines.specs.Lines.{header}
 use Rattle.rules.specs.Tables.{groupOf}
 use Rattle.rules.specs.Faults.{Section, nameGiven, serves, services, headerFault, fault, after, withGroup}
+use Rattle.rules.specs.GoodEntries.{serves-service}
 use Rattle.rules.specs.declared.Group.{Group}
 use Rattle.rules.specs.declared.Group.the-variants.{Service}
 use Rattle.rules.specs.declared.Refusal.{Refusal}
@@ -31,7 +32,7 @@ use Rattle.reader.specs.declared.Heading.the-variants.{Opens, Refused}
 use Rattle.reader.specs.declared.Stepped.the-variants.{Goes, Stops}
 use Rattle.reader.proofs.PlainHeading.{renamed, holds-plain}
 use Rattle.reader.proofs.ServiceHeading.{holds-service}
-use Rattle.reader.proofs.HeadingFault.{headingFault, base-serves, serves-service, heading-fault}
+use Rattle.reader.proofs.HeadingFault.{headingFault, base-serves, heading-fault}
 
 -- ---- whether the row is that of services
 

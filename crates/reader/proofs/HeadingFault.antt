@@ -1,7 +1,7 @@
 -- A header's answer by the table of places is the one by the groups that the table holds.
 use Prim.Native.Nat.{ℕ}
 use mathlib.Core.Path.{_≡_, refl, ap, sym, _∙_}
-use mathlib.Core.Bool.{Bool, true, false, cond, not, _&&_, false≢true}
+use mathlib.Core.Bool.{Bool, true, false, cond, not, _&&_}
 use mathlib.Core.List.{List}
 use mathlib.Core.Option.{Option, none, some}
 use borrow.Author.Tests.{eqb-true, eqb-false}
@@ -11,6 +11,7 @@ use Rattle.lines.specs.Lines.{header}
 use Rattle.rules.specs.Tables.{groupOf}
 use Rattle.rules.specs.Lookups.{namedAnswer}
 use Rattle.rules.specs.Faults.{Section, nameGiven, serves, services, headerFault, fault}
+use Rattle.rules.specs.GoodEntries.{serves-service}
 use Rattle.rules.specs.declared.Group.{Group}
 use Rattle.rules.specs.declared.Group.the-variants.{Settings, Security, Ipv4, Ipv6, Global, Service}
 use Rattle.rules.specs.declared.Named.{Named}
@@ -53,14 +54,6 @@ base-serves Ipv4 = refl
 base-serves Ipv6 = refl
 base-serves Global = refl
 base-serves Service = refl
-
-pub serves-service : (g : Group) → serves g ≡ true → g ≡ Service
-serves-service Settings e = absurd (false≢true e)
-serves-service Security e = absurd (false≢true e)
-serves-service Ipv4 e = absurd (false≢true e)
-serves-service Ipv6 e = absurd (false≢true e)
-serves-service Global e = absurd (false≢true e)
-serves-service Service e = refl
 
 module _ {d : Dialect} {file : List ℕ} {w : ℕ} {st : State} {x : List ℕ} {gs : List Section} (h : Holds d file w st x gs) (n : List ℕ) where
   plain-named : {g : Group} → groupOf d n ≡ some g → serves g ≡ false → (b : Bool) → eqb (headSlot g gs .line) 0 ≡ b → not b ≡ nameGiven n gs

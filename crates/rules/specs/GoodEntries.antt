@@ -120,7 +120,7 @@ group-entries d n {g} q (s ∷ gs) h = go (same n (s .name)) refl (group-entries
     go true p f = subst (λ (a : Group). EntriesGood d a (s .entries)) (Option·some-injective (s .group) g (sym (h .0 .named) ∙ ap (groupOf d) (sym (same-eq n (s .name) p)) ∙ q)) (h .0 .entries)
     go false p f = f
 
-serves-service : (g : Group) → serves g ≡ true → g ≡ Service
+pub serves-service : (g : Group) → serves g ≡ true → g ≡ Service
 serves-service Settings e = absurd (true≢false (sym e))
 serves-service Security e = absurd (true≢false (sym e))
 serves-service Ipv4 e = absurd (true≢false (sym e))

@@ -61,7 +61,7 @@ module _ {file : List ℕ} {w : ℕ} {y : List ℕ} (f : Found Iwd file w y) whe
       (sym (ap (entriesIn (groupName g)) (sym (f .all)) ∙ entries-reverse (groupName g) Iwd (f .groups) (f .kept .well) ∙ entries-latest Iwd g q v (f .groups) (f .kept .well)))
       (f .kept .rows g)
 
-  found-rows : FourRows file y (λ n. entriesIn n (sectionsOf Iwd file))
+  pub found-rows : FourRows file y (λ n. entriesIn n (sectionsOf Iwd file))
   unfolding groupOf
   found-rows = record { general = of-group G.Settings refl refl; security = of-group G.Security refl refl; ipv4 = of-group G.Ipv4 refl refl; ipv6 = of-group G.Ipv6 refl refl }
 

@@ -57,6 +57,14 @@ none-kept file = record { long = length-replicate {A = ℕ} 384 0; settings = []
 pub none-answer : {file : List ℕ} {s : ServiceSettings} → Typed file (replicate 384 0) 96 G.Service serviceSettings s → (r : Refusal) (l : ℕ) → record { answer = Refused r l; settings = s } ≡ serviceAnswerOf (Refused r l) []
 none-answer {file} t r l = rw (t .is [] (none-row file))
 
+-- after a reading
+module _ {file : List ℕ} {w : ℕ} {y : List ℕ} (f : Found ConnMan file w y) where
+  pub service-row : Row file y 96 (keyNames G.Service) (serviceAt w (sectionsOf ConnMan file))
+  service-row = subst (λ (es : List Entry). Row file y 96 (keyNames G.Service) es) (numbered-service w (f .groups) ∙ ap (serviceAt w) (f .all)) (f .kept .found)
+
+  pub service-kept : RowOf file y 96 G.Service
+  service-kept = record { long = f .kept .long; settings = serviceAt w (sectionsOf ConnMan file); row = service-row }
+
 -- ---- the answers
 
 module _ {name file : List ℕ} {w : ℕ} {y : List ℕ} {q : Reading} (h : Reads ConnMan name file w y q) where
@@ -81,10 +89,10 @@ module _ {name file : List ℕ} {w : ℕ} {y : List ℕ} {q : Reading} (h : Read
     none-high l = counted ∙ rw (over {x = w} 1 m l)
 
     found-row : Row file y 96 (keyNames G.Service) (serviceAt w (sectionsOf ConnMan file))
-    found-row = let f = h .found e in subst (λ (es : List Entry). Row file y 96 (keyNames G.Service) es) (numbered-service w (f .groups) ∙ ap (serviceAt w) (f .all)) (f .kept .found)
+    found-row = service-row (h .found e)
 
     pub found-kept : RowOf file y 96 G.Service
-    found-kept = record { long = h .found e .kept .long; settings = serviceAt w (sectionsOf ConnMan file); row = found-row }
+    found-kept = service-kept (h .found e)
 
     pub nameservers-in : SlotIn file y 102
     unfolding keysOf

@@ -1,5 +1,6 @@
 -- The file is accepted, or it is refused.
-use Rattle.joins.proofs.Asked.{found-row, service-accepted, service-refused}
+use Rattle.settings.proofs.ServiceFile.{service-kept}
+use Rattle.joins.proofs.Asked.{service-accepted, service-refused}
 use borrow.Author.Needs.{needs}
 use Rattle.joins.proofs.service_record.Statement.{statement}
 use Rattle.joins.proofs.service_record.Tie as tie
@@ -10,7 +11,7 @@ service-record-spec =
     (tie.spec
     (λ c κs. search needs)
     (λ c. search needs)
-    (λ c κs. found-row (c .before .before .before .before .before .read .ensures .found (c .before .before .before .reading .given .1)))
+    (λ c κs. service-kept (c .before .before .before .before .before .read .ensures .found (c .before .before .before .reading .given .1)))
     (λ c. search needs)
     (λ c κs. search needs)
     (λ c. service-accepted (c .before .before .before .before .before .before .read .ensures) (c .before .before .before .before .before .before .before .before .before .before .args .servers .now) (c .before .before .before .before .reading .given .1) (c .service-numbered .ensures))
