@@ -1,10 +1,20 @@
-// How names, files and other inputs are written in the tables of the programs that run cases.
+// How names, files and other inputs are written in the tables of the programs that run cases, and, in `show`, how those
+// programs write their answers.
 //
 // `%` and two hex digits stand for a byte, `%*` and five decimal digits for that many times the byte written behind them;
 // any other byte stands as it is.
+pub mod show;
+
 ghost use mathlib.Core.Path.{_≡_};
 ghost use Prim.Native.Nat.{_+_, _≤_, _<_};
 ghost use lib.ListN.{length};
+ghost use Rattle.cases.specs.Numbers.{serviceNumber};
+
+// The number of a service, below 2^64, or that none is written.
+pub enum Service {
+    Is(usize),
+    Broken,
+}
 
 // A byte, how often it stands, and where the next one is written.
 struct Run {
@@ -121,4 +131,32 @@ pub fn decode(out: &mut [u8], s: &[u8]) -> usize
         i = r.next;
     }
     n
+}
+
+// The number that s writes in decimal digits.
+pub fn service_number(s: &[u8]) -> Service
+    ensures { λ r. ⌜ r ≡ serviceNumber (now (s .entry)) ⌝ }
+{
+    let mut n = 0usize;
+    let mut i = 0;
+    while i < s.len() {
+        let c = s[i];
+        if c < 48 {
+            return Service::Broken;
+        }
+        if 57 < c {
+            return Service::Broken;
+        }
+        if 1844674407370955161 < n {
+            return Service::Broken;
+        }
+        let tens = n * 10;
+        let digit = (c - 48) as usize;
+        if 18446744073709551615 - tens < digit {
+            return Service::Broken;
+        }
+        n = tens + digit;
+        i += 1;
+    }
+    Service::Is(n)
 }

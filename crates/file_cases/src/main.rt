@@ -4,31 +4,15 @@
 // space the file is empty. Both are written as crate `cases` says. Behind it come ` = ` and what the library answers:
 // `accepted` with the numbers of settings and services, or `refused` with the number and the line. The expected side, the
 // file stdout, is written by hand from document 01 and docs/DECISIONS.md.
-use libc::STDOUT_FILENO;
+use cases::show;
 use rules::Reading;
-
-fn say(s: &[u8]) {
-    io::write_all(STDOUT_FILENO, s);
-}
-
-fn say_number(n: usize) {
-    io::print_decimal(STDOUT_FILENO, n as u64);
-}
-
-// A word and two numbers behind it.
-fn say_answer(word: &[u8], first: usize, second: usize) {
-    say(word);
-    say_number(first);
-    say(b" ");
-    say_number(second);
-}
 
 fn say_reading(r: Reading) {
     match r {
-        Reading::Accepted(settings, services) => say_answer(b"accepted ", settings, services),
+        Reading::Accepted(settings, services) => show::numbers(b"accepted", settings, services),
         Reading::Refused(refusal, line) => {
             let number = rules::numbers::number_of(refusal);
-            say_answer(b"refused ", number as usize, line)
+            show::numbers(b"refused", number as usize, line)
         }
     }
 }
@@ -36,7 +20,7 @@ fn say_reading(r: Reading) {
 // The answer to a name and the first n bytes of s, which may be too few.
 fn answer_file(name: &[u8], s: &[u8], n: usize) {
     if s.len() < n {
-        say(b"too long");
+        show::say(b"too long");
         return;
     }
     let d = names::dialects::dialect_of(name);
@@ -46,7 +30,7 @@ fn answer_file(name: &[u8], s: &[u8], n: usize) {
 // The answer to a file, as it is written, and to the first n bytes of s as its name.
 fn answer_case(s: &[u8], n: usize, written: &[u8]) {
     if s.len() < n {
-        say(b"too long");
+        show::say(b"too long");
         return;
     }
     let mut file = [0u8; 16448];
@@ -63,14 +47,14 @@ fn answer(written_name: &[u8], written: &[u8]) {
 
 // A line, and its answer where it is a case.
 fn show_line(line: &[u8]) {
-    say(line);
+    show::say(line);
     if line.len() == 0 {
         return;
     }
     if line[0] == 35 {
         return;
     }
-    say(b" = ");
+    show::say(b" = ");
     let space = text::scan::find(line, 0, 32);
     if space == line.len() {
         answer(line, b"");
@@ -85,7 +69,7 @@ fn show_lines(s: &[u8]) {
     while at < s.len() {
         let end = text::scan::line_end(s, at);
         show_line(&s[at..end]);
-        say(b"\n");
+        show::say(b"\n");
         at = end + 1;
     }
 }
@@ -94,7 +78,7 @@ fn main() {
     let mut buf = io::large_buffer();
     let n = io::read_full(0, &mut buf);
     if n == buf.len() {
-        say(b"the table is too long\n");
+        show::say(b"the table is too long\n");
         return;
     }
     show_lines(&buf[..n]);

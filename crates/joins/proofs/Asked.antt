@@ -88,11 +88,11 @@ module _ {file x : List ℕ} {h : Hindrance} (e : h ≡ hindrance (isWord W.Ethe
   pub found-hindered : (old : List (List ℕ)) {l : ℕ} → h ≡ H.At l → {r : RecordAnswer} → r ≡ record { answer = Refused NoPlace l; «record» = zeroRecord } → Answers file x ofService old old r
   found-hindered old q p = record { is = λ es w. rw (no-record q es w) p; servers = λ es w. rw (no-record q es w) }
 
-  pub found-joined : (old : List (List ℕ)) → h ≡ H.Nothing → {j : JoinRecord} → Typed file x 96 G.Service (λ at. laid (serviceJoin at)) j → {s : List (List ℕ)} → s ≡ rows (addresses Comma (bytesAt file (slot 102 x))) → Answers file x ofService old s (record { answer = Good; «record» = j })
+  pub found-joined : (old : List (List ℕ)) → h ≡ H.Nothing → {j : JoinRecord} → Typed file x 96 G.Service (λ at. laid (serviceJoin at)) j → {s : List (List ℕ)} → s ≡ rows (addresses Comma (bytesAt file (slot 102 x))) → {r : RecordAnswer} → r ≡ record { answer = Good; «record» = j } → Answers file x ofService old s r
   unfolding keysOf
-  found-joined old q t {s} p =
+  found-joined old q t {s} p {r} a =
       record {
-        is = λ es w. rw (no-record q es w) (ap (λ (j : JoinRecord). record { answer = Good; «record» = j }) (t .is es w));
+        is = λ es w. rw (no-record q es w) (a ∙ ap (λ (j : JoinRecord). record { answer = Good; «record» = j }) (t .is es w));
         servers = λ es w. rw (no-record q es w) (p ∙ ap rows (row-read G.Service w (word "Nameservers") 5 refl (addresses Comma) (addresses-none Comma)));
       }
 

@@ -10,7 +10,6 @@ use Rattle.addresses.specs.declared.Address.{Address}
 use Rattle.kinds.specs.Answers.{keyAnswer, namedWord}
 use Rattle.kinds.specs.declared.Ipv4.{Ipv4}
 use Rattle.kinds.specs.declared.Key.{Key}
-use Rattle.kinds.specs.declared.Ssid.{Ssid}
 use Rattle.kinds.specs.declared.Word.{Word}
 use Rattle.kinds.specs.declared.Word.the-variants as W
 use Rattle.rules.specs.Groups.{isWord, wordNumber}
@@ -22,7 +21,7 @@ use Rattle.records.specs.declared.Ipv6.{Ipv6}
 use Rattle.records.specs.declared.Ipv6.the-variants as Ipv6
 use Rattle.joins.specs.Joins.{secretFrom, lengthOr24, staticOrDhcp, wordIpv6, foreignSecurity}
 use Rattle.kinds.specs.Values.{netmask-good}
-use Rattle.joins.specs.Answers.{phraseAnswer, loginAnswer, loginOf, or24, numbersAnswer, numbersOf, nameOf, hindrance}
+use Rattle.joins.specs.Answers.{phraseAnswer, loginAnswer, loginOf, or24, numbersAnswer, numbersOf, hindrance}
 use Rattle.joins.specs.declared.Phrase.{Phrase}
 use Rattle.joins.specs.declared.Login.{Login}
 use Rattle.joins.specs.declared.Hindrance.the-variants as H
@@ -70,14 +69,6 @@ choice-back (some false) = refl
 
 pub choice-told : (o : Option Bool) {r s : Choice} → r ≡ choice o → r ≡ s → o ≡ choiceIn s
 choice-told o e q = rw (← q, e) (sym (choice-back o))
-
--- ---- a name
-
-pub name-ssid : (n : Ssid) {r s : Ssid} → r ≡ s → r .ok ≡ true → r ≡ nameOf s n
-name-ssid n e h = rw (← e, h)
-
-pub name-other : {r s n t : Ssid} → r ≡ s → r .ok ≡ false → t ≡ n → t ≡ nameOf s n
-name-other e h q = rw (← e, h) q
 
 -- ---- words
 

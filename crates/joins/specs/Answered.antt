@@ -44,7 +44,7 @@ use Rattle.rules.specs.declared.Refusal.the-variants.{Missing, NoService}
 use Rattle.records.specs.Record.{Join}
 use Rattle.records.specs.Formed.{GoodPassphrase, GoodKey, GoodSecret, GoodIpv4, GoodServers, GoodDomain, WellFormed}
 use Rattle.joins.specs.Joins.{joined, secretFrom, staticOrDhcp, ipv4OrDhcp, nameFrom, iwdJoin, serviceJoin, wired, foreignSecurity, noRecord, networkName, iwdJoined, settingOf, serviceJoined}
-use Rattle.joins.specs.Saturday.{joined-good}
+use Rattle.joins.specs.Saturday.{asked-reading, joined-good}
 
 -- ---- what is read from a setting
 
@@ -126,10 +126,6 @@ iwd-ipv4-formed at =
     (address-formed (at (word "Address")))
     (read-holds (λ (n : ℕ). (1 ≤ n) × (n ≤ 32)) netmask (at (word "Netmask")) (λ e q x r. netmask-good (e .value) r))
     (address-formed (at (word "Gateway")))
-
-asked-reading : (r : Reading) → asked r ≡ A.Good → (n : ℕ) × ((m : ℕ) × (r ≡ Accepted n m))
-asked-reading (Accepted n m) e = (n, (m, refl))
-asked-reading (Refused r l) e = let z : _≡_ {A = ℕ} 0 1 = cc in absurd (omega arith)
 
 pub iwd-formed : (name file : List ℕ) {j : Join} → iwdJoined name file ≡ joined j → WellFormed j
 iwd-formed name file a =

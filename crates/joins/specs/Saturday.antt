@@ -1,4 +1,4 @@
--- "A faulty Passphrase line treated as absent, so the service reads as open": it cannot be. A file with a faulty Passphrase line is not accepted, and a service with a Passphrase line has that passphrase as its credential.
+-- "A faulty Passphrase line treated as absent, so the service reads as open": it cannot be. A file with a faulty Passphrase line is not accepted, and an iwd file or a service with a Passphrase line has that passphrase as its credential.
 use Prim.Native.Nat.{ℕ, suc, _+_}
 use native.Mathlib.Omega.{arith}
 use mathlib.Core.Path.{_≡_, refl, ap, sym, _∙_, subst}
@@ -16,13 +16,14 @@ use Rattle.kinds.specs.Kinds as K
 use Rattle.kinds.specs.Typed.{Typed, bytes, typed, judged}
 use Rattle.kinds.specs.declared.Kind.{Kind}
 use Rattle.kinds.specs.declared.Kind.the-variants as Kind
-use Rattle.rules.specs.Tables.{keysOf, kindOf}
+use Rattle.names.specs.Names.{networkOf}
+use Rattle.rules.specs.Tables.{groupOf, keysOf, kindOf}
 use Rattle.rules.specs.Faults.{Entry, Section, given, keyFault, valueFault, fault}
 use Rattle.rules.specs.Groups.{entryOf}
 use Rattle.rules.specs.Reading.{afterLine, grown, sectionsOf, reading}
-use Rattle.rules.specs.Asking.{readAs, askedOf}
+use Rattle.rules.specs.Asking.{iwdEntry, readAs, asked, askedOf}
 use Rattle.rules.specs.Acceptance.{LinesObey, accepted-obeys}
-use Rattle.rules.specs.GoodValues.{GoodValue, service-value}
+use Rattle.rules.specs.GoodValues.{GoodValue, group-value, service-value}
 use Rattle.rules.specs.declared.Answer.{Answer}
 use Rattle.rules.specs.declared.Answer.the-variants as A
 use Rattle.rules.specs.declared.Group.{Group}
@@ -32,7 +33,7 @@ use Rattle.rules.specs.declared.Reading.the-variants.{Accepted, Refused}
 use Rattle.rules.specs.declared.Refusal.{Refusal}
 use Rattle.rules.specs.declared.Refusal.the-variants.{NoGroup, UnknownKey, RepeatedKey}
 use Rattle.records.specs.Record.{Join, passphrase}
-use Rattle.joins.specs.Joins.{Joined, joined, refused, secretFrom, secretGiven, needsKey, serviceJoin, noRecord, orNoPlace, orRefused, settingOf, serviceJoined}
+use Rattle.joins.specs.Joins.{Joined, joined, refused, secretFrom, secretGiven, needsKey, networkName, iwdJoin, iwdJoined, serviceJoin, noRecord, orNoPlace, orRefused, settingOf, serviceJoined}
 
 -- ---- a faulty Passphrase line
 
@@ -74,39 +75,57 @@ faulty-refused d name file before l rest v p q f e =
 -- ---- a good one
 
 -- the bytes that a passphrase reads as
-pub record Read (v : List ℕ) : Type 0 where
+pub record Read (d : Dialect) (v : List ℕ) : Type 0 where
   pub bytes : List ℕ
-  pub is : K.passphrase D.ConnMan v ≡ some bytes
+  pub is : K.passphrase d v ≡ some bytes
 
-reads-passphrase : (v : List ℕ) → GoodValue D.ConnMan Kind.Passphrase v → Read v
+reads-passphrase : (d : Dialect) (v : List ℕ) → GoodValue d Kind.Passphrase v → Read d v
 unfolding typed
-reads-passphrase v g = go (K.passphrase D.ConnMan v) refl (g .reads)
+reads-passphrase d v g = go (K.passphrase d v) refl (g .reads)
   where
-    go : (o : Option (List ℕ)) → K.passphrase D.ConnMan v ≡ o → mapped bytes o ≡ some (g .value) → Read v
+    go : (o : Option (List ℕ)) → K.passphrase d v ≡ o → mapped bytes o ≡ some (g .value) → Read d v
     go none q e = absurd (Option·none-ne-some (g .value) e)
     go (some p) q e = record { bytes = p; is = q }
 
-good-reading : (w : ℕ) (r : Reading) → askedOf w r ≡ A.Good → (n : ℕ) × ((m : ℕ) × (r ≡ Accepted n m))
-good-reading w (Accepted n m) e = (n, (m, refl))
-good-reading w (Refused r l) e = let z : _≡_ {A = ℕ} 0 1 = cc in absurd (omega arith)
+-- "the credential is that passphrase"
+pub record Kept (d : Dialect) (e : Entry) (j : Join) : Type 0 where
+  pub read : Read d (e .value)
+  pub is : j .credential ≡ passphrase (read .bytes)
+  pub needed : needsKey j ≡ true
+
+-- a record whose credential is read from the setting, whatever else it may be read from
+kept : (d : Dialect) {o : Option Entry} (k : Option (List ℕ)) {j : Join} → j .credential ≡ secretFrom (readAs (K.passphrase d) o) k → {e : Entry} → o ≡ some e → GoodValue d Kind.Passphrase (e .value) → Kept d e j
+kept d k {j} c {e} q g =
+    let p = reads-passphrase d (e .value) g in
+    let s : j .credential ≡ passphrase (p .bytes) = c ∙ ap (λ (o : Option Entry). secretFrom (readAs (K.passphrase d) o) k) q ∙ ap (λ (o : Option (List ℕ)). secretFrom o k) (p .is) in
+    record { read = p; is = s; needed = ap secretGiven s }
+
+pub asked-reading : (r : Reading) → asked r ≡ A.Good → (n : ℕ) × ((m : ℕ) × (r ≡ Accepted n m))
+asked-reading (Accepted n m) e = (n, (m, refl))
+asked-reading (Refused r l) e = let z : _≡_ {A = ℕ} 0 1 = cc in absurd (omega arith)
+
+asked-good : (w : ℕ) (r : Reading) → askedOf w r ≡ A.Good → asked r ≡ A.Good
+asked-good w (Accepted n m) e = refl
+asked-good w (Refused r l) e = e
 
 pub joined-good : (a : Answer) (o : Option ℕ) (i : Join) {j : Join} → orRefused a (orNoPlace o i) ≡ joined j → (a ≡ A.Good) × (i ≡ j) × (o ≡ none)
 joined-good A.Good none i {j} e = (refl, cc, refl)
 joined-good A.Good (some l) i e = let z : _≡_ {A = ℕ} 0 1 = cc in absurd (omega arith)
 joined-good (A.Refused r l) o i e = let z : _≡_ {A = ℕ} 0 1 = cc in absurd (omega arith)
 
--- "the credential is that passphrase"
-pub record Kept (e : Entry) (j : Join) : Type 0 where
-  pub read : Read (e .value)
-  pub is : j .credential ≡ passphrase (read .bytes)
-  pub needed : needsKey j ≡ true
+-- a record that is answered, of an iwd file with a Passphrase line
+pub iwd-passphrase-kept : (name file : List ℕ) {j : Join} → iwdJoined name file ≡ joined j → {e : Entry} → iwdEntry (sectionsOf D.Iwd file) (word "Security") (word "Passphrase") ≡ some e → Kept D.Iwd e j
+unfolding groupOf keysOf
+iwd-passphrase-kept name file {j} a {e} q =
+    let at = iwdEntry (sectionsOf D.Iwd file) in
+    let h = joined-good (asked (reading D.Iwd name file)) none (iwdJoin (networkName (networkOf name)) at) a in
+    let r = asked-reading (reading D.Iwd name file) (h .0) in
+    kept D.Iwd (readAs K.key (at (word "Security") (word "PreSharedKey"))) (ap (λ (i : Join). i .credential) (sym (h .1))) q (group-value D.Iwd name file (r .1 .1) (word "Security") (word "Passphrase") refl refl q)
 
 -- a record that is answered, of a service with a Passphrase line
-pub passphrase-kept : (name file : List ℕ) (w : ℕ) {j : Join} → serviceJoined name file w ≡ joined j → {e : Entry} → settingOf w file (word "Passphrase") ≡ some e → Kept e j
+pub passphrase-kept : (name file : List ℕ) (w : ℕ) {j : Join} → serviceJoined name file w ≡ joined j → {e : Entry} → settingOf w file (word "Passphrase") ≡ some e → Kept D.ConnMan e j
 unfolding keysOf
 passphrase-kept name file w {j} a {e} q =
     let h = joined-good (askedOf w (reading D.ConnMan name file)) (noRecord (settingOf w file)) (serviceJoin (settingOf w file)) a in
-    let r = good-reading w (reading D.ConnMan name file) (h .0) in
-    let p = reads-passphrase (e .value) (service-value D.ConnMan name file (r .1 .1) w (word "Passphrase") refl q) in
-    let s : serviceJoin (settingOf w file) .credential ≡ passphrase (p .bytes) = ap (λ (o : Option Entry). secretFrom (readAs (K.passphrase D.ConnMan) o) none) q ∙ ap (λ (o : Option (List ℕ)). secretFrom o none) (p .is) in
-    record { read = p; is = sym (ap (λ (i : Join). i .credential) (h .1)) ∙ s; needed = ap needsKey (sym (h .1)) ∙ ap secretGiven s }
+    let r = asked-reading (reading D.ConnMan name file) (asked-good w (reading D.ConnMan name file) (h .0)) in
+    kept D.ConnMan none (ap (λ (i : Join). i .credential) (sym (h .1))) q (service-value D.ConnMan name file (r .1 .1) w (word "Passphrase") refl q)

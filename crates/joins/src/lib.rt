@@ -92,6 +92,15 @@ fn refused(refusal: Refusal, line: usize) -> RecordAnswer
     }
 }
 
+fn answered(found: JoinRecord) -> RecordAnswer
+    ensures { λ r. ⌜ r ≡ record { answer = Answer.Good; «record» = found } ⌝ }
+{
+    RecordAnswer {
+        answer: Answer::Good,
+        record: found,
+    }
+}
+
 // The record of an accepted iwd file.
 fn iwd_found(name: &[u8], file: &[u8], x: &[usize; 384], servers: &mut [[u8; 4]; 4]) -> RecordAnswer
     requires { ⌜ IwdRows (now file) (now x) ⌝ }
@@ -100,10 +109,7 @@ fn iwd_found(name: &[u8], file: &[u8], x: &[usize; 384], servers: &mut [[u8; 4];
 {
     let record = joining::iwd_join(name, file, x);
     *servers = values::servers_at(Separator::Spaces, file, x, 37);
-    RecordAnswer {
-        answer: Answer::Good,
-        record,
-    }
+    answered(record)
 }
 
 // The join record of an iwd file under its name; the name servers go into the lent ones.
@@ -130,10 +136,7 @@ fn service_found(file: &[u8], x: &[usize; 384], servers: &mut [[u8; 4]; 4]) -> R
         Hindrance::Nothing => {
             let record = joining::service_join(file, x);
             *servers = values::servers_at(Separator::Comma, file, x, 102);
-            RecordAnswer {
-                answer: Answer::Good,
-                record,
-            }
+            answered(record)
         }
     }
 }

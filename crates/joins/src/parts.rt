@@ -283,17 +283,25 @@ pub fn service_ipv6(file: &[u8], x: &[usize; 384]) -> Ipv6
     Ipv6::Auto
 }
 
+// The name of a network: an SSID wins over a Name.
+fn name_of(ssid: Ssid, name: Ssid) -> Ssid
+    ensures { λ r. ⌜ r ≡ nameOf ssid name ⌝ }
+{
+    if ssid.ok {
+        return ssid;
+    }
+    name
+}
+
 // The name of a service's network: its SSID, or else its Name.
 pub fn service_name(file: &[u8], x: &[usize; 384]) -> Ssid
     requires name { ⌜ SlotIn (now file) (now x) 106 ⌝ }
     requires ssid { ⌜ SlotIn (now file) (now x) 107 ⌝ }
     ensures { λ r. ⌜ r ≡ nameOf (ssidAnswer (ssid (bytesAt (now (file .entry)) (slot 107 (now (x .entry)))))) (ssidAnswer (string Dialect.ConnMan 1 32 (bytesAt (now (file .entry)) (slot 106 (now (x .entry)))))) ⌝ }
 {
-    let given = values::ssid_at(file, x, 107);
-    if given.ok {
-        return given;
-    }
-    read_name(value_at(file, x, 106))
+    let ssid = values::ssid_at(file, x, 107);
+    let name = read_name(value_at(file, x, 106));
+    name_of(ssid, name)
 }
 
 // The line for which a service has no record: ethernet, or Security wep or ieee8021x.

@@ -1,5 +1,5 @@
 // File names, read and written.
-use crate::show;
+use cases::show;
 use names::Suffix;
 
 fn say_suffix(suffix: Suffix) {

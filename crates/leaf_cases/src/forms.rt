@@ -1,5 +1,5 @@
 // What one line is.
-use crate::show;
+use cases::show;
 use lines::Break;
 use lines::Form;
 use text::Dialect;

@@ -1,5 +1,5 @@
 // Values in hex: a MAC, a key, a network name.
-use crate::show;
+use cases::show;
 
 // The bytes of a value; those of a refused one are not in use.
 fn say_bytes(ok: bool, bytes: &[u8]) {
@@ -8,7 +8,7 @@ fn say_bytes(ok: bool, bytes: &[u8]) {
         return;
     }
     show::broken();
-    show::unused(bytes, 0);
+    show::unused(bytes);
 }
 
 fn mac(s: &[u8]) {

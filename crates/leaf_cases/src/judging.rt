@@ -1,6 +1,6 @@
 // A value judged by its kind, in the middle of a file.
-use crate::show;
 use addresses::Separator;
+use cases::show;
 use kinds::Judgement;
 use kinds::Kind;
 use kinds::WordList;

@@ -1,7 +1,7 @@
 // Lists of addresses and of entries.
-use crate::show;
 use addresses::Separator;
 use addresses::writing;
+use cases::show;
 
 // The addresses from the n-th on are not in use.
 fn unused_from(all: [[u8; 4]; 4], n: usize) {
@@ -39,20 +39,6 @@ fn list(s: &[u8], sep: Separator) {
     unused_from(all, n);
 }
 
-// An entry's place; one that is not in use is zero.
-fn say_place(used: bool, start: usize, end: usize) {
-    if used {
-        show::say(b" ");
-        show::number(start);
-        show::say(b"-");
-        show::number(end);
-        return;
-    }
-    if start != 0 || end != 0 {
-        show::say(b" not zero");
-    }
-}
-
 // How many entries there are, and where each of them stands.
 fn entries(s: &[u8]) {
     let r = kinds::lists::read_entries(s, 0);
@@ -62,7 +48,7 @@ fn entries(s: &[u8]) {
     show::number(n);
     let mut i = 0;
     while i < 4 {
-        say_place(i < n, starts[i], ends[i]);
+        show::place(i < n, starts[i], ends[i]);
         i += 1;
     }
 }

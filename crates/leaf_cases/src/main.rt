@@ -9,9 +9,10 @@ mod hexes;
 mod judging;
 mod lists;
 mod numbers;
-mod show;
 mod texts;
 mod words;
+
+use cases::show;
 
 // The answer of the module that knows the kind.
 fn answer(kind: &[u8], input: &[u8]) {

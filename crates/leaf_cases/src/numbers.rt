@@ -1,8 +1,7 @@
 // Addresses, masks, and ConnMan's IPv4.
-use crate::show;
 use addresses::Netmask;
 use addresses::writing;
-use kinds::Method;
+use cases::show;
 
 fn address(s: &[u8]) {
     let r = addresses::numbers::read_address(s);
@@ -44,44 +43,12 @@ fn mask_of(s: &[u8]) {
     show::say(&out[0..size]);
 }
 
-// An address, its mask length and perhaps a gateway, as far as they are in use.
-fn say_static(r: kinds::Ipv4, used: bool) {
-    let address = r.address;
-    let gateway = r.gateway;
-    if used {
-        show::dotted(address);
-        show::say(b"/");
-        show::byte(r.length);
-    } else {
-        show::no_address(address);
-        show::unused(&[r.length], 0);
-    }
-    if r.has_gateway {
-        show::say(b" via ");
-        show::dotted(gateway);
-    } else {
-        show::no_address(gateway);
-    }
-}
-
 fn ipv4(s: &[u8]) {
     let r = kinds::connman_ipv4::read_ipv4(s);
-    let method = r.method;
-    if !r.ok {
-        show::broken();
-        say_static(r, false);
-        return;
-    }
-    match method {
-        Method::Static => say_static(r, true),
-        Method::Off => {
-            show::say(b"off");
-            say_static(r, false)
-        }
-        Method::Dhcp => {
-            show::say(b"dhcp");
-            say_static(r, false)
-        }
+    if r.ok {
+        show::ipv4(r);
+    } else {
+        show::unnumbered(b"broken", r);
     }
 }
 

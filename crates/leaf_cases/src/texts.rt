@@ -1,5 +1,5 @@
 // Value text, record text, strings, and how a string is written.
-use crate::show;
+use cases::show;
 use escapes::Size;
 use text::Dialect;
 

@@ -1,7 +1,6 @@
 // Yes/no and the named words.
-use crate::show;
+use cases::show;
 use kinds::NamedWord;
-use kinds::Word;
 use kinds::WordList;
 use kinds::YesNo;
 use text::Dialect;
@@ -12,27 +11,7 @@ fn flag(d: Dialect, s: &[u8]) {
         show::broken();
         return;
     };
-    if b {
-        show::say(b"true");
-    } else {
-        show::say(b"false");
-    }
-}
-
-fn say_word(w: Word) {
-    match w {
-        Word::Wifi => show::say(b"wifi"),
-        Word::Ethernet => show::say(b"ethernet"),
-        Word::Off => show::say(b"off"),
-        Word::Auto => show::say(b"auto"),
-        Word::Disabled => show::say(b"disabled"),
-        Word::Enabled => show::say(b"enabled"),
-        Word::Preferred => show::say(b"preferred"),
-        Word::Psk => show::say(b"psk"),
-        Word::Ieee8021x => show::say(b"ieee8021x"),
-        Word::None => show::say(b"none"),
-        Word::Wep => show::say(b"wep"),
-    }
+    show::flag(b);
 }
 
 fn named(list: WordList, s: &[u8]) {
@@ -41,7 +20,7 @@ fn named(list: WordList, s: &[u8]) {
         show::broken();
         return;
     };
-    say_word(w);
+    show::word(w);
 }
 
 // Answers a kind of this module, and says whether it is one.

@@ -1,6 +1,6 @@
 // Which values are absent: not there, and zero in every place.
-use crate::show;
 use addresses::Address;
+use cases::show;
 use kinds::Entries;
 use kinds::Ipv4;
 use kinds::Key;
@@ -30,7 +30,7 @@ fn bytes(ok: bool, s: &[u8]) -> bool {
     if ok {
         return false;
     }
-    show::unused(s, 0)
+    show::is_zero(s)
 }
 
 pub(crate) fn address(a: Address) -> bool {
@@ -57,14 +57,14 @@ pub(crate) fn ssid(s: Ssid) -> bool {
 }
 
 // Whether an IPv4 holds no address, length or gateway.
-pub(crate) fn no_static(r: Ipv4) -> bool {
+fn no_static(r: Ipv4) -> bool {
     let gateway = r.gateway;
     let own = r.address;
     if r.has_gateway || r.length != 0 {
         return false;
     }
-    if show::unused(&gateway, 0) {
-        return show::unused(&own, 0);
+    if show::is_zero(&gateway) {
+        return show::is_zero(&own);
     }
     false
 }
@@ -95,4 +95,10 @@ pub(crate) fn entries(e: Entries) -> bool {
         return places(ends);
     }
     false
+}
+
+// That a key is absent, and where it holds something nevertheless, that it does.
+pub(crate) fn say(nothing: bool) {
+    show::say(b"absent");
+    show::expect_zero(nothing);
 }

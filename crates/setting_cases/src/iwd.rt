@@ -1,7 +1,8 @@
 // The typed settings of an iwd file.
 use crate::absent;
-use crate::show;
+use crate::answers;
 use crate::values;
+use cases::show;
 use settings::GeneralSettings;
 use settings::Ipv4Settings;
 use settings::IwdSettings;
@@ -107,7 +108,7 @@ pub(crate) fn answer(name: &[u8], file: &[u8]) {
     let r = qewaris::typed::iwd_settings(name, file, &mut servers);
     let told = r.answer;
     let found = r.settings;
-    let good = show::answer(told);
+    let good = answers::answer(told);
     say_found(good, found);
     show::servers(servers);
 }

@@ -9,43 +9,18 @@
 // that begin with two spaces. The expected side, the file stdout, is written by hand from document 01 and
 // docs/DECISIONS.md.
 mod absent;
+mod answers;
 mod iwd;
 mod services;
-mod show;
 mod strings;
 mod values;
 
-// The number of a service, below 2^64, or that none is written.
-enum Service {
-    Is(usize),
-    Broken,
-}
-
-// The number that s writes in decimal digits.
-fn service_number(s: &[u8]) -> Service {
-    let mut n = 0usize;
-    let mut i = 0;
-    while i < s.len() {
-        let digit = hex::value(s[i]);
-        if 9 < digit {
-            return Service::Broken;
-        }
-        if 1844674407370955161 < n {
-            return Service::Broken;
-        }
-        let tens = n * 10;
-        if 18446744073709551615 - tens < digit as usize {
-            return Service::Broken;
-        }
-        n = tens + digit as usize;
-        i += 1;
-    }
-    Service::Is(n)
-}
+use cases::Service;
+use cases::show;
 
 // The answer to a service of a ConnMan file.
 fn answer_service(name: &[u8], service: &[u8], file: &[u8]) {
-    let n = service_number(service);
+    let n = cases::service_number(service);
     let Service::Is(k) = n else {
         show::say(b"  no number\n");
         return;

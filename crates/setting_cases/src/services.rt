@@ -1,7 +1,8 @@
 // The typed settings of a ConnMan service.
 use crate::absent;
-use crate::show;
+use crate::answers;
 use crate::values;
+use cases::show;
 use settings::AddressSettings;
 use settings::NetworkSettings;
 use settings::ServiceSettings;
@@ -100,7 +101,7 @@ pub(crate) fn answer(name: &[u8], file: &[u8], service: usize) {
     let r = qewaris::typed::service_settings(name, file, service, &mut servers);
     let told = r.answer;
     let found = r.settings;
-    let good = show::answer(told);
+    let good = answers::answer(told);
     say_found(good, found);
     show::servers(servers);
 }

@@ -1,5 +1,5 @@
 // The seven lookups of strings.
-use crate::show;
+use cases::show;
 
 // What a lookup answers: the number, the line and the bytes.
 fn say_lookup(lookup: &[u8], number: u8, line: usize, bytes: &[u8]) {

@@ -19,4 +19,5 @@ iwd-found-spec =
     (tie.spec
     (λ c κs. search needs)
     (λ c κs. slot-in (ipv4-row (c .before .before .before .pre)) (word "DNS") 4 refl (omega arith))
-    (λ c. (rw (c .before .iwd-join .ensures), iwd-servers (networkName (networkOf (c .before .before .before .before .args .name .now))) (c .before .before .before .before .pre) (c .servers-at .ensures))))
+    (λ c κs. search needs)
+    (λ c. (rw (← c .before .before .iwd-join .ensures) (c .answered .ensures), iwd-servers (networkName (networkOf (c .before .before .before .before .before .args .name .now))) (c .before .before .before .before .before .pre) (c .before .servers-at .ensures))))

@@ -20,5 +20,6 @@ service-found-spec =
     (λ c. search needs)
     (λ c κs. search needs)
     (λ c κs. slot-in (c .before .before .before .before .before .pre) (word "Nameservers") 5 refl (omega arith))
+    (λ c κs. search needs)
     (λ c. found-hindered (c .before .before .before .before .hindrance-at .ensures) (c .before .before .before .before .before .before .args .servers .now) (c .before .before .hindrance .given .1) (c .refused .ensures))
-    (λ c. found-joined (c .before .before .before .before .hindrance-at .ensures) (c .before .before .before .before .before .before .args .servers .now) (c .before .before .enum-told .given .1) (c .before .service-join .ensures) (c .servers-at .ensures)))
+    (λ c. found-joined (c .before .before .before .before .before .hindrance-at .ensures) (c .before .before .before .before .before .before .before .args .servers .now) (c .before .before .before .enum-told .given .1) (c .before .before .service-join .ensures) (c .before .servers-at .ensures) (c .answered .ensures)))

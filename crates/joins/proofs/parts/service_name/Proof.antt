@@ -1,13 +1,11 @@
 -- An SSID, or a Name.
 use Prim.Native.Nat.{ℕ}
 use mathlib.Core.List.{List}
-use mathlib.Core.Path.{ap, _∙_}
+use mathlib.Core.Path.{ap, ap₂, _∙_}
 use Rattle.text.specs.declared.Dialect.the-variants.{ConnMan}
 use Rattle.kinds.specs.Kinds.{string}
 use Rattle.kinds.specs.Answers.{ssidAnswer}
-use Rattle.reader.specs.Store.{slot}
-use Rattle.settings.specs.Values.{bytesAt}
-use Rattle.joins.proofs.Choosing.{name-ssid, name-other}
+use Rattle.joins.specs.Answers.{nameOf}
 use borrow.Author.Needs.{needs}
 use Rattle.joins.proofs.parts.service_name.Statement.{statement}
 use Rattle.joins.proofs.parts.service_name.Tie as tie
@@ -17,7 +15,7 @@ service-name-spec =
     tie.close
     (tie.spec
     (λ c κs. search needs)
-    (λ c. name-ssid (ssidAnswer (string ConnMan 1 32 (bytesAt (c .before .before .before .args .file .now) (slot 106 (c .before .before .before .args .x .now))))) (c .before .ssid-at .ensures) (c .if1 .taken))
     (λ c κs. search needs)
     (λ c κs. search needs)
-    (λ c. name-other (c .before .before .before .ssid-at .ensures) (c .before .before .if1 .left) (c .read-name .ensures ∙ ap (λ (s : List ℕ). ssidAnswer (string ConnMan 1 32 s)) (c .before .value-at .ensures))))
+    (λ c κs. search needs)
+    (λ c. c .name-of .ensures ∙ ap₂ nameOf (c .before .before .before .ssid-at .ensures) (c .before .read-name .ensures ∙ ap (λ (s : List ℕ). ssidAnswer (string ConnMan 1 32 s)) (c .before .before .value-at .ensures))))

@@ -2,11 +2,11 @@
 use Prim.Native.Nat.{_≤_, _-_}
 use lib.ListN.{length}
 use borrow.Author.Needs.{needs}
-use Rattle.leaf_cases.proofs.show.hex.Statement.{statement}
-use Rattle.leaf_cases.proofs.show.hex.Tie as tie
+use Rattle.cases.proofs.show.text.Statement.{statement}
+use Rattle.cases.proofs.show.text.Tie as tie
 
-pub hex-spec : {M : Type 1} → statement M
-hex-spec =
+pub text-spec : {M : Type 1} → statement M
+text-spec =
     tie.close
     (tie.spec
     (λ s i₀ i. i ≤ length s)

@@ -2,8 +2,8 @@
 use Prim.Native.Nat.{_≤_, _-_}
 use lib.ListN.{length}
 use borrow.Author.Needs.{needs}
-use Rattle.setting_cases.proofs.show.hex.Statement.{statement}
-use Rattle.setting_cases.proofs.show.hex.Tie as tie
+use Rattle.cases.proofs.show.hex.Statement.{statement}
+use Rattle.cases.proofs.show.hex.Tie as tie
 
 pub hex-spec : {M : Type 1} → statement M
 hex-spec =
