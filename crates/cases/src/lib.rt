@@ -8,6 +8,7 @@ pub mod show;
 ghost use mathlib.Core.Path.{_≡_};
 ghost use Prim.Native.Nat.{_+_, _≤_, _<_};
 ghost use lib.ListN.{length};
+ghost use Rattle.cases.specs.Decoding.{byteRun, digitOf, countAt, runAt, Filled, Decodes};
 ghost use Rattle.cases.specs.Numbers.{serviceNumber};
 
 // The number of a service, below 2^64, or that none is written.
@@ -26,7 +27,7 @@ struct Run {
 // The byte that is written at i: by `%` and two hex digits, or as it stands.
 fn byte_at(s: &[u8], i: usize) -> Run
     requires { ⌜ i < length (now s) ⌝ }
-    ensures { λ r. ⌜ (i < r .next) × (r .next ≤ length (now (s .entry))) ⌝ }
+    ensures { λ r. ⌜ r ≡ byteRun (now (s .entry)) i ⌝ }
 {
     let stands = Run {
         value: s[i],
@@ -56,7 +57,7 @@ fn byte_at(s: &[u8], i: usize) -> Run
 
 // A decimal digit's value, 0 where c is none.
 fn digit(c: u8) -> usize
-    ensures { λ r. ⌜ r ≤ 9 ⌝ }
+    ensures { λ r. ⌜ (r ≡ digitOf c) × (r ≤ 9) ⌝ }
 {
     let v = hex::value(c);
     if 9 < v {
@@ -68,7 +69,7 @@ fn digit(c: u8) -> usize
 // The number that five decimal digits at i give.
 fn count_at(s: &[u8], i: usize) -> usize
     requires { ⌜ i + 5 ≤ length (now s) ⌝ }
-    ensures { λ r. ⌜ r ≤ 99999 ⌝ }
+    ensures { λ r. ⌜ r ≡ countAt (now (s .entry)) i ⌝ }
 {
     let tens = digit(s[i]) * 10 + digit(s[i + 1]);
     let hundreds = tens * 10 + digit(s[i + 2]);
@@ -79,7 +80,7 @@ fn count_at(s: &[u8], i: usize) -> usize
 // What is written at i: a byte that is repeated, or a single one.
 fn run_at(s: &[u8], i: usize) -> Run
     requires { ⌜ i < length (now s) ⌝ }
-    ensures { λ r. ⌜ (i < r .next) × (r .next ≤ length (now (s .entry))) ⌝ }
+    ensures { λ r. ⌜ r ≡ runAt (now (s .entry)) i ⌝ }
 {
     if s.len() - i < 8 {
         return byte_at(s, i);
@@ -102,7 +103,7 @@ fn run_at(s: &[u8], i: usize) -> Run
 // Writes a byte count times from a place of out on, and returns the place behind; more than out has where they do not fit.
 fn fill(out: &mut [u8], from: usize, value: u8, count: usize) -> usize
     requires { ⌜ from ≤ length (now out) ⌝ }
-    ensures { λ r. ⌜ length (now (out .exit)) ≡ length (now (out .entry)) ⌝ }
+    ensures { λ r. ⌜ Filled value count from (now (out .entry)) (now (out .exit)) r ⌝ }
 {
     if out.len() - from < count {
         return out.len() + 1;
@@ -118,7 +119,7 @@ fn fill(out: &mut [u8], from: usize, value: u8, count: usize) -> usize
 
 // Writes the bytes that s gives at the front of out, and returns how many; more than out has where they do not fit.
 pub fn decode(out: &mut [u8], s: &[u8]) -> usize
-    ensures { λ r. ⌜ length (now (out .exit)) ≡ length (now (out .entry)) ⌝ }
+    ensures { λ r. ⌜ Decodes (now (s .entry)) (now (out .entry)) (now (out .exit)) r ⌝ }
 {
     let mut n = 0;
     let mut i = 0;

@@ -147,7 +147,7 @@ pub fn servers(all: [[u8; 4]; 4]) {
 }
 
 // A gateway, where there is one.
-pub fn gateway(r: Ipv4) {
+fn gateway(r: Ipv4) {
     let bytes = r.gateway;
     if r.has_gateway {
         say(b" via ");
