@@ -2,7 +2,7 @@
 use mathlib.Core.Path.{_≡_, refl}
 use mathlib.Core.Bool.{Bool, true, false}
 use mathlib.Core.List.{List, [], _∷_}
-use Prim.Native.Nat.{ℕ, _+_, _*_, _/_, _%_, _≤_, _<_}
+use Prim.Native.Nat.{ℕ, _+_, _-_, _*_, _/_, _%_, _≤_, _<_}
 use native.Mathlib.Omega.{arith}
 use borrow.Author.Tests.{lt-ltb, le-ltb, ltb-true, ltb-false}
 use lib.Dec.{ltb}
@@ -49,12 +49,12 @@ dotted-length a = simp length-append (omega arith)
 pub dotted-short : (a : List ℕ) → length (dotted a) ≤ 15
 dotted-short a = omega (arith, dotted-length a, decimal-short (getD a 0 0), decimal-short (getD a 1 0), decimal-short (getD a 2 0), decimal-short (getD a 3 0))
 
--- a list has at most 16 bytes for each address, one of them the separator
+-- a list has at most 16 bytes for each address, one of them the separator, which the first has not
 module _ (sep : Separator) where
   behind-short : (l : List (List ℕ)) → length (behind sep l) ≤ 16 * length l
   behind-short [] = omega arith
   behind-short (a ∷ l) = omega (arith, length-append (dotted a) (behind sep l), dotted-short a, behind-short l)
 
-  pub listed-short : (l : List (List ℕ)) → length (listed sep l) ≤ 16 * length l
+  pub listed-short : (l : List (List ℕ)) → length (listed sep l) ≤ 16 * length l - 1
   listed-short [] = omega arith
   listed-short (a ∷ l) = omega (arith, length-append (dotted a) (behind sep l), dotted-short a, behind-short l)

@@ -111,7 +111,7 @@ netmask-dotted (suc k) h g = rw (address-dotted (maskBytes (suc k)) (mask-addres
 
 -- ---- a list of addresses
 
-dotted-some : (a : List ℕ) → isAddress a ≡ true → empty (dotted a) ≡ false
+pub dotted-some : (a : List ℕ) → isAddress a ≡ true → empty (dotted a) ≡ false
 unfolding address number
 dotted-some a h = go (dotted a) (address-dotted a h)
   where

@@ -1,4 +1,5 @@
-// Writing answers to standard output: what the programs that run cases have in common.
+// Writing answers to standard output: what the programs that run cases have in common. What is written there is no part of a
+// contract, so each function says only that it answers nothing.
 ghost use mathlib.Core.Path.{_≡_};
 ghost use Rattle.text.specs.Bytes.{between};
 ghost use Rattle.text.specs.Parts.{all};
@@ -7,32 +8,44 @@ use kinds::Method;
 use kinds::Word;
 use libc::STDOUT_FILENO;
 
-pub fn say(s: &[u8]) {
+pub fn say(s: &[u8])
+    ensures { λ r. ⌜ r ≡ tt ⌝ }
+{
     io::write_all(STDOUT_FILENO, s);
 }
 
 // The end of a line.
-pub fn end() {
+pub fn end()
+    ensures { λ r. ⌜ r ≡ tt ⌝ }
+{
     say(b"\n");
 }
 
 // The front of a key's line.
-pub fn key(word: &[u8]) {
+pub fn key(word: &[u8])
+    ensures { λ r. ⌜ r ≡ tt ⌝ }
+{
     say(b"  ");
     say(word);
     say(b" ");
 }
 
-pub fn number(n: usize) {
+pub fn number(n: usize)
+    ensures { λ r. ⌜ r ≡ tt ⌝ }
+{
     io::print_decimal(STDOUT_FILENO, n as u64);
 }
 
-pub fn byte(b: u8) {
+pub fn byte(b: u8)
+    ensures { λ r. ⌜ r ≡ tt ⌝ }
+{
     io::print_decimal(STDOUT_FILENO, b as u64);
 }
 
 // A word and two numbers behind it.
-pub fn numbers(word: &[u8], first: usize, second: usize) {
+pub fn numbers(word: &[u8], first: usize, second: usize)
+    ensures { λ r. ⌜ r ≡ tt ⌝ }
+{
     say(word);
     say(b" ");
     number(first);
@@ -41,17 +54,23 @@ pub fn numbers(word: &[u8], first: usize, second: usize) {
 }
 
 // The line of a refusal: its number and the offending line.
-pub fn refused(n: u8, line: usize) {
+pub fn refused(n: u8, line: usize)
+    ensures { λ r. ⌜ r ≡ tt ⌝ }
+{
     numbers(b"  refused", n as usize, line);
     end();
 }
 
-pub fn two_digits(b: u8) {
+pub fn two_digits(b: u8)
+    ensures { λ r. ⌜ r ≡ tt ⌝ }
+{
     io::print_hex(STDOUT_FILENO, b as u64, 2);
 }
 
 // The bytes of s, two hex digits each.
-pub fn hex(s: &[u8]) {
+pub fn hex(s: &[u8])
+    ensures { λ r. ⌜ r ≡ tt ⌝ }
+{
     let mut i = 0;
     while i < s.len() {
         two_digits(s[i]);
@@ -70,7 +89,9 @@ fn text_byte(b: u8) {
 }
 
 // The bytes of a text.
-pub fn text(s: &[u8]) {
+pub fn text(s: &[u8])
+    ensures { λ r. ⌜ r ≡ tt ⌝ }
+{
     let mut i = 0;
     while i < s.len() {
         text_byte(s[i]);
@@ -86,19 +107,25 @@ pub fn is_zero(s: &[u8]) -> bool
 }
 
 // Says so where a place that is not in use is not zero.
-pub fn expect_zero(zero: bool) {
+pub fn expect_zero(zero: bool)
+    ensures { λ r. ⌜ r ≡ tt ⌝ }
+{
     if !zero {
         say(b" not zero");
     }
 }
 
 // The bytes of s are not in use.
-pub fn unused(s: &[u8]) {
+pub fn unused(s: &[u8])
+    ensures { λ r. ⌜ r ≡ tt ⌝ }
+{
     expect_zero(is_zero(s));
 }
 
 // The first n bytes of s in hex; the others are not in use.
-pub fn hex_front(s: &[u8], n: usize) {
+pub fn hex_front(s: &[u8], n: usize)
+    ensures { λ r. ⌜ r ≡ tt ⌝ }
+{
     if s.len() < n {
         say(b"too long");
         return;
@@ -108,7 +135,9 @@ pub fn hex_front(s: &[u8], n: usize) {
 }
 
 // The first n bytes of s as a text; the others are not in use.
-pub fn text_front(s: &[u8], n: usize) {
+pub fn text_front(s: &[u8], n: usize)
+    ensures { λ r. ⌜ r ≡ tt ⌝ }
+{
     if s.len() < n {
         say(b"too long");
         return;
@@ -118,7 +147,9 @@ pub fn text_front(s: &[u8], n: usize) {
 }
 
 // An address: its four numbers.
-pub fn dotted(a: [u8; 4]) {
+pub fn dotted(a: [u8; 4])
+    ensures { λ r. ⌜ r ≡ tt ⌝ }
+{
     byte(a[0]);
     say(b".");
     byte(a[1]);
@@ -129,12 +160,16 @@ pub fn dotted(a: [u8; 4]) {
 }
 
 // An address that is not in use.
-pub fn no_address(a: [u8; 4]) {
+pub fn no_address(a: [u8; 4])
+    ensures { λ r. ⌜ r ≡ tt ⌝ }
+{
     unused(&a);
 }
 
 // The four rows of the lent name servers.
-pub fn servers(all: [[u8; 4]; 4]) {
+pub fn servers(all: [[u8; 4]; 4])
+    ensures { λ r. ⌜ r ≡ tt ⌝ }
+{
     say(b"  servers ");
     dotted(all[0]);
     say(b" ");
@@ -158,7 +193,9 @@ fn gateway(r: Ipv4) {
 }
 
 // An IPv4 that has no address.
-pub fn unnumbered(word: &[u8], r: Ipv4) {
+pub fn unnumbered(word: &[u8], r: Ipv4)
+    ensures { λ r. ⌜ r ≡ tt ⌝ }
+{
     let address = r.address;
     say(word);
     no_address(address);
@@ -167,7 +204,9 @@ pub fn unnumbered(word: &[u8], r: Ipv4) {
 }
 
 // A method, and for a static one the address, the length of its mask and perhaps a gateway.
-pub fn ipv4(r: Ipv4) {
+pub fn ipv4(r: Ipv4)
+    ensures { λ r. ⌜ r ≡ tt ⌝ }
+{
     let method = r.method;
     let address = r.address;
     match method {
@@ -183,7 +222,9 @@ pub fn ipv4(r: Ipv4) {
 }
 
 // An entry's place; one that is not in use is zero.
-pub fn place(used: bool, start: usize, end: usize) {
+pub fn place(used: bool, start: usize, end: usize)
+    ensures { λ r. ⌜ r ≡ tt ⌝ }
+{
     if used {
         say(b" ");
         number(start);
@@ -195,7 +236,9 @@ pub fn place(used: bool, start: usize, end: usize) {
 }
 
 // A named word.
-pub fn word(w: Word) {
+pub fn word(w: Word)
+    ensures { λ r. ⌜ r ≡ tt ⌝ }
+{
     match w {
         Word::Wifi => say(b"wifi"),
         Word::Ethernet => say(b"ethernet"),
@@ -212,11 +255,15 @@ pub fn word(w: Word) {
 }
 
 // That a value is broken.
-pub fn broken() {
+pub fn broken()
+    ensures { λ r. ⌜ r ≡ tt ⌝ }
+{
     say(b"broken");
 }
 
-pub fn yes_no(b: bool) {
+pub fn yes_no(b: bool)
+    ensures { λ r. ⌜ r ≡ tt ⌝ }
+{
     if b {
         say(b"yes");
     } else {
@@ -225,7 +272,9 @@ pub fn yes_no(b: bool) {
 }
 
 // A yes/no as it is written in a file.
-pub fn flag(b: bool) {
+pub fn flag(b: bool)
+    ensures { λ r. ⌜ r ≡ tt ⌝ }
+{
     if b {
         say(b"true");
     } else {

@@ -1,11 +1,13 @@
--- What is escaped reads back, stands on one line, and does not begin with a blank.
+-- What is escaped reads back, stands on one line, does not begin with a blank, and is at most twice as long.
 use mathlib.Core.Path.{_≡_, refl, ap, sym, _∙_, subst}
 use mathlib.Core.Bool.{Bool, true, false, cond, _&&_}
 use mathlib.Core.List.{List, [], _∷_, _++_}
 use mathlib.Core.Option.{Option, none, some}
-use Prim.Native.Nat.{ℕ}
+use Prim.Native.Nat.{ℕ, _*_, _≤_}
+use native.Mathlib.Omega.{arith}
 use borrow.Author.Tests.{eqb-true, eqb-false, ne-eqb}
 use lib.Dec.{eqb}
+use lib.ListN.{length, length-append}
 use Rattle.text.specs.Bytes.{inLine, isBlank}
 use Rattle.text.specs.Parts.{all, after}
 use Rattle.text.specs.Laws.{all-cons, all-append}
@@ -64,3 +66,17 @@ pub escape-start : (t : List ℕ) → after isBlank (escape t) ≡ escape t
 unfolding writing
 escape-start [] = refl
 escape-start (c ∷ t) = shown-cases (λ (c : ℕ) (l : List ℕ). after isBlank (l ++ writing false t) ≡ l ++ writing false t) true refl refl refl refl refl (λ c hn hr hb hs ht. rw (ne-eqb c 32 hs, ne-eqb c 9 ht)) c
+
+-- ---- its length
+
+shown-length : (f : Bool) (c : ℕ) → length (shown f c) ≤ 2
+shown-length true = shown-cases (λ (c : ℕ) (l : List ℕ). length l ≤ 2) true (omega arith) (omega arith) (omega arith) (omega arith) (omega arith) (λ c hn hr hb hs ht. omega arith)
+shown-length false = shown-cases (λ (c : ℕ) (l : List ℕ). length l ≤ 2) false (omega arith) (omega arith) (omega arith) (omega arith) (omega arith) (λ c hn hr hb hs ht. omega arith)
+
+writing-length : (f : Bool) (t : List ℕ) → length (writing f t) ≤ 2 * length t
+unfolding writing
+writing-length f [] = omega arith
+writing-length f (c ∷ t) = omega (arith, length-append (shown f c) (writing false t), shown-length f c, writing-length false t)
+
+pub escape-length : (t : List ℕ) → length (escape t) ≤ 2 * length t
+escape-length t = writing-length true t

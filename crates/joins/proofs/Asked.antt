@@ -1,10 +1,9 @@
--- The answers, one law for each return: what the file's reading, the service's number and its lines say.
-use Prim.Native.Nat.{ℕ, _≤_, _<_}
+-- The answers, one law for each return: what is answered of the file or of the service by its number, and what its lines say.
+use Prim.Native.Nat.{ℕ}
 use mathlib.Core.Path.{_≡_, refl, ap, sym, _∙_}
 use mathlib.Core.Bool.{Bool, true, false}
 use mathlib.Core.List.{List}
 use mathlib.Core.Option.{Option, none, some}
-use Rattle.text.specs.Laws.{inside, under, over}
 use Rattle.text.specs.Options.{only, orElse}
 use Rattle.text.specs.Words.{word}
 use Rattle.text.specs.declared.Dialect.the-variants.{Iwd, ConnMan}
@@ -18,17 +17,19 @@ use Rattle.rules.specs.Tables.{keysOf}
 use Rattle.rules.specs.Lookups.{keyNames}
 use Rattle.rules.specs.Faults.{Entry}
 use Rattle.rules.specs.Groups.{entryOf, isWord}
-use Rattle.rules.specs.Asking.{iwdEntry, readAs, lineIn}
+use Rattle.rules.specs.Asking.{iwdEntry, readAs, lineIn, askedOf}
 use Rattle.rules.specs.Reading.{sectionsOf}
 use Rattle.rules.specs.declared.Group.the-variants as G
 use Rattle.rules.specs.declared.Refusal.{Refusal}
-use Rattle.rules.specs.declared.Refusal.the-variants.{NoPlace, NoService}
+use Rattle.rules.specs.declared.Refusal.the-variants.{NoPlace}
 use Rattle.rules.specs.declared.Reading.{Reading}
 use Rattle.rules.specs.declared.Reading.the-variants as R
+use Rattle.rules.specs.declared.Answer.{Answer}
 use Rattle.rules.specs.declared.Answer.the-variants.{Good, Refused}
 use Rattle.reader.specs.Store.{slot}
 use Rattle.reader.specs.Holds.{Row}
 use Rattle.pass.specs.Pass.{Found, Reads}
+use Rattle.pass.proofs.Asking.{service-found, service-answer}
 use Rattle.settings.specs.Values.{bytesAt}
 use Rattle.settings.specs.Rows.{Typed}
 use Rattle.settings.proofs.IwdFile.{found-rows}
@@ -38,7 +39,7 @@ use Rattle.records.specs.Record.{laid, laidServers}
 use Rattle.records.specs.declared.JoinRecord.{JoinRecord}
 use Rattle.joins.specs.Joins.{iwdJoin, networkName, foreignSecurity, noRecord, serviceJoin, zeroRecord, iwdRecord, iwdRecordServers, serviceRecord, serviceRecordServers}
 use Rattle.joins.specs.Answers.{hindranceOf, hindrance}
-use Rattle.joins.specs.Places.{IwdRows, Answers, ofService, ofNumber}
+use Rattle.joins.specs.Places.{IwdRows, Answers}
 use Rattle.joins.specs.declared.Hindrance.{Hindrance}
 use Rattle.joins.specs.declared.Hindrance.the-variants as H
 use Rattle.joins.specs.declared.RecordAnswer.{RecordAnswer}
@@ -85,10 +86,10 @@ module _ {file x : List ℕ} {h : Hindrance} (e : h ≡ hindrance (isWord W.Ethe
       rw (← q, e, row-read G.Service w (word "Type") 0 refl (wordOf L.ServiceType) (word-none L.ServiceType), row-read G.Service w (word "Security") 12 refl (wordOf L.Security) (word-none L.Security), row-line G.Service w (word "Type") 0 refl, row-line G.Service w (word "Security") 12 refl)
       (sym (ap hindranceIn (hindered (isWord W.Ethernet (readAs (wordOf L.ServiceType) (entryOf (word "Type") es))) (lineIn (entryOf (word "Type") es)) (foreignSecurity (readAs (wordOf L.Security) (entryOf (word "Security") es))) (lineIn (entryOf (word "Security") es))) ∙ hindrance-back (noRecord (λ k. entryOf k es))))
 
-  pub found-hindered : (old : List (List ℕ)) {l : ℕ} → h ≡ H.At l → {r : RecordAnswer} → r ≡ record { answer = Refused NoPlace l; «record» = zeroRecord } → Answers file x ofService old old r
+  pub found-hindered : (old : List (List ℕ)) {l : ℕ} → h ≡ H.At l → {r : RecordAnswer} → r ≡ record { answer = Refused NoPlace l; «record» = zeroRecord } → Answers file x old old r
   found-hindered old q p = record { is = λ es w. rw (no-record q es w) p; servers = λ es w. rw (no-record q es w) }
 
-  pub found-joined : (old : List (List ℕ)) → h ≡ H.Nothing → {j : JoinRecord} → Typed file x 96 G.Service (λ at. laid (serviceJoin at)) j → {s : List (List ℕ)} → s ≡ rows (addresses Comma (bytesAt file (slot 102 x))) → {r : RecordAnswer} → r ≡ record { answer = Good; «record» = j } → Answers file x ofService old s r
+  pub found-joined : (old : List (List ℕ)) → h ≡ H.Nothing → {j : JoinRecord} → Typed file x 96 G.Service (λ at. laid (serviceJoin at)) j → {s : List (List ℕ)} → s ≡ rows (addresses Comma (bytesAt file (slot 102 x))) → {r : RecordAnswer} → r ≡ record { answer = Good; «record» = j } → Answers file x old s r
   unfolding keysOf
   found-joined old q t {s} p {r} a =
       record {
@@ -98,21 +99,11 @@ module _ {file x : List ℕ} {h : Hindrance} (e : h ≡ hindrance (isWord W.Ethe
 
 -- ---- a service by its number
 
-module _ {file x : List ℕ} (m w : ℕ) (old : List (List ℕ)) where
-  pub number-zero : w < 1 → {r : RecordAnswer} → r ≡ record { answer = Refused NoService 0; «record» = zeroRecord } → Answers file x (ofNumber m w) old old r
-  number-zero l p = record { is = λ es h. rw (under {x = w} 1 m l) p; servers = λ es h. rw (under {x = w} 1 m l) }
-
-  pub number-above : m < w → {r : RecordAnswer} → r ≡ record { answer = Refused NoService 0; «record» = zeroRecord } → Answers file x (ofNumber m w) old old r
-  number-above l p = record { is = λ es h. rw (over {x = w} 1 m l) p; servers = λ es h. rw (over {x = w} 1 m l) }
-
-  pub number-among : 1 ≤ w → w ≤ m → {new : List (List ℕ)} {r : RecordAnswer} → Answers file x ofService old new r → Answers file x (ofNumber m w) old new r
-  number-among a b p = record { is = λ es h. rw (inside {x = w} 1 m a b) (p .is es h); servers = λ es h. rw (inside {x = w} 1 m a b) (p .servers es h) }
-
-module _ {name file : List ℕ} {w : ℕ} {y : List ℕ} {q : Reading} (h : Reads ConnMan name file w y q) (old : List (List ℕ)) where
-  pub service-accepted : {n m : ℕ} → q ≡ R.Accepted n m → {r : RecordAnswer} {new : List (List ℕ)} → Answers file y (ofNumber m w) old new r → (r ≡ serviceRecord name file w) × (new ≡ serviceRecordServers name file w old)
+module _ {name file : List ℕ} {w : ℕ} {y : List ℕ} {q : Reading} (h : Reads ConnMan name file w y q) {a : Answer} (s : a ≡ askedOf w q) (old : List (List ℕ)) where
+  pub service-good : a ≡ Good → {r : RecordAnswer} {new : List (List ℕ)} → Answers file y old new r → (r ≡ serviceRecord name file w) × (new ≡ serviceRecordServers name file w old)
   unfolding serviceRecord serviceRecordServers
-  service-accepted e p = let s = service-row (h .found e) in rw (sym (h .is) ∙ e) (p .is _ s, p .servers _ s)
+  service-good e p = let k = service-row (service-found h s e) in rw (service-answer h s e) (p .is _ k, p .servers _ k)
 
-  pub service-refused : {f : Refusal} {l : ℕ} → q ≡ R.Refused f l → {r : RecordAnswer} → r ≡ record { answer = Refused f l; «record» = zeroRecord } → (r ≡ serviceRecord name file w) × (old ≡ serviceRecordServers name file w old)
+  pub service-refused : {f : Refusal} {l : ℕ} → a ≡ Refused f l → {r : RecordAnswer} → r ≡ record { answer = Refused f l; «record» = zeroRecord } → (r ≡ serviceRecord name file w) × (old ≡ serviceRecordServers name file w old)
   unfolding serviceRecord serviceRecordServers
-  service-refused e p = rw (sym (h .is) ∙ e) (p, refl)
+  service-refused e p = rw (service-answer h s e) (p, refl)

@@ -72,7 +72,7 @@ choice-told o e q = rw (← q, e) (sym (choice-back o))
 
 -- ---- words
 
-number-word : (w : Word) (o : Option Word) → numberIs (wordNumber w) (namedWord o) ≡ isWord w o
+pub number-word : (w : Word) (o : Option Word) → numberIs (wordNumber w) (namedWord o) ≡ isWord w o
 number-word w none = refl
 number-word w (some x) = refl
 

@@ -5,11 +5,9 @@ use mathlib.Core.Path.{_≡_, refl, ap, sym, _∙_, subst}
 use mathlib.Core.Bool.{Bool, true, false, cond, not, _&&_, _||_, true≢false}
 use mathlib.Core.List.{List, [], _∷_}
 use mathlib.Core.Option.{Option, none, some, Option·none-ne-some, Option·some-injective}
-use Rattle.text.specs.Bytes.{between}
 use Rattle.text.specs.Words.{word, same}
 use Rattle.text.specs.Options.{andThen, mapped, orElse, only, plain}
 use Rattle.text.specs.OptionLaws.{Holds, only-some, sized-some}
-use Rattle.text.specs.Laws.{between-low, between-high}
 use Rattle.text.specs.declared.Dialect.{Dialect}
 use Rattle.text.specs.declared.Dialect.the-variants as D
 use Rattle.utf8.specs.Utf8.{utf8From, text, valueText}
@@ -35,16 +33,15 @@ use Rattle.rules.specs.Groups.{faultAt, entryOf, isWord, typeIs, securityIs, la
 use Rattle.rules.specs.Reading.{Name, iwdName, connmanFile, nameIn, groupsFault, sectionsOf, settings, reading}
 use Rattle.rules.specs.Asking.{iwdEntry, firstOr, serviceAt, readAs, lineIn, asked, askedOf}
 use Rattle.rules.specs.Acceptance.{obeys-accepted, accepted-obeys}
+use Rattle.rules.specs.GoodAnswers.{asked-reading, asked-service}
 use Rattle.rules.specs.GoodValues.{GoodValue, group-value, service-value}
-use Rattle.rules.specs.declared.Answer.the-variants as A
-use Rattle.rules.specs.declared.Reading.{Reading}
-use Rattle.rules.specs.declared.Reading.the-variants.{Accepted, Refused}
+use Rattle.rules.specs.declared.Reading.the-variants.{Accepted}
 use Rattle.rules.specs.declared.Refusal.{Refusal}
-use Rattle.rules.specs.declared.Refusal.the-variants.{Missing, NoService}
+use Rattle.rules.specs.declared.Refusal.the-variants.{Missing}
 use Rattle.records.specs.Record.{Join}
 use Rattle.records.specs.Formed.{GoodPassphrase, GoodKey, GoodSecret, GoodIpv4, GoodServers, GoodDomain, WellFormed}
 use Rattle.joins.specs.Joins.{joined, secretFrom, staticOrDhcp, ipv4OrDhcp, nameFrom, iwdJoin, serviceJoin, wired, foreignSecurity, noRecord, networkName, iwdJoined, settingOf, serviceJoined}
-use Rattle.joins.specs.Saturday.{asked-reading, joined-good}
+use Rattle.joins.specs.Saturday.{joined-good}
 
 -- ---- what is read from a setting
 
@@ -287,22 +284,6 @@ module _ (name file : List ℕ) (w : ℕ) {n m : ℕ} (a : reading D.ConnMan nam
       (λ s t. has-name (serviceAt w (sectionsOf D.ConnMan file)) l (λ e q. reads-type (e .value) (service-value D.ConnMan name file a w (word "Type") refl q)) r s t)
 
 -- ---- the service that is asked for
-
--- a reading that is accepted, and a service of it
-record ServiceOf (w : ℕ) (r : Reading) : Type 0 where
-  settings : ℕ
-  count : ℕ
-  is : r ≡ Accepted settings count
-  low : 1 ≤ w
-  high : w ≤ count
-
-asked-service : (w : ℕ) (r : Reading) → askedOf w r ≡ A.Good → ServiceOf w r
-asked-service w (Accepted n m) e = go (between 1 m w) refl e
-  where
-    go : (b : Bool) → between 1 m w ≡ b → cond b A.Good (A.Refused NoService 0) ≡ A.Good → ServiceOf w (Accepted n m)
-    go true q e = record { settings = n; count = m; is = refl; low = between-low {x = w} 1 m q; high = between-high {x = w} 1 m q }
-    go false q e = let z : _≡_ {A = ℕ} 0 1 = cc in absurd (omega arith)
-asked-service w (Refused r l) e = let z : _≡_ {A = ℕ} 0 1 = cc in absurd (omega arith)
 
 -- the count of an accepted file is that of its services
 counted : (name file : List ℕ) {n m : ℕ} → reading D.ConnMan name file ≡ Accepted n m → services (sectionsOf D.ConnMan file) ≡ m

@@ -1,11 +1,10 @@
 -- What the table of places must say before a record is read from it.
 use Prim.Native.Nat.{ℕ}
 use mathlib.Core.Path.{_≡_}
-use mathlib.Core.Bool.{Bool, cond}
+use mathlib.Core.Bool.{Bool}
 use mathlib.Core.List.{List}
 use mathlib.Core.Option.{Option}
 use lib.ListN.{length}
-use Rattle.text.specs.Bytes.{between}
 use Rattle.text.specs.declared.Dialect.the-variants.{Iwd}
 use Rattle.kinds.specs.declared.Ipv4.{Ipv4}
 use Rattle.rules.specs.Lookups.{keyNames}
@@ -13,13 +12,11 @@ use Rattle.rules.specs.Faults.{Entry}
 use Rattle.rules.specs.Groups.{entryOf, entriesIn}
 use Rattle.rules.specs.Reading.{sectionsOf}
 use Rattle.rules.specs.declared.Group.the-variants as G
-use Rattle.rules.specs.declared.Refusal.the-variants.{NoService}
-use Rattle.rules.specs.declared.Answer.the-variants.{Good, Refused}
 use Rattle.reader.specs.Holds.{Row}
 use Rattle.settings.specs.Asked.{FourRows}
 use Rattle.records.specs.declared.Ipv6.{Ipv6}
 use Rattle.records.specs.declared.JoinRecord.{JoinRecord}
-use Rattle.joins.specs.Joins.{Joined, orRefused, orNoPlace, noRecord, serviceJoin, recordAnswer, serversAfter}
+use Rattle.joins.specs.Joins.{Joined, orNoPlace, noRecord, serviceJoin, recordAnswer, serversAfter}
 use Rattle.joins.specs.declared.Login.{Login}
 use Rattle.joins.specs.declared.Domain.{Domain}
 use Rattle.joins.specs.declared.RecordAnswer.{RecordAnswer}
@@ -52,13 +49,9 @@ assembled n name login hidden numbers servers domain ipv6 =
     }
 
 -- what is answered of the service whose settings the row from 96 on keeps: the answer, and the lent servers after it
-pub record Answers (file x : List ℕ) (f : (List ℕ → Option Entry) → Joined) (old new : List (List ℕ)) (r : RecordAnswer) : Type 0 where
-  pub is : (es : List Entry) → Row file x 96 (keyNames G.Service) es → r ≡ recordAnswer (f (λ k. entryOf k es))
-  pub servers : (es : List Entry) → Row file x 96 (keyNames G.Service) es → new ≡ serversAfter (f (λ k. entryOf k es)) old
-
--- a service that there is, and one by its number among m
 abbrev pub ofService : (List ℕ → Option Entry) → Joined
 ofService at = orNoPlace (noRecord at) (serviceJoin at)
 
-abbrev pub ofNumber : ℕ → ℕ → (List ℕ → Option Entry) → Joined
-ofNumber m w at = orRefused (cond (between 1 m w) Good (Refused NoService 0)) (ofService at)
+pub record Answers (file x : List ℕ) (old new : List (List ℕ)) (r : RecordAnswer) : Type 0 where
+  pub is : (es : List Entry) → Row file x 96 (keyNames G.Service) es → r ≡ recordAnswer (ofService (λ k. entryOf k es))
+  pub servers : (es : List Entry) → Row file x 96 (keyNames G.Service) es → new ≡ serversAfter (ofService (λ k. entryOf k es)) old

@@ -23,13 +23,13 @@ use Rattle.rules.specs.Groups.{entryOf}
 use Rattle.rules.specs.Reading.{afterLine, grown, sectionsOf, reading}
 use Rattle.rules.specs.Asking.{iwdEntry, readAs, asked, askedOf}
 use Rattle.rules.specs.Acceptance.{LinesObey, accepted-obeys}
+use Rattle.rules.specs.GoodAnswers.{asked-reading, asked-service}
 use Rattle.rules.specs.GoodValues.{GoodValue, group-value, service-value}
 use Rattle.rules.specs.declared.Answer.{Answer}
 use Rattle.rules.specs.declared.Answer.the-variants as A
 use Rattle.rules.specs.declared.Group.{Group}
 use Rattle.rules.specs.declared.Group.the-variants.{Settings, Security, Ipv4, Ipv6, Global, Service}
-use Rattle.rules.specs.declared.Reading.{Reading}
-use Rattle.rules.specs.declared.Reading.the-variants.{Accepted, Refused}
+use Rattle.rules.specs.declared.Reading.the-variants.{Accepted}
 use Rattle.rules.specs.declared.Refusal.{Refusal}
 use Rattle.rules.specs.declared.Refusal.the-variants.{NoGroup, UnknownKey, RepeatedKey}
 use Rattle.records.specs.Record.{Join, passphrase}
@@ -100,14 +100,6 @@ kept d k {j} c {e} q g =
     let s : j .credential ≡ passphrase (p .bytes) = c ∙ ap (λ (o : Option Entry). secretFrom (readAs (K.passphrase d) o) k) q ∙ ap (λ (o : Option (List ℕ)). secretFrom o k) (p .is) in
     record { read = p; is = s; needed = ap secretGiven s }
 
-pub asked-reading : (r : Reading) → asked r ≡ A.Good → (n : ℕ) × ((m : ℕ) × (r ≡ Accepted n m))
-asked-reading (Accepted n m) e = (n, (m, refl))
-asked-reading (Refused r l) e = let z : _≡_ {A = ℕ} 0 1 = cc in absurd (omega arith)
-
-asked-good : (w : ℕ) (r : Reading) → askedOf w r ≡ A.Good → asked r ≡ A.Good
-asked-good w (Accepted n m) e = refl
-asked-good w (Refused r l) e = e
-
 pub joined-good : (a : Answer) (o : Option ℕ) (i : Join) {j : Join} → orRefused a (orNoPlace o i) ≡ joined j → (a ≡ A.Good) × (i ≡ j) × (o ≡ none)
 joined-good A.Good none i {j} e = (refl, cc, refl)
 joined-good A.Good (some l) i e = let z : _≡_ {A = ℕ} 0 1 = cc in absurd (omega arith)
@@ -127,5 +119,5 @@ pub passphrase-kept : (name file : List ℕ) (w : ℕ) {j : Join} → serviceJoi
 unfolding keysOf
 passphrase-kept name file w {j} a {e} q =
     let h = joined-good (askedOf w (reading D.ConnMan name file)) (noRecord (settingOf w file)) (serviceJoin (settingOf w file)) a in
-    let r = asked-reading (reading D.ConnMan name file) (asked-good w (reading D.ConnMan name file) (h .0)) in
-    kept D.ConnMan none (ap (λ (i : Join). i .credential) (sym (h .1))) q (service-value D.ConnMan name file (r .1 .1) w (word "Passphrase") refl q)
+    let s = asked-service w (reading D.ConnMan name file) (h .0) in
+    kept D.ConnMan none (ap (λ (i : Join). i .credential) (sym (h .1))) q (service-value D.ConnMan name file (s .is) w (word "Passphrase") refl q)

@@ -13,7 +13,7 @@ ghost use Rattle.rules.specs.Reading.{sectionsOf};
 ghost use Rattle.settings.specs.Rows.{RowOf};
 ghost use Rattle.records.specs.Record.{laid, laidServers};
 ghost use Rattle.joins.specs.Joins.{iwdJoin, networkName, zeroRecord, iwdRecord, iwdRecordServers, serviceRecord, serviceRecordServers};
-ghost use Rattle.joins.specs.Places.{IwdRows, Answers, ofService, ofNumber};
+ghost use Rattle.joins.specs.Places.{IwdRows, Answers};
 use addresses::Separator;
 use kinds::Method;
 use records::Credential;
@@ -23,6 +23,7 @@ use rules::Answer;
 use rules::Group;
 use rules::Reading;
 use rules::Refusal;
+use rules::asking;
 use settings::values;
 use text::Dialect;
 
@@ -128,7 +129,7 @@ pub fn iwd_record(name: &[u8], file: &[u8], servers: &mut [[u8; 4]; 4]) -> Recor
 // The record of a service that there is, or the line for which it has none.
 fn service_found(file: &[u8], x: &[usize; 384], servers: &mut [[u8; 4]; 4]) -> RecordAnswer
     requires { ⌜ RowOf (now file) (now x) 96 Group.Service ⌝ }
-    ensures { λ r. ⌜ Answers (now (file .entry)) (now (x .entry)) ofService (now (servers .entry)) (now (servers .exit)) r ⌝ }
+    ensures { λ r. ⌜ Answers (now (file .entry)) (now (x .entry)) (now (servers .entry)) (now (servers .exit)) r ⌝ }
 {
     let hindrance = parts::hindrance_at(file, x);
     match hindrance {
@@ -139,26 +140,6 @@ fn service_found(file: &[u8], x: &[usize; 384], servers: &mut [[u8; 4]; 4]) -> R
             answered(record)
         }
     }
-}
-
-// The same of a service by its number, where there are this many.
-fn service_numbered(
-    file: &[u8],
-    x: &[usize; 384],
-    services: usize,
-    service: usize,
-    servers: &mut [[u8; 4]; 4],
-) -> RecordAnswer
-    requires { ⌜ RowOf (now file) (now x) 96 Group.Service ⌝ }
-    ensures { λ r. ⌜ Answers (now (file .entry)) (now (x .entry)) (ofNumber services service) (now (servers .entry)) (now (servers .exit)) r ⌝ }
-{
-    if service < 1 {
-        return refused(Refusal::NoService, 0);
-    }
-    if services < service {
-        return refused(Refusal::NoService, 0);
-    }
-    service_found(file, x, servers)
 }
 
 // The join record of a service, counted from 1, of a ConnMan file under its name; the name servers go into the lent ones.
@@ -173,8 +154,9 @@ pub fn service_record(
 {
     let mut x = [0; 384];
     let reading = pass::read(Dialect::ConnMan, name, file, &mut x, service);
-    match reading {
-        Reading::Accepted(_, services) => service_numbered(file, &x, services, service, servers),
-        Reading::Refused(refusal, line) => refused(refusal, line),
+    let answer = asking::asked_of(service, reading);
+    match answer {
+        Answer::Good => service_found(file, &x, servers),
+        Answer::Refused(refusal, line) => refused(refusal, line),
     }
 }

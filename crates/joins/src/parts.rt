@@ -266,7 +266,7 @@ pub fn iwd_ipv6(file: &[u8], x: &[usize; 384]) -> Ipv6
 }
 
 // Whether the word at a slot is the one with this number.
-fn word_is(list: WordList, file: &[u8], x: &[usize; 384], i: usize, k: u8) -> bool
+pub fn word_is(list: WordList, file: &[u8], x: &[usize; 384], i: usize, k: u8) -> bool
     requires { ⌜ SlotIn (now file) (now x) i ⌝ }
     ensures { λ r. ⌜ r ≡ numberIs k (namedWord (wordOf list (bytesAt (now (file .entry)) (slot i (now (x .entry)))))) ⌝ }
 {

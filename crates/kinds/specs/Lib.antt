@@ -4,3 +4,4 @@ pub mod Answers
 pub mod Judging
 pub mod Cases
 pub mod Values
+pub mod Written

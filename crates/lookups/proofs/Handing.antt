@@ -1,12 +1,9 @@
 -- What a lookup hands back by a slot is what it hands back of the setting that the slot keeps; and the answers, by the reading.
-use Prim.Native.Nat.{ℕ, _+_, _≤_, _<_}
+use Prim.Native.Nat.{ℕ, _+_}
 use native.Mathlib.Omega.{arith}
-use mathlib.Core.Path.{_≡_, refl, ap, sym, _∙_, subst}
-use mathlib.Core.Bool.{and-false}
+use mathlib.Core.Path.{_≡_, refl, ap, _∙_, subst}
 use mathlib.Core.List.{List, []}
 use mathlib.Core.Option.{Option, none, some}
-use borrow.Author.Tests.{le-leb, lt-leb}
-use lib.Dec.{leb}
 use lib.ListN.{length}
 use Rattle.text.specs.Parts.{part}
 use Rattle.text.specs.Laws.{part-none, part-long}
@@ -16,9 +13,7 @@ use Rattle.rules.specs.Numbers.{numberOf}
 use Rattle.rules.specs.Reading.{reading}
 use Rattle.rules.specs.Asking.{asked, askedOf}
 use Rattle.rules.specs.declared.Refusal.{Refusal}
-use Rattle.rules.specs.declared.Refusal.the-variants.{NoService}
 use Rattle.rules.specs.declared.Reading.{Reading}
-use Rattle.rules.specs.declared.Reading.the-variants as R
 use Rattle.rules.specs.declared.Answer.{Answer}
 use Rattle.rules.specs.declared.Answer.the-variants.{Good, Refused}
 use Rattle.reader.specs.Store.{Slot, slot}
@@ -27,6 +22,7 @@ use Rattle.reader.specs.Closing.{SlotIn}
 use Rattle.reader.proofs.ClosingFault.{kept-in}
 use Rattle.reader.proofs.Values.{kept-line}
 use Rattle.pass.specs.Pass.{Found, Reads}
+use Rattle.pass.proofs.Asking.{file-found, service-found}
 use Rattle.lookups.specs.Lookups.{stretch, valueIn, Hands}
 use Rattle.lookups.specs.Keeping.{Keeps, KeepsSome, SlotHands, HandsKept}
 
@@ -71,38 +67,9 @@ module _ {file : List ℕ} {a : Answer} {s : Slot} where
 
 -- ---- the answer of a file, and of a service of it
 
-refused-good : {A : Type 0} {c : Refusal} {m : ℕ} → Refused c m ≡ Good → A
-refused-good e = let z : _≡_ {A = ℕ} 0 1 = cc in absurd (omega arith)
+module _ {d : Dialect} {name file : List ℕ} {w : ℕ} {y : List ℕ} {r : Reading} (h : Reads d name file w y r) {a : Answer} {i n l : ℕ} {t : List ℕ} (k : SlotHands file a (slot i y) n l t) where
+  pub file-hands : a ≡ asked r → HandsKept d file w i (asked (reading d name file)) n l t
+  file-hands e = subst (λ (b : Answer). HandsKept d file w i b n l t) (e ∙ ap asked (h .is)) (hands-kept a (file-found h e) k)
 
-module _ (w : ℕ) {r : Reading} {n m : ℕ} (e : r ≡ R.Accepted n m) where
-  pub service-zero : w ≡ 0 → Refused NoService 0 ≡ askedOf w r
-  service-zero z = rw (e, z)
-
-  pub service-above : m < w → Refused NoService 0 ≡ askedOf w r
-  service-above l = rw (e, lt-leb w m l, and-false (leb 1 w))
-
-  pub service-counted : (w ≡ 0 → ⊥) → w ≤ m → Good ≡ askedOf w r
-  service-counted z l = rw (e, le-leb 1 w (let p : (w ≡ 0 → ⊥) = z in omega (arith, p)), le-leb w m l)
-
-module _ {d : Dialect} {name file : List ℕ} {w : ℕ} {y : List ℕ} where
-  asked-found : (r : Reading) → Reads d name file w y r → asked r ≡ Good → Found d file w y
-  asked-found (R.Accepted n m) h e = h .found refl
-  asked-found (R.Refused c l) h e = refused-good e
-
-  asked-of-found : (r : Reading) → Reads d name file w y r → askedOf w r ≡ Good → Found d file w y
-  asked-of-found (R.Accepted n m) h e = h .found refl
-  asked-of-found (R.Refused c l) h e = refused-good e
-
-  module _ {r : Reading} (h : Reads d name file w y r) {a : Answer} where
-    pub file-found : a ≡ asked r → a ≡ Good → Found d file w y
-    file-found e g = asked-found r h (sym e ∙ g)
-
-    pub service-found : a ≡ askedOf w r → a ≡ Good → Found d file w y
-    service-found e g = asked-of-found r h (sym e ∙ g)
-
-    module _ {i n l : ℕ} {t : List ℕ} (k : SlotHands file a (slot i y) n l t) where
-      pub file-hands : a ≡ asked r → HandsKept d file w i (asked (reading d name file)) n l t
-      file-hands e = subst (λ (b : Answer). HandsKept d file w i b n l t) (e ∙ ap asked (h .is)) (hands-kept a (file-found e) k)
-
-      pub service-hands : a ≡ askedOf w r → HandsKept d file w i (askedOf w (reading d name file)) n l t
-      service-hands e = subst (λ (b : Answer). HandsKept d file w i b n l t) (e ∙ ap (askedOf w) (h .is)) (hands-kept a (service-found e) k)
+  pub service-hands : a ≡ askedOf w r → HandsKept d file w i (askedOf w (reading d name file)) n l t
+  service-hands e = subst (λ (b : Answer). HandsKept d file w i b n l t) (e ∙ ap (askedOf w) (h .is)) (hands-kept a (service-found h e) k)

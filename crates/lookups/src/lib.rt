@@ -12,37 +12,8 @@ ghost use Rattle.reader.specs.Closing.{SlotIn};
 ghost use Rattle.lookups.specs.Lookups.{iwdLookup, globalLookup, serviceLookup, Hands};
 ghost use Rattle.lookups.specs.Keeping.{KeepsSome, SlotHands, HandsKept};
 use rules::Answer;
-use rules::Reading;
-use rules::Refusal;
+use rules::asking;
 use text::Dialect;
-
-// Whether a file is good.
-fn file_answer(reading: Reading) -> Answer
-    ensures { λ r. ⌜ r ≡ asked reading ⌝ }
-{
-    match reading {
-        Reading::Accepted(_, _) => Answer::Good,
-        Reading::Refused(refusal, line) => Answer::Refused(refusal, line),
-    }
-}
-
-// Whether a file is good and has such a service.
-fn service_answer(service: usize, reading: Reading) -> Answer
-    ensures { λ r. ⌜ r ≡ askedOf service reading ⌝ }
-{
-    match reading {
-        Reading::Accepted(_, services) => {
-            if service == 0 {
-                return Answer::Refused(Refusal::NoService, 0);
-            }
-            if services < service {
-                return Answer::Refused(Refusal::NoService, 0);
-            }
-            Answer::Good
-        }
-        Reading::Refused(refusal, line) => Answer::Refused(refusal, line),
-    }
-}
 
 // Sets the result fields and hands back the value at a slot of the table of places; the empty part for a refusal.
 fn hand<'a>(
@@ -84,7 +55,7 @@ fn group_text<'a>(
 {
     let mut places = [0; 384];
     let read = pass::read(d, name, file, &mut places, 0);
-    let answer = file_answer(read);
+    let answer = asking::asked(read);
     hand(file, &places, slot, answer, number, line)
 }
 
@@ -102,7 +73,7 @@ fn service_text<'a>(
 {
     let mut places = [0; 384];
     let read = pass::read(Dialect::ConnMan, name, file, &mut places, service);
-    let answer = service_answer(service, read);
+    let answer = asking::asked_of(service, read);
     hand(file, &places, slot, answer, number, line)
 }
 

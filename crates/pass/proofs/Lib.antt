@@ -1,3 +1,4 @@
 pub mod Walking
 pub mod NameKinds
 pub mod Answers
+pub mod Asking

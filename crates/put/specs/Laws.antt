@@ -3,10 +3,11 @@ use mathlib.Core.Path.{_≡_, refl, sym, ap, _∙_}
 use mathlib.Core.List.{List, [], _∷_, _++_, append-assoc, append-nil}
 use Prim.Native.Nat.{ℕ, suc, _+_, _-_, _≤_, _<_}
 use native.Mathlib.Omega.{arith}
-use native.Mathlib.Nat.{add-zero}
+use native.Mathlib.Nat.{add-zero, zero-add}
 use native.Mathlib.Numerals.{add-one}
-use lib.ListN.{length, take, drop, set, length-append, length-set, take-append-drop}
-use lib.Seq.{take-at, drop-at, drop-drop, length-take-le, set-split, append-snoc}
+use borrow.Rule.Slice.PartMut.{putMid, midOf}
+use lib.ListN.{length, take, drop, set, length-append, length-drop, length-set, take-append-drop, drop-of-length-le}
+use lib.Seq.{take-all, take-at, drop-at, drop-drop, length-take-le, set-split, append-snoc}
 use Rattle.put.specs.Put.{Wrote}
 
 pub then : {t u o x y : List ℕ} {a b c : ℕ} → Wrote t a o x b → Wrote u b x y c → Wrote (t ++ u) a o y c
@@ -22,6 +23,36 @@ then {t} {u} {o} {x} {y} {a} {b} {c} f g =
       room = omega arith;
       long = g .long ∙ f .long;
       text = g .text ∙ rw (front, rest, e) (simp append-assoc);
+    }
+
+-- where two texts have room the first has, and then the second behind it
+pub room-first : (t u : List ℕ) (a : ℕ) {n : ℕ} → a + length (t ++ u) ≤ n → a + length t ≤ n
+room-first t u a h = omega (arith, h, length-append t u)
+
+pub room-then : {t o x : List ℕ} {a b : ℕ} → Wrote t a o x b → (u : List ℕ) → a + length (t ++ u) ≤ length o → b + length u ≤ length x
+room-then {t} w u h = omega (arith, h, length-append t u, w .next, w .long)
+
+-- what a writer leaves that began at the front
+pub wrote-front : {t o x : List ℕ} {r : ℕ} → Wrote t 0 o x r → x ≡ t ++ drop (length t) o
+wrote-front {t} {o} w = w .text ∙ ap (λ (k : ℕ). t ++ drop k o) (zero-add (length t))
+
+-- a writer at the front, and a second one that was lent the rest, are one writer of both texts
+pub then-rest : {t u o x y : List ℕ} {a r : ℕ} → Wrote t 0 o x a → Wrote u 0 (midOf a (length x - a) x) y r → Wrote (t ++ u) 0 o (putMid a (length x - a) x y) (a + r)
+then-rest {t} {u} {o} {x} {y} {a} {r} f g =
+    let n : length (drop a x) ≤ length x - a = simp length-drop (omega arith) in
+    let e : a ≡ length t = omega (arith, f .next) in
+    let front : take a x ≡ t = ap (take a) (wrote-front f) ∙ take-at t (drop (length t) o) a (sym e) in
+    let back : drop a x ≡ drop (length t) o = ap (drop a) (wrote-front f) ∙ drop-at t (drop (length t) o) a (sym e) in
+    let all : midOf a (length x - a) x ≡ drop (length t) o = take-all (length x - a) (drop a x) n ∙ back in
+    let whole : putMid a (length x - a) x y ≡ (t ++ u) ++ drop (length (t ++ u)) o =
+    rw (drop-of-length-le (drop a x) n, front, wrote-front g, all) (simp (append-nil, length-append, drop-drop, append-assoc)) in
+    let room : a + r ≤ length o = omega (arith, f .room, g .room, f .long, ap length all, length-drop (length t) o) in
+    let next : a + r ≡ length (t ++ u) = omega (arith, e, g .next, length-append t u) in
+    record {
+      next = omega (arith, next);
+      room = room;
+      long = ap length whole ∙ length-append (t ++ u) (drop (length (t ++ u)) o) ∙ omega (arith, length-drop (length (t ++ u)) o, next, room);
+      text = whole ∙ sym (ap (λ (k : ℕ). (t ++ u) ++ drop k o) (zero-add (length (t ++ u))));
     }
 
 -- nothing written, and one byte

@@ -1,7 +1,9 @@
 // The entry points: what a program that uses the library calls.
 //
 // None of them has a `requires`: whatever bytes come in, each answers as document 01's table says. `check` reads a file,
-// `typed` gives its settings, `strings` the bytes of its strings, `joined` its join record, and `is_well_formed` judges a record.
+// `typed` gives its settings, `strings` the bytes of its strings, `joined` its join record, `is_well_formed` judges a record,
+// and `files` writes the iwd file of a record or of a ConnMan service. What they promise together is in specs/Demands.
+pub mod files;
 pub mod joined;
 pub mod strings;
 pub mod typed;

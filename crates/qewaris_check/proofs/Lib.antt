@@ -1,4 +1,2 @@
-pub mod Forming
-pub mod Fronts
-pub mod Parts
 pub mod Answering
+pub mod Underway

@@ -2,20 +2,18 @@
 use Prim.Native.Nat.{ℕ}
 use mathlib.Core.Bool.{cond}
 use mathlib.Core.List.{List, []}
-use lib.ListN.{drop}
-use Rattle.text.specs.Bytes.{inLine}
-use Rattle.text.specs.Parts.{front, after}
 use Rattle.text.specs.Words.{word}
 use Rattle.text.specs.declared.Dialect.the-variants.{Iwd, ConnMan}
 use Rattle.names.specs.Dialects.{dialectOf}
 use Rattle.rules.specs.Reading.{reading}
 use Rattle.rules.specs.declared.Reading.{Reading}
-use Rattle.qewaris_check.specs.declared.Form.{Form}
-use Rattle.qewaris_check.specs.Forms.{complete}
+use Rattle.intake.specs.declared.Form.{Form}
+use Rattle.intake.specs.Forms.{complete}
+use Rattle.intake.specs.Input.{firstLine, behind}
 
 -- "a first line with the file name, then the file"
 abbrev pub answerTo : List ℕ → Reading
-answerTo i = reading (dialectOf (front inLine i)) (front inLine i) (drop 1 (after inLine i))
+answerTo i = reading (dialectOf (firstLine i)) (firstLine i) (behind i)
 
 -- what is asked for a long name line: one name where it is complete, no name where it is not
 abbrev pub longAnswer : Form → List ℕ → Reading

@@ -1,14 +1,12 @@
--- Why the kept part of the input is enough.
+-- Why a long name line is answered by its form.
 use Prim.Native.Nat.{ℕ, _-_, _≤_, _<_}
 use mathlib.Core.Path.{_≡_, refl, ap, sym, _∙_}
 use mathlib.Core.Bool.{Bool, true, false, cond, not}
 use mathlib.Core.List.{List, [], _∷_}
 use mathlib.Core.Option.{Option, none, some}
 use native.Mathlib.Omega.{arith}
-use borrow.Author.Tests.{lt-leb, leb-true, leb-false, le-ltb}
-use lib.Dec.{leb}
-use lib.ListN.{length, take, drop, length-append, length-take, length-drop}
-use lib.Seq.{take-all}
+use borrow.Author.Tests.{le-ltb}
+use lib.ListN.{length, length-append, length-drop}
 use Rattle.text.specs.Bytes.{isAlphanumeric, isPlain}
 use Rattle.text.specs.Parts.{front, after, lead, all, empty}
 use Rattle.text.specs.Words.{word, same}
@@ -22,34 +20,17 @@ use Rattle.names.specs.Laws.{file-name-network, network-bytes}
 use Rattle.names.specs.Dialects.{dialectOf}
 use Rattle.names.specs.declared.Suffix.{Suffix}
 use Rattle.names.specs.declared.Suffix.the-variants.{Open, Psk}
-use Rattle.qewaris_check.specs.declared.Form.the-variants.{Empty}
-use Rattle.qewaris_check.specs.Forms.{formFrom}
-use Rattle.qewaris_check.specs.Laws.{form-connman}
-use Rattle.qewaris_check.specs.Answers.{longAnswer}
 use Rattle.rules.specs.Reading.{reading, nameIn}
+use Rattle.intake.specs.declared.Form.the-variants.{Empty}
+use Rattle.intake.specs.Forms.{formFrom}
+use Rattle.intake.specs.Laws.{form-connman}
+use Rattle.intake.specs.Enough.{reading-name}
+use Rattle.qewaris_check.specs.Answers.{longAnswer}
 
--- 16,385 bytes of a file already earn 1, whatever follows
-pub reading-front : (d : Dialect) (name file : List ℕ) (m : ℕ) → 16384 < m → reading d name (take m file) ≡ reading d name file
-unfolding reading
-reading-front d name file m h = go (leb (length file) m) refl
-  where
-    go : (b : Bool) → leb (length file) m ≡ b → reading d name (take m file) ≡ reading d name file
-    go true e = ap (reading d name) (take-all m file (leb-true (length file) m e))
-    go false e =
-        let k : m < length file = leb-false (length file) m e in
-        let l : 16384 < length (take m file) = omega (arith, length-take m file) in
-        rw (lt-leb (length (take m file)) 16384 l, lt-leb (length file) 16384 (omega arith))
-
--- a name counts by what it says, and a bad one is bad in either dialect
-reading-name : (d : Dialect) (a b file : List ℕ) → nameIn d a ≡ nameIn d b → reading d a file ≡ reading d b file
-unfolding reading
-reading-name d a b file e = rw e
-
+-- a bad name is bad in either dialect
 reading-unnamed : (d g : Dialect) (a b file : List ℕ) → nameIn d a ≡ none → nameIn g b ≡ none → reading d a file ≡ reading g b file
 unfolding reading
 reading-unnamed d g a b file e q = rw (e, q)
-
--- ---- a long name line
 
 stem-long : (n : List ℕ) → length n ≤ 32 → length (stem n) ≤ 65
 unfolding stem

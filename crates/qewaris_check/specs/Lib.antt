@@ -1,6 +1,2 @@
-pub mod Forms
-pub mod Input
-pub mod Steps
-pub mod Laws
 pub mod Answers
 pub mod Enough

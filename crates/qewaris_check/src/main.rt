@@ -2,38 +2,22 @@
 //
 // The line is `accepted` and the number of settings, or `refused` with the number and the line. Name and file may have any
 // length. Where reading fails nothing is written: no file is judged that was cut off.
-mod forms;
-mod keeping;
-
 ghost use mathlib.Core.Path.{_≡_};
 ghost use mathlib.Core.List.{List};
 ghost use Prim.Native.Nat.{ℕ, _<_};
 ghost use lib.ListN.{length};
 ghost use Rattle.names.specs.Dialects.{dialectOf};
 ghost use Rattle.rules.specs.Reading.{reading};
-ghost use Rattle.qewaris_check.specs.Input.{Keeps, Held};
+ghost use Rattle.intake.specs.Input.{Keeps, Held};
 ghost use Rattle.qewaris_check.specs.Answers.{answerTo, longAnswer};
+use intake::Form;
+use intake::Kept;
+use intake::forms;
+use intake::keeping;
 use libc::STDIN_FILENO;
 use libc::STDOUT_FILENO;
 use rules::Reading;
 use text::Dialect;
-
-// How far a name line is "one or more letters or digits, then `.config`": no byte yet, letters and digits, these and some
-// bytes of `.config`, or something else.
-enum Form {
-    Empty,
-    Stem,
-    Suffix(usize),
-    Broken,
-}
-
-// How much of the input is kept: whether the name line has ended, its bytes and form, and the bytes of the file.
-struct Kept {
-    ended: bool,
-    name: usize,
-    form: Form,
-    file: usize,
-}
 
 // How reading went, and what is kept.
 struct Input {

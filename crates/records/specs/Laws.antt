@@ -15,15 +15,16 @@ use Rattle.records.specs.Formed.{domainText, WellFormed, Laid, held, cre
 use Rattle.records.specs.declared.JoinRecord.{JoinRecord}
 use Rattle.records.specs.PartLaws.{all-take, held-padded, text-padded, held-low, held-high, held-long, held-back, secret-formed, secret-joined, SecretBack, secret-back, ipv4-formed, ipv4-joined, Ipv4Back, ipv4-back, servers-formed, servers-long, servers-back, servers-good, padded-long, zero-bytes, are-append, are-none, secret-short, secret-key, ipv4-addresses}
 
-record Parts (r : JoinRecord) (s : List (List ℕ)) : Type 0 where
-  name : held 1 32 (r .«name_len») (r .name) ≡ true
-  credential : credentialFormed (r .credential) (r .«passphrase_len») (r .passphrase) (r .key) ≡ true
-  ipv4 : ipv4Formed (r .ipv4) (r .address) (r .length) (r .«has_gateway») (r .gateway) ≡ true
-  domain : held 0 253 (r .«domain_len») (r .domain) ≡ true
-  text : domainText (take (r .«domain_len») (r .domain)) ≡ true
-  servers : serversFormed (r .«server_count») s ≡ true
+-- a formed struct by its parts
+pub record Parts (r : JoinRecord) (s : List (List ℕ)) : Type 0 where
+  pub name : held 1 32 (r .«name_len») (r .name) ≡ true
+  pub credential : credentialFormed (r .credential) (r .«passphrase_len») (r .passphrase) (r .key) ≡ true
+  pub ipv4 : ipv4Formed (r .ipv4) (r .address) (r .length) (r .«has_gateway») (r .gateway) ≡ true
+  pub domain : held 0 253 (r .«domain_len») (r .domain) ≡ true
+  pub text : domainText (take (r .«domain_len») (r .domain)) ≡ true
+  pub servers : serversFormed (r .«server_count») s ≡ true
 
-formed-parts : (r : JoinRecord) (s : List (List ℕ)) → formed r s ≡ true → Parts r s
+pub formed-parts : (r : JoinRecord) (s : List (List ℕ)) → formed r s ≡ true → Parts r s
 unfolding formed
 formed-parts r s h =
     let a = and-true (held 1 32 (r .«name_len») (r .name)) _ h in

@@ -7,7 +7,7 @@ use mathlib.Core.List.{List, [], _∷_, _++_, reverse, reverse-cons}
 use mathlib.Core.Option.{Option, none, some, Option·none-ne-some, Option·some-injective}
 use lib.ListN.{length}
 use Rattle.text.specs.Parts.{lines}
-use Rattle.text.specs.Words.{same}
+use Rattle.text.specs.Words.{word, same}
 use Rattle.text.specs.Laws.{same-eq}
 use Rattle.text.specs.declared.Dialect.{Dialect}
 use Rattle.text.specs.declared.Dialect.the-variants.{Iwd, ConnMan}
@@ -15,7 +15,7 @@ use Rattle.kinds.specs.Typed.{judged}
 use Rattle.kinds.specs.declared.Kind.{Kind}
 use Rattle.lines.specs.Lines.{Line, blank, comment, header, setting, broken, lineOf, valueStart}
 use Rattle.rules.specs.Tables.{groupOf, kindOf}
-use Rattle.rules.specs.Faults.{Entry, Section, given, serves, breakOf, keyFault, valueFault, headerFault, fault, after, withEntry, withGroup}
+use Rattle.rules.specs.Faults.{Entry, Section, given, serves, services, breakOf, keyFault, valueFault, headerFault, fault, after, withEntry, withGroup}
 use Rattle.rules.specs.Groups.{entryOf, entriesIn}
 use Rattle.rules.specs.Reading.{afterLine, grown, sectionsOf, reading}
 use Rattle.rules.specs.Asking.{firstOr, serviceAt}
@@ -96,6 +96,26 @@ good-reverse d (g ∷ gs) h = rw (reverse-cons g gs) (good-last d (reverse gs) g
 pub accepted-good : (d : Dialect) (name file : List ℕ) {n m : ℕ} → reading d name file ≡ Accepted n m → AllGood d (sectionsOf d file)
 unfolding sectionsOf
 accepted-good d name file e = good-reverse d (grown d 1 0 [] (lines file)) (grown-good d 1 0 [] (lines file) (accepted-obeys d name file e .each-line) tt)
+
+-- ---- no group of an iwd file is a service
+
+iwd-plain : (n : List ℕ) (g : Group) → groupOf Iwd n ≡ some g → serves g ≡ false
+unfolding groupOf
+iwd-plain n g e = go (same n (word "Settings")) (same n (word "Security")) (same n (word "IPv4")) (same n (word "IPv6")) e
+  where
+    go : (a b c d : Bool) → cond a (some Settings) (cond b (some Security) (cond c (some Ipv4) (cond d (some Ipv6) none))) ≡ some g → serves g ≡ false
+    go true b c d q = ap serves (sym (Option·some-injective Settings g q))
+    go false true c d q = ap serves (sym (Option·some-injective Security g q))
+    go false false true d q = ap serves (sym (Option·some-injective Ipv4 g q))
+    go false false false true q = ap serves (sym (Option·some-injective Ipv6 g q))
+    go false false false false q = absurd (Option·none-ne-some g q)
+
+good-plain : (gs : List Section) → AllGood Iwd gs → services gs ≡ 0
+good-plain [] h = refl
+good-plain (g ∷ gs) h = rw (iwd-plain (g .name) (g .group) (h .0 .named)) (good-plain gs (h .1))
+
+pub iwd-services : (name file : List ℕ) {n m : ℕ} → reading Iwd name file ≡ Accepted n m → services (sectionsOf Iwd file) ≡ 0
+iwd-services name file e = good-plain (sectionsOf Iwd file) (accepted-good Iwd name file e)
 
 -- ---- a setting that is asked for
 

@@ -34,6 +34,11 @@ good-value d k v = go (valueText v) refl (stringBroken d k v) (typed d k v) refl
     go true p false none q f = absurd (Option·none-ne-some ValueKind (sym f))
     go true p false (some t) q f = record { text = p; value = t; reads = q }
 
+-- and the other way
+pub value-faultless : (d : Dialect) (k : Kind) (v : List ℕ) {t : Typed} → valueText v ≡ true → stringBroken d k v ≡ false → typed d k v ≡ some t → valueFault (judged d k v) ≡ none
+unfolding judged kindJudged
+value-faultless d k v h b e = rw (h, b, e)
+
 asked-value : (d : Dialect) (g : Group) (key : List ℕ) {e : Entry} {k : Kind} → kindOf g key ≡ some k → Asked d g key e → GoodValue d k (e .value)
 asked-value d g key {e} {k} q a =
     let same : a .entry .kind ≡ k = Option·some-injective (a .entry .kind) k (sym (a .entry .listed) ∙ ap (kindOf g) (a .key) ∙ q) in

@@ -6,6 +6,8 @@ pub mod Reading
 pub mod Asking
 pub mod Lookups
 pub mod Cases
+pub mod Refusals
 pub mod Acceptance
 pub mod GoodEntries
 pub mod GoodValues
+pub mod GoodAnswers

@@ -1,6 +1,7 @@
 // The rules over a file: its groups, keys and kinds as tables, and the refusals by name.
 //
 // This is document 01's "The numbers a caller sees", its lists of groups and keys, and "Rules over a group".
+pub mod asking;
 pub mod key_kinds;
 pub mod numbers;
 pub mod tables;

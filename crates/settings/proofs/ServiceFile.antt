@@ -1,13 +1,9 @@
 -- The settings of a service: its row, and one law for each answer.
-use Prim.Native.Nat.{ℕ, suc, _+_, _≤_, _<_}
+use Prim.Native.Nat.{ℕ}
 use native.Mathlib.Omega.{arith}
-use mathlib.Core.Path.{_≡_, refl, ap, sym, _∙_, subst}
-use mathlib.Core.Bool.{true, false, cond}
+use mathlib.Core.Path.{_≡_, refl, ap, _∙_, subst}
 use mathlib.Core.List.{List, []}
-use mathlib.Core.Option.{none}
-use lib.ListN.{length, replicate, length-replicate}
-use Rattle.text.specs.Bytes.{between}
-use Rattle.text.specs.Laws.{inside, under, over}
+use lib.ListN.{replicate, length-replicate}
 use Rattle.text.specs.Words.{word}
 use Rattle.text.specs.declared.Dialect.the-variants.{ConnMan}
 use Rattle.addresses.specs.Addresses.{addresses, rows}
@@ -15,24 +11,21 @@ use Rattle.addresses.specs.declared.Separator.the-variants.{Comma}
 use Rattle.rules.specs.Tables.{keysOf}
 use Rattle.rules.specs.Lookups.{keyNames}
 use Rattle.rules.specs.Faults.{Entry}
-use Rattle.rules.specs.Groups.{entryOf}
-use Rattle.rules.specs.Reading.{sectionsOf, reading}
+use Rattle.rules.specs.Reading.{sectionsOf}
 use Rattle.rules.specs.Asking.{serviceAt, askedOf}
 use Rattle.rules.specs.declared.Group.the-variants as G
 use Rattle.rules.specs.declared.Answer.{Answer}
 use Rattle.rules.specs.declared.Answer.the-variants.{Good, Refused}
 use Rattle.rules.specs.declared.Reading.{Reading}
-use Rattle.rules.specs.declared.Reading.the-variants as R
 use Rattle.rules.specs.declared.Refusal.{Refusal}
-use Rattle.rules.specs.declared.Refusal.the-variants.{NoService}
 use Rattle.reader.specs.Store.{slot}
-use Rattle.reader.specs.History.{foundBase}
 use Rattle.reader.specs.Holds.{Row}
 use Rattle.reader.specs.Closing.{SlotIn}
 use Rattle.reader.proofs.Rows.{keys-few}
 use Rattle.reader.proofs.Values.{numbered-service}
 use Rattle.pass.specs.Pass.{Found, Reads}
 use Rattle.pass.proofs.Walking.{empty-row}
+use Rattle.pass.proofs.Asking.{service-found, service-answer}
 use Rattle.settings.specs.Values.{bytesAt}
 use Rattle.settings.specs.Settings.{networkSettingsOf, addressSettingsOf, serviceSettings}
 use Rattle.settings.specs.Rows.{RowOf, Typed}
@@ -67,44 +60,28 @@ module _ {file : List ℕ} {w : ℕ} {y : List ℕ} (f : Found ConnMan file w y)
 
 -- ---- the answers
 
-module _ {name file : List ℕ} {w : ℕ} {y : List ℕ} {q : Reading} (h : Reads ConnMan name file w y q) where
-  pub refused-is : {r : Refusal} {l : ℕ} → askedOf w (reading ConnMan name file) ≡ Refused r l → {a : ServiceAnswer} → a ≡ serviceAnswerOf (Refused r l) [] → a ≡ serviceAnswered name file w
-  refused-is b e = rw (b, e)
+module _ {name file : List ℕ} {w : ℕ} {y : List ℕ} {q : Reading} (h : Reads ConnMan name file w y q) {b : Answer} (s : b ≡ askedOf w q) where
+  module _ {r : Refusal} {l : ℕ} (e : b ≡ Refused r l) where
+    pub refused-is : {a : ServiceAnswer} → a ≡ serviceAnswerOf (Refused r l) [] → a ≡ serviceAnswered name file w
+    refused-is p = rw (service-answer h s e, p)
 
-  pub servers-kept : {r : Refusal} {l : ℕ} → askedOf w (reading ConnMan name file) ≡ Refused r l → (old : List (List ℕ)) → old ≡ serviceServersAfter name file w old
-  servers-kept b old = rw b
+    pub servers-kept : (old : List (List ℕ)) → old ≡ serviceServersAfter name file w old
+    servers-kept old = rw (service-answer h s e)
 
-  module _ {r : Refusal} {l : ℕ} (e : q ≡ R.Refused r l) where
-    pub file-refused : askedOf w (reading ConnMan name file) ≡ Refused r l
-    file-refused = ap (askedOf w) (sym (h .is) ∙ e)
-
-  module _ {n m : ℕ} (e : q ≡ R.Accepted n m) where
-    counted : askedOf w (reading ConnMan name file) ≡ cond (between 1 m w) Good (Refused NoService 0)
-    counted = ap (askedOf w) (sym (h .is) ∙ e)
-
-    pub none-low : w < 1 → askedOf w (reading ConnMan name file) ≡ Refused NoService 0
-    none-low l = counted ∙ rw (under {x = w} 1 m l)
-
-    pub none-high : m < w → askedOf w (reading ConnMan name file) ≡ Refused NoService 0
-    none-high l = counted ∙ rw (over {x = w} 1 m l)
-
+  module _ (e : b ≡ Good) where
     found-row : Row file y 96 (keyNames G.Service) (serviceAt w (sectionsOf ConnMan file))
-    found-row = service-row (h .found e)
+    found-row = service-row (service-found h s e)
 
     pub found-kept : RowOf file y 96 G.Service
-    found-kept = service-kept (h .found e)
+    found-kept = service-kept (service-found h s e)
 
     pub nameservers-in : SlotIn file y 102
     unfolding keysOf
     nameservers-in = slot-in {g = G.Service} found-kept (word "Nameservers") 5 refl (omega arith)
 
-    module _ (low : 1 ≤ w) (high : w ≤ m) where
-      good : askedOf w (reading ConnMan name file) ≡ Good
-      good = counted ∙ rw (inside {x = w} 1 m low high)
+    pub service-good : {t : ServiceSettings} → Typed file y 96 G.Service serviceSettings t → record { answer = Good; settings = t } ≡ serviceAnswered name file w
+    service-good t = rw (service-answer h s e, t .is (serviceAt w (sectionsOf ConnMan file)) found-row)
 
-      pub service-good : {s : ServiceSettings} → Typed file y 96 G.Service serviceSettings s → record { answer = Good; settings = s } ≡ serviceAnswered name file w
-      service-good t = rw (good, t .is (serviceAt w (sectionsOf ConnMan file)) found-row)
-
-      pub servers-good : (old : List (List ℕ)) {t z : List (List ℕ)} → t ≡ rows (addresses Comma (bytesAt file (slot 102 y))) → z ≡ t → z ≡ serviceServersAfter name file w old
-      unfolding keysOf
-      servers-good old p k = k ∙ p ∙ rw good (ap rows (row-read G.Service found-row (word "Nameservers") 5 refl (addresses Comma) (addresses-none Comma)))
+    pub servers-good : (old : List (List ℕ)) {t z : List (List ℕ)} → t ≡ rows (addresses Comma (bytesAt file (slot 102 y))) → z ≡ t → z ≡ serviceServersAfter name file w old
+    unfolding keysOf
+    servers-good old p k = k ∙ p ∙ rw (service-answer h s e) (ap rows (row-read G.Service found-row (word "Nameservers") 5 refl (addresses Comma) (addresses-none Comma)))

@@ -12,8 +12,8 @@ use crate::values;
 use addresses::Separator;
 use rules::Answer;
 use rules::Group;
-use rules::Reading;
 use rules::Refusal;
+use rules::asking;
 use text::Dialect;
 
 // The settings of the service asked for, by its row.
@@ -51,20 +51,15 @@ pub fn service_settings(
 {
     let mut x = [0; 384];
     let reading = pass::read(Dialect::ConnMan, name, file, &mut x, service);
-    match reading {
-        Reading::Accepted(settings, count) => {
-            if service < 1 {
-                return refused(file, Refusal::NoService, 0);
-            }
-            if count < service {
-                return refused(file, Refusal::NoService, 0);
-            }
+    let answer = asking::asked_of(service, reading);
+    match answer {
+        Answer::Good => {
             store(servers, values::servers_at(Separator::Comma, file, &x, 102));
             ServiceAnswer {
                 answer: Answer::Good,
                 settings: service_row(file, &x),
             }
         }
-        Reading::Refused(refusal, line) => refused(file, refusal, line),
+        Answer::Refused(refusal, line) => refused(file, refusal, line),
     }
 }

@@ -1,6 +1,7 @@
--- The file is accepted, or it is refused.
+-- There is such a service, or it is refused.
+use Rattle.pass.proofs.Asking.{service-found}
 use Rattle.settings.proofs.ServiceFile.{service-kept}
-use Rattle.joins.proofs.Asked.{service-accepted, service-refused}
+use Rattle.joins.proofs.Asked.{service-good, service-refused}
 use borrow.Author.Needs.{needs}
 use Rattle.joins.proofs.service_record.Statement.{statement}
 use Rattle.joins.proofs.service_record.Tie as tie
@@ -10,9 +11,10 @@ service-record-spec =
     tie.close
     (tie.spec
     (λ c κs. search needs)
+    (λ c κs. search needs)
     (λ c. search needs)
-    (λ c κs. service-kept (c .before .before .before .before .before .read .ensures .found (c .before .before .before .reading .given .1)))
+    (λ c κs. service-kept (service-found (c .before .before .before .before .before .read .ensures) (c .before .before .before .before .asked-of .ensures) (c .before .before .enum-told .given .1)))
     (λ c. search needs)
     (λ c κs. search needs)
-    (λ c. service-accepted (c .before .before .before .before .before .before .read .ensures) (c .before .before .before .before .before .before .before .before .before .before .args .servers .now) (c .before .before .before .before .reading .given .1) (c .service-numbered .ensures))
-    (λ c. service-refused (c .before .before .before .before .read .ensures) (c .before .before .before .before .before .before .before .before .args .servers .now) (c .before .before .reading2 .given .1) (c .refused .ensures)))
+    (λ c. service-good (c .before .before .before .before .before .before .read .ensures) (c .before .before .before .before .before .asked-of .ensures) (c .before .before .before .before .before .before .before .before .before .before .args .servers .now) (c .before .before .before .enum-told .given .1) (c .service-found .ensures))
+    (λ c. service-refused (c .before .before .before .before .before .read .ensures) (c .before .before .before .before .asked-of .ensures) (c .before .before .before .before .before .before .before .before .before .args .servers .now) (c .before .before .answer .given .1) (c .refused .ensures)))

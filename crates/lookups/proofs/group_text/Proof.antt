@@ -1,5 +1,6 @@
 -- The reading of the file, and what its answer hands back.
-use Rattle.lookups.proofs.Handing.{keeps-in, file-found, file-hands}
+use Rattle.pass.proofs.Asking.{file-found}
+use Rattle.lookups.proofs.Handing.{keeps-in, file-hands}
 use borrow.Author.Needs.{needs}
 use Rattle.lookups.proofs.group_text.Statement.{statement}
 use Rattle.lookups.proofs.group_text.Tie as tie
@@ -10,5 +11,5 @@ group-text-spec =
     (tie.spec
     (λ c κs. search needs)
     (λ c κs. search needs)
-    (λ c κs. λ g. keeps-in (c .before .before .before .before .before .before .before .before .pre) (file-found (c .before .before .before .before .read .ensures) (c .before .before .before .file-answer .ensures) g))
-    (λ c. file-hands (c .before .before .before .before .before .read .ensures) (c .hand .ensures) (c .before .before .before .before .file-answer .ensures)))
+    (λ c κs. λ g. keeps-in (c .before .before .before .before .before .before .before .before .pre) (file-found (c .before .before .before .before .read .ensures) (c .before .before .before .asked .ensures) g))
+    (λ c. file-hands (c .before .before .before .before .before .read .ensures) (c .hand .ensures) (c .before .before .before .before .asked .ensures)))

@@ -1,5 +1,6 @@
 -- The reading of the file, and what the service's answer hands back.
-use Rattle.lookups.proofs.Handing.{keeps-in, service-found, service-hands}
+use Rattle.pass.proofs.Asking.{service-found}
+use Rattle.lookups.proofs.Handing.{keeps-in, service-hands}
 use borrow.Author.Needs.{needs}
 use Rattle.lookups.proofs.service_text.Statement.{statement}
 use Rattle.lookups.proofs.service_text.Tie as tie
@@ -10,5 +11,5 @@ service-text-spec =
     (tie.spec
     (λ c κs. search needs)
     (λ c κs. search needs)
-    (λ c κs. λ g. keeps-in (c .before .before .before .before .before .before .before .before .pre) (service-found (c .before .before .before .before .read .ensures) (c .before .before .before .service-answer .ensures) g))
-    (λ c. service-hands (c .before .before .before .before .before .read .ensures) (c .hand .ensures) (c .before .before .before .before .service-answer .ensures)))
+    (λ c κs. λ g. keeps-in (c .before .before .before .before .before .before .before .before .pre) (service-found (c .before .before .before .before .read .ensures) (c .before .before .before .asked-of .ensures) g))
+    (λ c. service-hands (c .before .before .before .before .before .read .ensures) (c .hand .ensures) (c .before .before .before .before .asked-of .ensures)))

@@ -1,5 +1,5 @@
 -- What is kept lies in the buffers, and answers for the whole input (`answer-short`, `answer-long`).
-use Rattle.qewaris_check.proofs.Parts.{held-name, held-file}
+use Rattle.intake.proofs.Parts.{held-name, held-file}
 use Rattle.qewaris_check.proofs.Answering.{answer-short, answer-long}
 use borrow.Author.Needs.{needs}
 use Rattle.qewaris_check.proofs.check_kept.Statement.{statement}

@@ -1,6 +1,7 @@
 -- What is kept is kept of some input; the measure is the number of reads left.
 use mathlib.Core.Path.{refl}
-use Rattle.qewaris_check.proofs.Parts.{Underway, held-none, held-more, held-name, held-file}
+use Rattle.qewaris_check.proofs.Underway.{Underway}
+use Rattle.intake.proofs.Parts.{held-none, held-more, held-name, held-file}
 use borrow.Author.Needs.{needs}
 use Rattle.qewaris_check.proofs.read_input.Statement.{statement}
 use Rattle.qewaris_check.proofs.read_input.Tie as tie

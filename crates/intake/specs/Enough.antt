@@ -1,0 +1,61 @@
+-- Why the kept part of the input is enough.
+use Prim.Native.Nat.{ℕ, _<_}
+use mathlib.Core.Path.{_≡_, refl, ap, ap₂, sym, _∙_}
+use mathlib.Core.Bool.{Bool, true, false}
+use mathlib.Core.List.{List, [], _∷_}
+use native.Mathlib.Omega.{arith}
+use borrow.Author.Tests.{lt-leb, leb-true, leb-false}
+use lib.Dec.{leb}
+use lib.ListN.{length, take, drop, length-take}
+use lib.Seq.{take-all}
+use Rattle.text.specs.Bytes.{inLine}
+use Rattle.text.specs.Parts.{all, front, after}
+use Rattle.text.specs.Laws.{all-cons, front-append, after-append}
+use Rattle.text.specs.declared.Dialect.{Dialect}
+use Rattle.rules.specs.Reading.{reading, nameIn}
+use Rattle.rules.specs.declared.Reading.the-variants.{Refused}
+use Rattle.rules.specs.declared.Refusal.the-variants.{Size}
+use Rattle.intake.specs.Input.{Parted, firstLine, behind}
+
+-- ---- the file
+
+-- "file over 16,384 bytes", under any name
+pub reading-large : (d : Dialect) (name file : List ℕ) → 16384 < length file → reading d name file ≡ Refused Size 0
+unfolding reading
+reading-large d name file h = rw (lt-leb (length file) 16384 h)
+
+-- 16,385 bytes of a file already earn 1, whatever follows
+pub reading-front : (d : Dialect) (name file : List ℕ) (m : ℕ) → 16384 < m → reading d name (take m file) ≡ reading d name file
+reading-front d name file m h = go (leb (length file) m) refl
+  where
+    go : (b : Bool) → leb (length file) m ≡ b → reading d name (take m file) ≡ reading d name file
+    go true e = ap (reading d name) (take-all m file (leb-true (length file) m e))
+    go false e =
+        let k : m < length file = leb-false (length file) m e in
+        reading-large d name (take m file) (omega (arith, length-take m file)) ∙ sym (reading-large d name file (omega arith))
+
+-- ---- the name
+
+-- a name counts by what it says
+pub reading-name : (d : Dialect) (a b file : List ℕ) → nameIn d a ≡ nameIn d b → reading d a file ≡ reading d b file
+unfolding reading
+reading-name d a b file e = rw e
+
+-- ---- the lines in front
+
+front-all : (l : List ℕ) → all inLine l ≡ true → front inLine l ≡ l
+front-all [] h = refl
+front-all (x ∷ l) h = rw (all-cons inLine x l h .0) (ap (λ (t : List ℕ). x ∷ t) (front-all l (all-cons inLine x l h .1)))
+
+after-all : (l : List ℕ) → all inLine l ≡ true → after inLine l ≡ []
+after-all [] h = refl
+after-all (x ∷ l) h = rw (all-cons inLine x l h .0) (after-all l (all-cons inLine x l h .1))
+
+module _ {i line rest : List ℕ} where
+  pub parted-first : (e : Bool) → Parted i e line rest → line ≡ firstLine i
+  parted-first true p = sym (ap firstLine (p .is) ∙ front-append inLine line 10 rest (p .within) refl)
+  parted-first false p = sym (ap firstLine (p .is) ∙ front-all line (p .within))
+
+  pub parted-behind : (e : Bool) → Parted i e line rest → rest ≡ behind i
+  parted-behind true p = sym (ap behind (p .is) ∙ ap (drop 1) (after-append inLine line 10 rest (p .within) refl))
+  parted-behind false p = p .none refl ∙ sym (ap behind (p .is) ∙ ap (drop 1) (after-all line (p .within)))

@@ -1,0 +1,81 @@
+-- The move's answers, one law for each return: what is answered of the service by its number, and what its lines say.
+use Prim.Native.Nat.{ℕ, _≤_, _<_}
+use mathlib.Core.Path.{_≡_, refl, ap, ap₂, sym, _∙_, subst}
+use mathlib.Core.List.{List}
+use mathlib.Core.Option.{Option}
+use Rattle.text.specs.Words.{word}
+use Rattle.text.specs.declared.Dialect.the-variants.{ConnMan}
+use Rattle.addresses.specs.Addresses.{addresses, rows}
+use Rattle.addresses.specs.declared.Separator.the-variants.{Comma}
+use Rattle.rules.specs.Tables.{keysOf}
+use Rattle.rules.specs.Groups.{entryOf}
+use Rattle.rules.specs.Asking.{askedOf}
+use Rattle.rules.specs.declared.Answer.{Answer}
+use Rattle.rules.specs.declared.Answer.the-variants.{Good, Refused}
+use Rattle.rules.specs.declared.Group.the-variants as G
+use Rattle.rules.specs.declared.Reading.{Reading}
+use Rattle.rules.specs.declared.Refusal.{Refusal}
+use Rattle.rules.specs.declared.Refusal.the-variants.{NoPlace}
+use Rattle.reader.specs.Store.{slot}
+use Rattle.pass.specs.Pass.{Reads}
+use Rattle.pass.proofs.Asking.{service-found, service-answer}
+use Rattle.settings.specs.Values.{bytesAt}
+use Rattle.settings.specs.Rows.{RowOf, Typed}
+use Rattle.settings.proofs.ServiceFile.{service-row}
+use Rattle.settings.proofs.Rowwise.{addresses-none, row-read}
+use Rattle.records.specs.Record.{Join, laid, joined}
+use Rattle.records.specs.Laws.{joined-laid}
+use Rattle.records.specs.declared.JoinRecord.{JoinRecord}
+use Rattle.written.specs.Parts.{Within}
+use Rattle.writer.specs.Writing.{refuses, writingOf, writtenAnswer, Writes}
+use Rattle.writer.specs.declared.Written.{Written}
+use Rattle.joins.specs.Joins.{serviceJoin}
+use Rattle.mover.specs.Moves.{unplaced, earliest, orUnplaced, moving}
+use Rattle.mover.specs.Demand.{Moves}
+use Rattle.mover.specs.Places.{LineIs, MovesBy}
+use Rattle.mover.specs.Sizes.{join-within}
+use Rattle.mover.specs.Theorem.{demand-3}
+use Rattle.mover.proofs.Lines.{line-some, line-none}
+
+-- a refusal leaves both buffers as they were
+refusal-writes : {r : Refusal} {l : ℕ} {n f : List ℕ} {a : Written} → a ≡ writtenAnswer (refuses r l) → Writes (refuses r l) n f n f a
+refusal-writes p = record { answer = p; name = refl; file = refl }
+
+-- ---- a service that there is
+
+pub record-within : {file x : List ℕ} {j : JoinRecord} → RowOf file x 96 G.Service → Typed file x 96 G.Service (λ at. laid (serviceJoin at)) j → Within j
+record-within h t = subst Within (sym (t .is (h .settings) (h .row))) (join-within (λ k. entryOf k (h .settings)))
+
+module _ {file t : List ℕ} {l : ℕ} (u : LineIs file t (λ at. earliest (unplaced at)) l) (n f : List ℕ) where
+  pub found-unplaced : 0 < l → {a : Written} → a ≡ writtenAnswer (refuses NoPlace l) → MovesBy file t n f n f a
+  found-unplaced g {a} p = record { is = λ es h. subst (λ (o : Option ℕ). Writes (orUnplaced o (writingOf (serviceJoin (λ k. entryOf k es)) n f)) n f n f a) (sym (line-some l g) ∙ u .is es h) (refusal-writes p) }
+
+  pub found-placed : l ≤ 0 → {j : JoinRecord} → Typed file t 96 G.Service (λ at. laid (serviceJoin at)) j → {s : List (List ℕ)} → s ≡ rows (addresses Comma (bytesAt file (slot 102 t))) → {x y : List ℕ} {a : Written} → Writes (writingOf (joined j s) n f) n f x y a → MovesBy file t n f x y a
+  unfolding keysOf
+  found-placed g {j} v {s} p {x} {y} {a} w =
+      record {
+        is = λ es h.
+            let i : joined j s ≡ serviceJoin (λ k. entryOf k es) = ap₂ joined (v .is es h) (p ∙ ap rows (row-read G.Service h (word "Nameservers") 5 refl (addresses Comma) (addresses-none Comma))) ∙ joined-laid (serviceJoin (λ k. entryOf k es)) in
+            subst (λ (o : Option ℕ). Writes (orUnplaced o (writingOf (serviceJoin (λ k. entryOf k es)) n f)) n f x y a) (sym (line-none l g) ∙ u .is es h)
+            (subst (λ (z : Join). Writes (writingOf z n f) n f x y a) i w);
+      }
+
+-- ---- a file
+
+moves : {name file : List ℕ} {w : ℕ} {n f x y : List ℕ} {a : Written} → Writes (moving name file w n f) n f x y a → Moves name file w n f x y a
+moves h = record { is = h; demand = λ m. demand-3 m h }
+
+module _ {name file : List ℕ} {w : ℕ} {t : List ℕ} {q : Reading} (h : Reads ConnMan name file w t q) {b : Answer} (s : b ≡ askedOf w q) (n f : List ℕ) where
+  good-writes : b ≡ Good → {x y : List ℕ} {a : Written} → MovesBy file t n f x y a → Writes (moving name file w n f) n f x y a
+  unfolding moving
+  good-writes e p = rw (service-answer h s e) (p .is _ (service-row (service-found h s e)))
+
+  pub move-good : b ≡ Good → {x y : List ℕ} {a : Written} → MovesBy file t n f x y a → Moves name file w n f x y a
+  move-good e p = moves (good-writes e p)
+
+  refused-writes : {r : Refusal} {l : ℕ} → b ≡ Refused r l → {a : Written} → a ≡ writtenAnswer (refuses r l) → Writes (moving name file w n f) n f n f a
+  unfolding moving
+  refused-writes e p = rw (service-answer h s e) (refusal-writes p)
+
+  pub move-refused : {r : Refusal} {l : ℕ} → b ≡ Refused r l → {a : Written} → a ≡ writtenAnswer (refuses r l) → Moves name file w n f n f a
+  move-refused e p = moves (refused-writes e p)

@@ -1,0 +1,51 @@
+// The move of a ConnMan service to iwd: the file name and the file of the service's record, or the refusal.
+//
+// The definition is in specs/Moves, demand 3 in specs/Demand and its theorem in specs/Theorem. `unplaced` finds the earliest
+// line that iwd has no place for.
+pub mod unplaced;
+
+ghost use Rattle.settings.specs.Rows.{RowOf};
+ghost use Rattle.mover.specs.Demand.{Moves};
+ghost use Rattle.mover.specs.Places.{MovesBy};
+use addresses::Separator;
+use rules::Answer;
+use rules::Group;
+use rules::Refusal;
+use rules::asking;
+use settings::values;
+use text::Dialect;
+use writer::Written;
+
+// The move of a service that there is.
+fn move_found(file: &[u8], x: &[usize; 384], name_out: &mut [u8], file_out: &mut [u8]) -> Written
+    requires { ⌜ RowOf (now file) (now x) 96 Group.Service ⌝ }
+    ensures { λ a. ⌜ MovesBy (now (file .entry)) (now (x .entry)) (now («name_out» .entry)) (now («file_out» .entry)) (now («name_out» .exit)) (now («file_out» .exit)) a ⌝ }
+{
+    let line = unplaced::unplaced_line(file, x);
+    if 0 < line {
+        return writer::refused(Refusal::NoPlace, line);
+    }
+    let record = joins::joining::service_join(file, x);
+    let servers = values::servers_at(Separator::Comma, file, x, 102);
+    writer::write_placed(record, servers, name_out, file_out)
+}
+
+// Moves a service, counted from 1, of a ConnMan file under its name: the new file name goes into the first lent buffer and the
+// new file into the second, and the answer counts the new bytes of each. A refusal leaves both as they were.
+pub fn move_service(
+    name: &[u8],
+    file: &[u8],
+    service: usize,
+    name_out: &mut [u8],
+    file_out: &mut [u8],
+) -> Written
+    ensures { λ a. ⌜ Moves (now (name .entry)) (now (file .entry)) service (now («name_out» .entry)) (now («file_out» .entry)) (now («name_out» .exit)) (now («file_out» .exit)) a ⌝ }
+{
+    let mut x = [0; 384];
+    let reading = pass::read(Dialect::ConnMan, name, file, &mut x, service);
+    let answer = asking::asked_of(service, reading);
+    match answer {
+        Answer::Good => move_found(file, &x, name_out, file_out),
+        Answer::Refused(refusal, line) => writer::refused(refusal, line),
+    }
+}

@@ -1,0 +1,69 @@
+-- Why the kept part of the input is enough for a move.
+use Prim.Native.Nat.{ℕ, _<_}
+use mathlib.Core.Path.{_≡_, refl, ap, sym, _∙_}
+use mathlib.Core.Bool.{Bool, true, false, cond, _&&_}
+use mathlib.Core.List.{List, []}
+use native.Mathlib.Omega.{arith}
+use borrow.Author.Tests.{lt-leb, leb-true, leb-false}
+use lib.Dec.{leb}
+use lib.ListN.{length, take, length-take}
+use lib.Seq.{take-all}
+use Rattle.text.specs.Words.{word}
+use Rattle.text.specs.declared.Dialect.the-variants.{ConnMan}
+use Rattle.addresses.specs.Addresses.{value}
+use Rattle.rules.specs.Reading.{reading}
+use Rattle.rules.specs.Asking.{askedOf}
+use Rattle.rules.specs.declared.Reading.{Reading}
+use Rattle.rules.specs.declared.Refusal.the-variants.{Size}
+use Rattle.writer.specs.Writing.{refuses}
+use Rattle.joins.specs.Joins.{settingOf}
+use Rattle.mover.specs.Moves.{moving, movingOf, orRefused}
+use Rattle.intake.specs.declared.Form.the-variants.{Empty}
+use Rattle.intake.specs.Forms.{formFrom, complete}
+use Rattle.intake.specs.Laws.{form-connman}
+use Rattle.intake.specs.Enough.{reading-large, reading-name}
+use Rattle.qewaris_move.specs.Number.{orZero, serviceNumber}
+
+-- four bytes of a number line already count as 0, whatever follows
+pub number-long : (s : List ℕ) → 3 < length s → serviceNumber s ≡ 0
+number-long s h = rw (lt-leb (length s) 3 h) (go (leb 1 (length s)))
+  where
+    go : (b : Bool) → cond (b && false) (orZero (value 0 s)) 0 ≡ 0
+    go true = refl
+    go false = refl
+
+pub number-front : (s : List ℕ) (m : ℕ) → 3 < m → serviceNumber (take m s) ≡ serviceNumber s
+number-front s m h = go (leb (length s) m) refl
+  where
+    go : (b : Bool) → leb (length s) m ≡ b → serviceNumber (take m s) ≡ serviceNumber s
+    go true e = ap serviceNumber (take-all m s (leb-true (length s) m e))
+    go false e =
+        let k : m < length s = leb-false (length s) m e in
+        number-long (take m s) (omega (arith, length-take m s)) ∙ sym (number-long s (omega arith))
+
+module _ (w : ℕ) (n f : List ℕ) where
+  -- a name counts only by the reading
+  moving-name : (a b file : List ℕ) → reading ConnMan a file ≡ reading ConnMan b file → moving a file w n f ≡ moving b file w n f
+  unfolding moving
+  moving-name a b file e = ap (λ (r : Reading). orRefused (askedOf w r) (movingOf (settingOf w file) n f)) e
+
+  moving-large : (name file : List ℕ) → 16384 < length file → moving name file w n f ≡ refuses Size 0
+  unfolding moving
+  moving-large name file h = ap (λ (r : Reading). orRefused (askedOf w r) (movingOf (settingOf w file) n f)) (reading-large ConnMan name file h)
+
+  -- 16,385 bytes of a file already earn 1, whatever follows
+  pub moving-front : (name file : List ℕ) (m : ℕ) → 16384 < m → moving name (take m file) w n f ≡ moving name file w n f
+  moving-front name file m h = go (leb (length file) m) refl
+    where
+      go : (b : Bool) → leb (length file) m ≡ b → moving name (take m file) w n f ≡ moving name file w n f
+      go true e = ap (λ (t : List ℕ). moving name t w n f) (take-all m file (leb-true (length file) m e))
+      go false e =
+          let k : m < length file = leb-false (length file) m e in
+          moving-large name (take m file) (omega (arith, length-take m file)) ∙ sym (moving-large name file (omega arith))
+
+  -- every complete name counts as one, and any other as none
+  pub moving-complete : (line file : List ℕ) → complete (formFrom Empty line) ≡ true → moving (word "a.config") file w n f ≡ moving line file w n f
+  moving-complete line file e = moving-name (word "a.config") line file (reading-name ConnMan (word "a.config") line file (rw (sym (form-connman line) ∙ e)))
+
+  pub moving-incomplete : (line file : List ℕ) → complete (formFrom Empty line) ≡ false → moving [] file w n f ≡ moving line file w n f
+  moving-incomplete line file e = moving-name [] line file (reading-name ConnMan [] line file (rw (sym (form-connman line) ∙ e)))

@@ -1,0 +1,9 @@
+pub mod Blocks
+pub mod Readings
+pub mod Lookups
+pub mod Values
+pub mod Groups
+pub mod Parts
+pub mod RoundTrip
+pub mod Structs
+pub mod Same

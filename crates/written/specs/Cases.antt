@@ -1,0 +1,60 @@
+-- Worked cases: document 01's file of 169 bytes, and records whose file is empty or begins a string with a blank.
+use mathlib.Core.Path.{_≡_, refl}
+use mathlib.Core.Bool.{Bool, true, false}
+use mathlib.Core.List.{List, [], _∷_}
+use mathlib.Core.Option.{some}
+use Prim.Native.Nat.{ℕ, _+_}
+use lib.ListN.{length}
+use Rattle.text.specs.Bytes.{isPlain}
+use Rattle.text.specs.Words.{word}
+use Rattle.escapes.specs.Escapes.{writing}
+use Rattle.hex.specs.Hex.{digit, hex}
+use Rattle.addresses.specs.Addresses.{decimal, dotted, maskBytes}
+use Rattle.kinds.specs.Kinds.{IPv4, dhcp, static}
+use Rattle.names.specs.Names.{stem}
+use Rattle.records.specs.Record.{Secret, noSecret, passphrase, key, Join}
+use Rattle.records.specs.declared.Ipv6.{Ipv6}
+use Rattle.records.specs.declared.Ipv6.the-variants as Ipv6
+use Rattle.written.specs.Written.{fileText, nameText}
+
+abbrev pub desk4 : Join
+desk4 =
+    record {
+      name = word "Desk 4";
+      credential = passphrase (word "low\\tide 88");
+      hidden = true;
+      ipv4 = static (10 ∷ 20 ∷ 0 ∷ 14 ∷ []) 24 (some (10 ∷ 20 ∷ 0 ∷ 1 ∷ []));
+      servers = (10 ∷ 20 ∷ 0 ∷ 2 ∷ []) ∷ (10 ∷ 20 ∷ 0 ∷ 3 ∷ []) ∷ [];
+      domain = [];
+      ipv6 = Ipv6.Off;
+    }
+
+-- a network and its credential, all else by default
+abbrev pub plainly : List ℕ → Secret → List ℕ → Join
+plainly n c d = record { name = n; credential = c; hidden = false; ipv4 = dhcp; servers = []; domain = d; ipv6 = Ipv6.Auto }
+
+pub worked-name : nameText desk4 ≡ word "Desk 4.psk"
+unfolding nameText stem isPlain
+worked-name = refl
+
+pub worked-file : fileText desk4 ≡ word "[Settings]\nHidden=true\n[Security]\nPassphrase=low\\\\tide 88\n[IPv4]\nAddress=10.20.0.14\nNetmask=255.255.255.0\nGateway=10.20.0.1\nDNS=10.20.0.2 10.20.0.3\n[IPv6]\nEnabled=false\n"
+unfolding fileText writing dotted decimal maskBytes
+worked-file = refl
+
+pub worked-length : length (fileText desk4) ≡ 169
+unfolding fileText writing dotted decimal maskBytes
+worked-length = refl
+
+-- "An open record that is all defaults writes 0 bytes"
+pub open-file : fileText (plainly (word "Desk") noSecret []) ≡ []
+unfolding fileText
+open-file = refl
+
+pub open-name : nameText (plainly (word "Desk") noSecret []) ≡ word "Desk.open"
+unfolding nameText stem isPlain
+open-name = refl
+
+-- a leading tab and a leading space are escaped, blanks behind stay
+pub blank-file : fileText (plainly (word "Desk") (passphrase (word "\tsecret \t")) (word " a\nb\rc ")) ≡ word "[Security]\nPassphrase=\\tsecret \t\n[IPv4]\nDomainName=\\sa\\nb\\rc \n"
+unfolding fileText writing
+blank-file = refl

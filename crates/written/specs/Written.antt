@@ -1,0 +1,118 @@
+-- The written iwd file, as document 01 says it under "The written iwd file": groups of lines, rendered; and its name.
+use Prim.Native.Nat.{ℕ}
+use mathlib.Core.Bool.{Bool, true, false}
+use mathlib.Core.List.{List, [], _∷_, _++_}
+use mathlib.Core.Option.{Option, none, some}
+use Rattle.text.specs.Words.{word}
+use Rattle.text.specs.declared.Dialect.{Dialect}
+use Rattle.text.specs.declared.Dialect.the-variants as D
+use Rattle.escapes.specs.Escapes.{escape}
+use Rattle.hex.specs.Hex.{hex}
+use Rattle.addresses.specs.Addresses.{dotted, maskBytes, listed}
+use Rattle.addresses.specs.declared.Separator.the-variants.{Spaces}
+use Rattle.kinds.specs.Kinds.{IPv4, dhcp, off, static}
+use Rattle.lines.specs.Lines.{Line, header, setting}
+use Rattle.lines.specs.Rendering.{rendered}
+use Rattle.names.specs.Names.{fileName}
+use Rattle.names.specs.declared.Suffix.{Suffix}
+use Rattle.names.specs.declared.Suffix.the-variants as S
+use Rattle.records.specs.Record.{Secret, noSecret, passphrase, key, Join}
+use Rattle.records.specs.declared.Ipv6.{Ipv6}
+use Rattle.records.specs.declared.Ipv6.the-variants.{Auto, Off}
+
+-- ---- groups of settings
+
+-- a setting: its key and its value
+abbrev pub Row : Type 0
+Row = List ℕ × List ℕ
+
+-- a group: its name and its settings
+pub record Block : Type 0 where
+  pub name : List ℕ
+  pub rows : List Row
+
+abbrev pub rowLines : List Row → List Line
+rowLines [] = []
+rowLines (r ∷ rs) = setting (r .0) (r .1) ∷ rowLines rs
+
+-- groups, "only those with a line"
+abbrev pub groupLines : List ℕ → List Row → List Line
+groupLines n [] = []
+groupLines n (r ∷ rs) = header n ∷ rowLines (r ∷ rs)
+
+abbrev pub blockLines : List Block → List Line
+blockLines [] = []
+blockLines (b ∷ bs) = groupLines (b .name) (b .rows) ++ blockLines bs
+
+-- ---- the settings of a join record
+
+-- "Hidden=true if hidden"
+abbrev pub hiddenRows : Bool → List Row
+hiddenRows false = []
+hiddenRows true = (word "Hidden", word "true") ∷ []
+
+-- "Passphrase or PreSharedKey (lower-case hex)"
+abbrev pub secretRows : Secret → List Row
+secretRows noSecret = []
+secretRows (passphrase p) = (word "Passphrase", escape p) ∷ []
+secretRows (key k) = (word "PreSharedKey", hex k) ∷ []
+
+-- "Address, Netmask, Gateway if static"
+abbrev pub gatewayRows : Option (List ℕ) → List Row
+gatewayRows none = []
+gatewayRows (some g) = (word "Gateway", dotted g) ∷ []
+
+abbrev pub numberRows : IPv4 → List Row
+numberRows dhcp = []
+numberRows off = []
+numberRows (static a n g) = (word "Address", dotted a) ∷ (word "Netmask", dotted (maskBytes n)) ∷ gatewayRows g
+
+-- "DNS with single spaces"
+abbrev pub serverRows : List (List ℕ) → List Row
+serverRows [] = []
+serverRows (a ∷ l) = (word "DNS", listed Spaces (a ∷ l)) ∷ []
+
+-- "DomainName"; "0 meaning absent"
+abbrev pub domainRows : List ℕ → List Row
+domainRows [] = []
+domainRows (c ∷ d) = (word "DomainName", escape (c ∷ d)) ∷ []
+
+abbrev pub ipv4Rows : IPv4 → List (List ℕ) → List ℕ → List Row
+ipv4Rows i l d = numberRows i ++ serverRows l ++ domainRows d
+
+-- "Enabled=false if off"
+abbrev pub ipv6Rows : Ipv6 → List Row
+ipv6Rows Auto = []
+ipv6Rows Off = (word "Enabled", word "false") ∷ []
+
+-- "Groups in the order Settings, Security, IPv4, IPv6"
+abbrev pub blocksOf : Join → List Block
+blocksOf j =
+    record { name = word "Settings"; rows = hiddenRows (j .hidden) }
+    ∷ record { name = word "Security"; rows = secretRows (j .credential) }
+    ∷ record { name = word "IPv4"; rows = ipv4Rows (j .ipv4) (j .servers) (j .domain) }
+    ∷ record { name = word "IPv6"; rows = ipv6Rows (j .ipv6) }
+    ∷ []
+
+-- "No blank lines, every line ends with byte 10."
+unfoldable pub fileText : Join → List ℕ
+fileText j = rendered D.Iwd (blockLines (blocksOf j))
+
+-- ---- the file's name: `.open` for a network without a key, else `.psk`
+
+abbrev pub suffixFor : Secret → Suffix
+suffixFor noSecret = S.Open
+suffixFor (passphrase p) = S.Psk
+suffixFor (key k) = S.Psk
+
+unfoldable pub nameText : Join → List ℕ
+nameText j = fileName (j .name) (suffixFor (j .credential))
+
+-- ---- what iwd has a place for
+
+-- "No place in iwd .. For the writer: IPv4 off, or static without gateway."
+abbrev pub hasPlace : IPv4 → Bool
+hasPlace dhcp = true
+hasPlace off = false
+hasPlace (static a n none) = false
+hasPlace (static a n (some g)) = true
