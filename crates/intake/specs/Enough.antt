@@ -4,7 +4,7 @@ use mathlib.Core.Path.{_≡_, refl, ap, ap₂, sym, _∙_}
 use mathlib.Core.Bool.{Bool, true, false}
 use mathlib.Core.List.{List, [], _∷_}
 use native.Mathlib.Omega.{arith}
-use borrow.Author.Tests.{lt-leb, leb-true, leb-false}
+use borrow.Author.Tests.{leb-true, leb-false}
 use lib.Dec.{leb}
 use lib.ListN.{length, take, drop, length-take}
 use lib.Seq.{take-all}
@@ -13,16 +13,10 @@ use Rattle.text.specs.Parts.{all, front, after}
 use Rattle.text.specs.Laws.{all-cons, front-append, after-append}
 use Rattle.text.specs.declared.Dialect.{Dialect}
 use Rattle.rules.specs.Reading.{reading, nameIn}
-use Rattle.rules.specs.declared.Reading.the-variants.{Refused}
-use Rattle.rules.specs.declared.Refusal.the-variants.{Size}
+use Rattle.rules.specs.Acceptance.{reading-large}
 use Rattle.intake.specs.Input.{Parted, firstLine, behind}
 
 -- ---- the file
-
--- "file over 16,384 bytes", under any name
-pub reading-large : (d : Dialect) (name file : List ℕ) → 16384 < length file → reading d name file ≡ Refused Size 0
-unfolding reading
-reading-large d name file h = rw (lt-leb (length file) 16384 h)
 
 -- 16,385 bytes of a file already earn 1, whatever follows
 pub reading-front : (d : Dialect) (name file : List ℕ) (m : ℕ) → 16384 < m → reading d name (take m file) ≡ reading d name file

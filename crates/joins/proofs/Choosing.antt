@@ -13,6 +13,7 @@ use Rattle.kinds.specs.declared.Key.{Key}
 use Rattle.kinds.specs.declared.Word.{Word}
 use Rattle.kinds.specs.declared.Word.the-variants as W
 use Rattle.rules.specs.Groups.{isWord, wordNumber}
+use Rattle.reader.proofs.RowRule.{number-word}
 use Rattle.reader.specs.Closing.{numberIs}
 use Rattle.settings.specs.Values.{choice, lengthOr0}
 use Rattle.settings.specs.declared.Choice.{Choice}
@@ -71,10 +72,6 @@ pub choice-told : (o : Option Bool) {r s : Choice} → r ≡ choice o → r ≡ 
 choice-told o e q = rw (← q, e) (sym (choice-back o))
 
 -- ---- words
-
-pub number-word : (w : Word) (o : Option Word) → numberIs (wordNumber w) (namedWord o) ≡ isWord w o
-number-word w none = refl
-number-word w (some x) = refl
 
 pub ipv6-off : (o : Option Word) {b : Bool} → b ≡ numberIs 3 (namedWord o) → b ≡ true → Ipv6.Off ≡ wordIpv6 o
 ipv6-off o e q = rw (sym (number-word W.Off o) ∙ sym e ∙ q)

@@ -29,7 +29,7 @@ use Rattle.settings.specs.Values.{bytesAt}
 use Rattle.settings.proofs.Rowwise.{word-none, ipv4-none, row-read}
 use Rattle.written.specs.Written.{hasPlace}
 use Rattle.joins.specs.Joins.{ipv4OrDhcp, wired, foreignSecurity}
-use Rattle.joins.proofs.Choosing.{number-word}
+use Rattle.reader.proofs.RowRule.{number-word}
 use Rattle.mover.specs.Moves.{lineIf, lineGiven, unplaced, earliest}
 use Rattle.mover.specs.Places.{lineOf, first, Earlier, GivenLine, LineIs}
 

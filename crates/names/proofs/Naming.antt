@@ -165,10 +165,6 @@ module _ {f : List ℕ} {e : ℕ} (h : Stop isAlphanumeric f 0 e) where
 
 -- ---- writing
 
-pub suffix-short : (k : Suffix) → length (suffixOf k) ≤ 5
-suffix-short Open = omega arith
-suffix-short Psk = omega arith
-
 module _ (n : List ℕ) {x : Bool} (p : x ≡ all isPlain n) where
   pub stem-plain : x ≡ true → stem n ≡ n
   unfolding stem

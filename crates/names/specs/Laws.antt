@@ -1,4 +1,4 @@
--- A network's file name gives that network, and a file name that gives a network is that network's only one.
+-- A network's file name gives that network, a file name that gives a network is that network's only one, and it has at most 70 bytes.
 use mathlib.Core.Path.{_≡_, refl, ap₂, sym, _∙_, subst}
 use mathlib.Core.Bool.{Bool, true, false, cond, not}
 use mathlib.Core.List.{List, [], _∷_, _++_}
@@ -7,14 +7,14 @@ use Prim.Native.Nat.{ℕ, _≤_}
 use native.Mathlib.Omega.{arith}
 use borrow.Author.Tests.{eqb-true, ne-eqb, ltb-false, not-true}
 use lib.Dec.{eqb, ltb}
-use lib.ListN.{length, take-append-drop}
+use lib.ListN.{length, length-append, take-append-drop}
 use Rattle.text.specs.Bytes.{between, other, isPlain, isLowerHex}
 use Rattle.text.specs.Parts.{all, lead, front, after}
 use Rattle.text.specs.Words.{same, named}
 use Rattle.text.specs.Options.{andThen, only}
 use Rattle.text.specs.Laws.{inside, over, between-low, between-high, pass-other, all-cons, all-weaken, all-other, front-append, after-append, same-eq}
 use Rattle.hex.specs.Hex.{unhex, hex, isByte}
-use Rattle.hex.specs.Laws.{unhex-hex, hex-unhex, hex-lower, unhex-bytes}
+use Rattle.hex.specs.Laws.{unhex-hex, hex-unhex, hex-lower, hex-length, unhex-bytes}
 use Rattle.names.specs.declared.Suffix.{Suffix}
 use Rattle.names.specs.declared.Suffix.the-variants.{Open, Psk}
 use Rattle.names.specs.Names.{NetworkName, stem, unplain, hexName, nameOf, suffixOf, suffixes, Network, network, networkOf, fileName}
@@ -146,3 +146,21 @@ one-file-name f g p q = sym (file-name-network f p) ∙ file-name-network g q
 
 pub network-bytes : (f : List ℕ) {x : Network} → networkOf f ≡ some x → NetworkName (x .name)
 network-bytes f {x} e = name-bytes (front (other 46) f) (file-read f x e .stemmed)
+
+-- ---- how long a file name is
+
+pub suffix-short : (k : Suffix) → length (suffixOf k) ≤ 5
+suffix-short Open = omega arith
+suffix-short Psk = omega arith
+
+stem-short : (n : List ℕ) → length n ≤ 32 → length (stem n) ≤ 65
+unfolding stem
+stem-short n h = go (all isPlain n)
+  where
+    go : (b : Bool) → length (cond b n (61 ∷ hex n)) ≤ 65
+    go true = omega (arith, h)
+    go false = omega (arith, h, hex-length n)
+
+-- `=`, 64 digits and `.open`
+pub file-name-short : (n : List ℕ) (k : Suffix) → length n ≤ 32 → length (fileName n k) ≤ 70
+file-name-short n k h = omega (arith, length-append (stem n) (suffixOf k), stem-short n h, suffix-short k)

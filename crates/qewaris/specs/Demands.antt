@@ -47,7 +47,7 @@ use Rattle.mover.specs.Theorem as M
 
 -- ---- demand 1: "Whatever bytes, name, service number, record or buffers come in, each entry point ends with an answer from document 01's table. A refusal gives its number and line, zeros for all else, and changes no byte of any lent buffer."
 
--- a call of an entry point with all that it is given, what lent arrays and buffers hold included; a string is asked for by its group and key
+-- a call of an entry point with all that it is given, what lent arrays and buffers hold included; a string is asked for by its group and key (`is_well_formed` answers yes or no)
 pub data Call : Type 0 where
   check : Dialect → List ℕ → List ℕ → Call
   iwd-settings : List ℕ → List ℕ → List (List ℕ) → Call

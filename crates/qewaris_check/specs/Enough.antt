@@ -1,25 +1,21 @@
 -- Why a long name line is answered by its form.
-use Prim.Native.Nat.{ℕ, _-_, _≤_, _<_}
+use Prim.Native.Nat.{ℕ, _-_, _<_}
 use mathlib.Core.Path.{_≡_, refl, ap, sym, _∙_}
 use mathlib.Core.Bool.{Bool, true, false, cond, not}
 use mathlib.Core.List.{List, [], _∷_}
 use mathlib.Core.Option.{Option, none, some}
 use native.Mathlib.Omega.{arith}
 use borrow.Author.Tests.{le-ltb}
-use lib.ListN.{length, length-append, length-drop}
-use Rattle.text.specs.Bytes.{isAlphanumeric, isPlain}
-use Rattle.text.specs.Parts.{front, after, lead, all, empty}
+use lib.ListN.{length, length-drop}
+use Rattle.text.specs.Bytes.{isAlphanumeric}
+use Rattle.text.specs.Parts.{front, after, lead, empty}
 use Rattle.text.specs.Words.{word, same}
 use Rattle.text.specs.Laws.{and-true, same-eq}
 use Rattle.text.specs.declared.Dialect.{Dialect}
 use Rattle.text.specs.declared.Dialect.the-variants.{Iwd, ConnMan}
-use Rattle.hex.specs.Hex.{hex}
-use Rattle.hex.specs.Laws.{hex-length}
-use Rattle.names.specs.Names.{Network, stem, suffixOf, networkOf, connmanName}
-use Rattle.names.specs.Laws.{file-name-network, network-bytes}
+use Rattle.names.specs.Names.{Network, networkOf, connmanName}
+use Rattle.names.specs.Laws.{file-name-network, network-bytes, file-name-short}
 use Rattle.names.specs.Dialects.{dialectOf}
-use Rattle.names.specs.declared.Suffix.{Suffix}
-use Rattle.names.specs.declared.Suffix.the-variants.{Open, Psk}
 use Rattle.rules.specs.Reading.{reading, nameIn}
 use Rattle.intake.specs.declared.Form.the-variants.{Empty}
 use Rattle.intake.specs.Forms.{formFrom}
@@ -32,25 +28,13 @@ reading-unnamed : (d g : Dialect) (a b file : List ℕ) → nameIn d a ≡ none 
 unfolding reading
 reading-unnamed d g a b file e q = rw (e, q)
 
-stem-long : (n : List ℕ) → length n ≤ 32 → length (stem n) ≤ 65
-unfolding stem
-stem-long n l = go (all isPlain n)
-  where
-    go : (b : Bool) → length (cond b n (61 ∷ hex n)) ≤ 65
-    go true = omega arith
-    go false = omega (arith, hex-length n)
-
-suffix-long : (k : Suffix) → length (suffixOf k) ≤ 5
-suffix-long Open = omega arith
-suffix-long Psk = omega arith
-
 -- no good iwd name is longer than 70 bytes
 long-unnamed : (f : List ℕ) → 70 < length f → networkOf f ≡ none
 long-unnamed f l = go (networkOf f) refl
   where
     go : (o : Option Network) → networkOf f ≡ o → o ≡ none
     go none e = refl
-    go (some x) e = absurd (omega (arith, ap length (file-name-network f e), length-append (stem (x .name)) (suffixOf (x .suffix)), stem-long (x .name) (network-bytes f e .high), suffix-long (x .suffix)))
+    go (some x) e = absurd (omega (arith, l, ap length (file-name-network f e), file-name-short (x .name) (x .suffix) (network-bytes f e .high)))
 
 -- a ConnMan name ends in `.config`
 connman-ends : (f : List ℕ) → connmanName f ≡ true → dialectOf f ≡ ConnMan

@@ -21,7 +21,8 @@ use Rattle.mover.specs.Moves.{moving, movingOf, orRefused}
 use Rattle.intake.specs.declared.Form.the-variants.{Empty}
 use Rattle.intake.specs.Forms.{formFrom, complete}
 use Rattle.intake.specs.Laws.{form-connman}
-use Rattle.intake.specs.Enough.{reading-large, reading-name}
+use Rattle.rules.specs.Acceptance.{reading-large}
+use Rattle.intake.specs.Enough.{reading-name}
 use Rattle.qewaris_move.specs.Number.{orZero, serviceNumber}
 
 -- four bytes of a number line already count as 0, whatever follows

@@ -28,13 +28,13 @@ use Rattle.reader.specs.Closing.{numberIs, slotWord, isTaken, slotsRule}
 
 -- ---- one key
 
-number-is : (w : Word) (o : Option Word) → numberIs (wordNumber w) (namedWord o) ≡ isWord w o
-number-is w none = refl
-number-is w (some v) = refl
+pub number-word : (w : Word) (o : Option Word) → numberIs (wordNumber w) (namedWord o) ≡ isWord w o
+number-word w none = refl
+number-word w (some v) = refl
 
 kept-word : (file : List ℕ) (s : Slot) (l : WordList) (w : Word) (o : Option Entry) → Kept file s o → numberIs (wordNumber w) (slotWord file l s) ≡ isWord w (andThen o (λ e. wordOf l (e .value)))
 kept-word file s l w none q = rw q
-kept-word file s l w (some e) h = rw (ne-eqb (s .line) 0 (λ z. let p = h .some in omega (arith, z, p)), h .value) (number-is w (wordOf l (e .value)))
+kept-word file s l w (some e) h = rw (ne-eqb (s .line) 0 (λ z. let p = h .some in omega (arith, z, p)), h .value) (number-word w (wordOf l (e .value)))
 
 -- a slot of a row is taken where its key is given
 pub taken-given : {file x : List ℕ} {b : ℕ} {t : List (List ℕ)} {es : List Entry} → Row file x b t es → (k : List ℕ) (n : ℕ) → place k t ≡ suc n → isTaken x (b + suc n) ≡ given k es

@@ -88,9 +88,10 @@ module _ (d : Dialect) (name file : List ℕ) (size : length file ≤ 16384) whe
   unfolding reading
   misnamed-whole named = rw (le-leb (length file) 16384 size, named)
 
-long-whole : (d : Dialect) (name file : List ℕ) → 16384 < length file → reading d name file ≡ Refused Size 0
+-- "file over 16,384 bytes", under any name
+pub reading-large : (d : Dialect) (name file : List ℕ) → 16384 < length file → reading d name file ≡ Refused Size 0
 unfolding reading
-long-whole d name file h = rw (lt-leb (length file) 16384 h)
+reading-large d name file h = rw (lt-leb (length file) 16384 h)
 
 -- ---- the theorem
 
@@ -105,7 +106,7 @@ pub obeys-accepted : (d : Dialect) (name file : List ℕ) → Obeys d name file 
 obeys-accepted d name file o = named-whole d name file (o .size) (o .named) ∙ rw (obey-none d 1 0 [] (lines file) (o .each-line), o .groups)
 
 pub offends-refused : (d : Dialect) (name file : List ℕ) {r : Refusal} {l : ℕ} → Offends d name file r l → reading d name file ≡ Refused r l
-offends-refused d name file (too-long h) = long-whole d name file h
+offends-refused d name file (too-long h) = reading-large d name file h
 offends-refused d name file (misnamed h n) = misnamed-whole d name file h n
 offends-refused d name file (in-line h n {f} w) = named-whole d name file h n ∙ rw (ap (lineFault d 1 0 []) (w .is) ∙ faulty-some d 1 0 [] (w .before) (w .line) (w .rest) f (w .obey) (w .faulty) (w .number))
 offends-refused d name file (in-group h n o e) = named-whole d name file h n ∙ rw (obey-none d 1 0 [] (lines file) o, e)

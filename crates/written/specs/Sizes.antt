@@ -2,12 +2,10 @@
 use Prim.Native.Nat.{ℕ, _+_, _*_, _≤_}
 use native.Mathlib.Omega.{arith}
 use mathlib.Core.Path.{_≡_, refl, ap, _∙_, subst}
-use mathlib.Core.Bool.{Bool, true, false, cond}
+use mathlib.Core.Bool.{Bool, true, false}
 use mathlib.Core.List.{List, [], _∷_, _++_}
 use mathlib.Core.Option.{Option, none, some}
 use lib.ListN.{length, replicate, length-append}
-use Rattle.text.specs.Bytes.{isPlain}
-use Rattle.text.specs.Parts.{all}
 use Rattle.text.specs.Words.{word}
 use Rattle.escapes.specs.Escapes.{escape}
 use Rattle.escapes.specs.Laws.{escape-length}
@@ -17,9 +15,7 @@ use Rattle.addresses.specs.Addresses.{dotted, maskBytes, listed}
 use Rattle.addresses.specs.Sizes.{dotted-short, listed-short}
 use Rattle.addresses.specs.declared.Separator.the-variants.{Spaces}
 use Rattle.kinds.specs.Kinds.{IPv4, dhcp, off, static}
-use Rattle.names.specs.Names.{stem, suffixOf}
-use Rattle.names.specs.declared.Suffix.{Suffix}
-use Rattle.names.specs.declared.Suffix.the-variants as S
+use Rattle.names.specs.Laws.{file-name-short}
 use Rattle.records.specs.Record.{Secret, noSecret, passphrase, key, Join, secretOf}
 use Rattle.records.specs.Formed.{GoodSecret, WellFormed}
 use Rattle.records.specs.declared.Credential.{Credential}
@@ -122,18 +118,6 @@ file-size j =
 pub file-short : (j : Join) → WellFormed j → length (fileText j) ≤ 858
 file-short j w = omega (arith, file-size j, settings-short (j .hidden), good-secret-short (j .credential) (w .credential), ipv4-short (j .ipv4) (j .servers) (j .domain) (w .servers .high) (w .domain .high), ipv6-short (j .ipv6))
 
-stem-short : (n : List ℕ) → length n ≤ 32 → length (stem n) ≤ 65
-unfolding stem
-stem-short n h = go (all isPlain n)
-  where
-    go : (b : Bool) → length (cond b n (61 ∷ hex n)) ≤ 65
-    go true = omega (arith, h)
-    go false = omega (arith, h, hex-length n)
-
-suffix-short : (k : Suffix) → length (suffixOf k) ≤ 5
-suffix-short S.Open = omega arith
-suffix-short S.Psk = omega arith
-
 pub name-short : (j : Join) → WellFormed j → length (nameText j) ≤ 70
 unfolding nameText
-name-short j w = omega (arith, length-append (stem (j .name)) (suffixOf (suffixFor (j .credential))), stem-short (j .name) (w .name .high), suffix-short (suffixFor (j .credential)))
+name-short j w = file-name-short (j .name) (suffixFor (j .credential)) (w .name .high)

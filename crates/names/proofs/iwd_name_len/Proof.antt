@@ -1,6 +1,7 @@
 -- The length of a plain stem and of one in hex, each with its suffix.
 use native.Mathlib.Omega.{arith}
-use Rattle.names.proofs.Naming.{suffix-short, length-plain, length-hex}
+use Rattle.names.specs.Laws.{suffix-short}
+use Rattle.names.proofs.Naming.{length-plain, length-hex}
 use borrow.Author.Needs.{needs}
 use Rattle.names.proofs.iwd_name_len.Statement.{statement}
 use Rattle.names.proofs.iwd_name_len.Tie as tie
