@@ -1,5 +1,5 @@
 -- The string lookups: "For a string setting, its value is handed back as the stretch of the lent file where it stands, still escaped; an absent one is the empty stretch, line 0."
-use Prim.Native.Nat.{ℕ, _+_}
+use Prim.Native.Nat.{ℕ, _+_, _≤_}
 use mathlib.Core.Path.{_≡_}
 use mathlib.Core.List.{List, []}
 use mathlib.Core.Option.{Option, none, some}
@@ -12,9 +12,10 @@ use Rattle.rules.specs.Numbers.{answerNumber}
 use Rattle.rules.specs.Faults.{Entry}
 use Rattle.rules.specs.Groups.{entryOf}
 use Rattle.rules.specs.Reading.{sectionsOf, reading}
-use Rattle.rules.specs.Asking.{iwdEntry, serviceAt, lineIn, asked, askedOf}
+use Rattle.rules.specs.Asking.{iwdEntry, serviceAt, lineIn, startIn, asked, askedOf}
 use Rattle.rules.specs.declared.Answer.{Answer}
 use Rattle.rules.specs.declared.Answer.the-variants.{Good, Refused}
+use Rattle.lookups.specs.declared.TextPlace.{TextPlace}
 
 -- what a lookup answers: the refusal, or that it is good and then the setting, if the file gives it
 pub record Lookup : Type 0 where
@@ -60,9 +61,31 @@ abbrev pub valueIn : Option Entry → List ℕ
 valueIn none = []
 valueIn (some e) = e .value
 
+-- where the value stands, from its start to its end; 0 and 0 where it is absent
+abbrev pub placeOf : Lookup → TextPlace
+placeOf k =
+    record {
+      number = answerNumber (k .answer);
+      line = lookupLine (k .answer) (k .setting);
+      start = startIn (k .setting);
+      end = startIn (k .setting) + length (valueIn (k .setting));
+    }
+
+-- a lookup's place: it lies in the file, and its value stands there
+pub record Placed (file : List ℕ) (k : Lookup) (p : TextPlace) : Type 0 where
+  pub is : p ≡ placeOf k
+  pub within : p .end ≤ length file
+  pub value-is : part (p .start) (p .end) file ≡ valueIn (k .setting)
+
 -- the number, the line and the part of the file that a lookup hands back
 pub record Hands (file : List ℕ) (k : Lookup) (number line : ℕ) (r : List ℕ) : Type 0 where
   pub number-is : number ≡ answerNumber (k .answer)
   pub line-is : line ≡ lookupLine (k .answer) (k .setting)
   pub stretch-is : r ≡ stretch file (k .setting)
   pub value-is : r ≡ valueIn (k .setting)
+
+-- the same of a place
+pub record HandsPlace (file : List ℕ) (p : TextPlace) (number line : ℕ) (r : List ℕ) : Type 0 where
+  pub number-is : number ≡ p .number
+  pub line-is : line ≡ p .line
+  pub part-is : r ≡ part (p .start) (p .end) file

@@ -1,5 +1,6 @@
--- Slot 66 keeps Description of `global`.
-use Rattle.lookups.proofs.Keeping.{keeps-some, description-keeps}
+-- What stands at the place is handed back.
+use Rattle.lookups.proofs.Handing.{placed-low, placed-hands}
+use borrow.Author.Needs.{needs}
 use Rattle.lookups.proofs.global_description.Statement.{statement}
 use Rattle.lookups.proofs.global_description.Tie as tie
 
@@ -7,5 +8,6 @@ pub global-description-spec : {M : Type 1} → statement M
 global-description-spec =
     tie.close
     (tie.spec
-    (λ c κs. keeps-some (description-keeps (c .before .before .before .before .args .file .now)))
-    (λ c. c .group-text .ensures .says _ (description-keeps (c .before .before .before .before .before .args .file .now))))
+    (λ c κs. search needs)
+    (λ c κs. let p = c .before .before .global-description .ensures in (placed-low p, p .within))
+    (λ c. placed-hands (c .before .before .before .global-description .ensures) (c .hand .ensures)))

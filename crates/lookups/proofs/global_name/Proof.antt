@@ -1,5 +1,6 @@
--- Slot 65 keeps Name of `global`.
-use Rattle.lookups.proofs.Keeping.{keeps-some, global-name-keeps}
+-- What stands at the place is handed back.
+use Rattle.lookups.proofs.Handing.{placed-low, placed-hands}
+use borrow.Author.Needs.{needs}
 use Rattle.lookups.proofs.global_name.Statement.{statement}
 use Rattle.lookups.proofs.global_name.Tie as tie
 
@@ -7,5 +8,6 @@ pub global-name-spec : {M : Type 1} → statement M
 global-name-spec =
     tie.close
     (tie.spec
-    (λ c κs. keeps-some (global-name-keeps (c .before .before .before .before .args .file .now)))
-    (λ c. c .group-text .ensures .says _ (global-name-keeps (c .before .before .before .before .before .args .file .now))))
+    (λ c κs. search needs)
+    (λ c κs. let p = c .before .before .global-name .ensures in (placed-low p, p .within))
+    (λ c. placed-hands (c .before .before .before .global-name .ensures) (c .hand .ensures)))

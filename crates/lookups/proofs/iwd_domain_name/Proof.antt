@@ -1,5 +1,6 @@
--- Slot 38 keeps DomainName of the group IPv4.
-use Rattle.lookups.proofs.Keeping.{keeps-some, iwd-domain-keeps}
+-- What stands at the place is handed back.
+use Rattle.lookups.proofs.Handing.{placed-low, placed-hands}
+use borrow.Author.Needs.{needs}
 use Rattle.lookups.proofs.iwd_domain_name.Statement.{statement}
 use Rattle.lookups.proofs.iwd_domain_name.Tie as tie
 
@@ -7,5 +8,6 @@ pub iwd-domain-name-spec : {M : Type 1} → statement M
 iwd-domain-name-spec =
     tie.close
     (tie.spec
-    (λ c κs. keeps-some (iwd-domain-keeps (c .before .before .before .before .args .file .now)))
-    (λ c. c .group-text .ensures .says _ (iwd-domain-keeps (c .before .before .before .before .before .args .file .now))))
+    (λ c κs. search needs)
+    (λ c κs. let p = c .before .before .iwd-domain-name .ensures in (placed-low p, p .within))
+    (λ c. placed-hands (c .before .before .before .iwd-domain-name .ensures) (c .hand .ensures)))

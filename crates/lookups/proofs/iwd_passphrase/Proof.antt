@@ -1,5 +1,6 @@
--- Slot 17 keeps Passphrase of the group Security.
-use Rattle.lookups.proofs.Keeping.{keeps-some, iwd-passphrase-keeps}
+-- What stands at the place is handed back.
+use Rattle.lookups.proofs.Handing.{placed-low, placed-hands}
+use borrow.Author.Needs.{needs}
 use Rattle.lookups.proofs.iwd_passphrase.Statement.{statement}
 use Rattle.lookups.proofs.iwd_passphrase.Tie as tie
 
@@ -7,5 +8,6 @@ pub iwd-passphrase-spec : {M : Type 1} → statement M
 iwd-passphrase-spec =
     tie.close
     (tie.spec
-    (λ c κs. keeps-some (iwd-passphrase-keeps (c .before .before .before .before .args .file .now)))
-    (λ c. c .group-text .ensures .says _ (iwd-passphrase-keeps (c .before .before .before .before .before .args .file .now))))
+    (λ c κs. search needs)
+    (λ c κs. let p = c .before .before .iwd-passphrase .ensures in (placed-low p, p .within))
+    (λ c. placed-hands (c .before .before .before .iwd-passphrase .ensures) (c .hand .ensures)))

@@ -1,5 +1,6 @@
--- Slot 108 keeps Passphrase of the service asked for.
-use Rattle.lookups.proofs.Keeping.{keeps-some, passphrase-keeps}
+-- What stands at the place is handed back.
+use Rattle.lookups.proofs.Handing.{placed-low, placed-hands}
+use borrow.Author.Needs.{needs}
 use Rattle.lookups.proofs.service_passphrase.Statement.{statement}
 use Rattle.lookups.proofs.service_passphrase.Tie as tie
 
@@ -7,5 +8,6 @@ pub service-passphrase-spec : {M : Type 1} → statement M
 service-passphrase-spec =
     tie.close
     (tie.spec
-    (λ c κs. keeps-some (passphrase-keeps (c .before .before .before .before .args .file .now) (c .before .before .before .before .args .service)))
-    (λ c. c .service-text .ensures .says _ (passphrase-keeps (c .before .before .before .before .before .args .file .now) (c .before .before .before .before .before .args .service))))
+    (λ c κs. search needs)
+    (λ c κs. let p = c .before .before .service-passphrase .ensures in (placed-low p, p .within))
+    (λ c. placed-hands (c .before .before .before .service-passphrase .ensures) (c .hand .ensures)))

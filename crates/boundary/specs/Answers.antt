@@ -1,0 +1,31 @@
+-- What the reading, the lookups, the writer and the move answer, in the C boundary's structs: document 01's number and line, and what else is given.
+use Prim.Native.Nat.{ℕ, _-_}
+use mathlib.Core.Path.{_≡_}
+use mathlib.Core.List.{List}
+use Rattle.rules.specs.Numbers.{Seen, seenOf, answerNumber, answerLine}
+use Rattle.rules.specs.declared.Reading.{Reading}
+use Rattle.writer.specs.Writing.{Writing, writtenAnswer, nameAfter, fileAfter}
+use Rattle.writer.specs.declared.Written.{Written}
+use Rattle.lookups.specs.declared.TextPlace.{TextPlace}
+use Rattle.boundary.specs.declared.CReading.{CReading}
+use Rattle.boundary.specs.declared.CText.{CText}
+use Rattle.boundary.specs.declared.CWritten.{CWritten}
+
+abbrev pub seenAt : Seen → CReading
+seenAt s = record { line = s .line; settings = s .settings; services = s .services; number = s .number }
+
+abbrev pub readingAt : Reading → CReading
+readingAt r = seenAt (seenOf r)
+
+-- "the stretch of the lent file where it stands", by its start and its length
+abbrev pub textAt : TextPlace → CText
+textAt p = record { line = p .line; start = p .start; length = p .end - p .start; number = p .number }
+
+abbrev pub writtenAt : Written → CWritten
+writtenAt a = record { line = answerLine (a .answer); «name_len» = a .«name_len»; «file_len» = a .«file_len»; number = answerNumber (a .answer) }
+
+-- the answer a, and the buffers x and y, which held n and f, are those of w
+pub record WritesAt (w : Writing) (n f x y : List ℕ) (a : CWritten) : Type 0 where
+  pub answer : a ≡ writtenAt (writtenAnswer w)
+  pub name : x ≡ nameAfter w n
+  pub file : y ≡ fileAfter w f

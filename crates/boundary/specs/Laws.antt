@@ -1,0 +1,119 @@
+-- What is handed out may be brought in again: the same record, with the same name servers. And the lengths of a record that is answered fit a byte.
+use Prim.Native.Nat.{ℕ}
+use native.Mathlib.Omega.{arith}
+use mathlib.Core.Path.{_≡_, refl, ap₂}
+use mathlib.Core.Bool.{Bool, true, false}
+use mathlib.Core.List.{List, [], _∷_}
+use lib.Dec.{leb}
+use lib.ListN.{length}
+use Rattle.text.specs.Laws.{and-true}
+use Rattle.addresses.specs.Addresses.{isAddress, areAddresses}
+use Rattle.addresses.specs.Laws.{address-length}
+use Rattle.kinds.specs.declared.Method.{Method}
+use Rattle.kinds.specs.declared.Method.the-variants as M
+use Rattle.records.specs.Record.{Join, laid}
+use Rattle.records.specs.Formed.{WellFormed, Arrays}
+use Rattle.records.specs.PartLaws.{secret-short}
+use Rattle.records.specs.declared.Credential.{Credential}
+use Rattle.records.specs.declared.Credential.the-variants as C
+use Rattle.records.specs.declared.Ipv6.{Ipv6}
+use Rattle.records.specs.declared.Ipv6.the-variants as Ipv6
+use Rattle.records.specs.declared.JoinRecord.{JoinRecord}
+use Rattle.joins.specs.Joins.{Joined, joined, refused, iwdJoined, serviceJoined, recordAnswer, iwdRecord, serviceRecord}
+use Rattle.joins.specs.Answered.{iwd-formed, service-formed}
+use Rattle.writer.specs.Writing.{writing}
+use Rattle.boundary.specs.Codes.{bitOf, credentialCode, methodCode, ipv6Code, bitIn, credentialIn, methodIn, ipv6In}
+use Rattle.boundary.specs.Records.{fourAt, sixteen, fours, recordAt, Short, known, recordIn, writingIn}
+
+-- ---- codes
+
+bit-back : (b : Bool) → bitIn (bitOf b) ≡ b
+bit-back true = refl
+bit-back false = refl
+
+credential-back : (c : Credential) → credentialIn (credentialCode c) ≡ c
+credential-back C.None = refl
+credential-back C.Passphrase = refl
+credential-back C.Key = refl
+
+method-back : (m : Method) → methodIn (methodCode m) ≡ m
+method-back M.Dhcp = refl
+method-back M.Off = refl
+method-back M.Static = refl
+
+ipv6-back : (i : Ipv6) → ipv6In (ipv6Code i) ≡ i
+ipv6-back Ipv6.Auto = refl
+ipv6-back Ipv6.Off = refl
+
+-- ---- records
+
+pub record-back : (r : JoinRecord) (s : List (List ℕ)) → recordIn (recordAt r s) ≡ r
+record-back r s = rw (credential-back (r .credential), bit-back (r .hidden), method-back (r .ipv4), bit-back (r .«has_gateway»), ipv6-back (r .ipv6))
+
+bit-known : (b : Bool) → leb (bitOf b) 1 ≡ true
+bit-known true = refl
+bit-known false = refl
+
+credential-known : (c : Credential) → leb (credentialCode c) 2 ≡ true
+credential-known C.None = refl
+credential-known C.Passphrase = refl
+credential-known C.Key = refl
+
+method-known : (m : Method) → leb (methodCode m) 2 ≡ true
+method-known M.Dhcp = refl
+method-known M.Off = refl
+method-known M.Static = refl
+
+ipv6-known : (i : Ipv6) → leb (ipv6Code i) 1 ≡ true
+ipv6-known Ipv6.Auto = refl
+ipv6-known Ipv6.Off = refl
+
+pub record-known : (r : JoinRecord) (s : List (List ℕ)) → known (recordAt r s) ≡ true
+record-known r s = rw (credential-known (r .credential), bit-known (r .hidden), method-known (r .ipv4), bit-known (r .«has_gateway»)) (ipv6-known (r .ipv6))
+
+-- ---- name servers
+
+four-back : (a : List ℕ) → length a ≡ 4 → fourAt a 0 ≡ a
+four-back [] e = absurd (omega (arith, e))
+four-back (w ∷ []) e = absurd (omega (arith, e))
+four-back (w ∷ x ∷ []) e = absurd (omega (arith, e))
+four-back (w ∷ x ∷ y ∷ []) e = absurd (omega (arith, e))
+four-back (w ∷ x ∷ y ∷ z ∷ []) e = refl
+four-back (w ∷ x ∷ y ∷ z ∷ v ∷ a) e = absurd (omega (arith, e))
+
+address-back : (a : List ℕ) → isAddress a ≡ true → fourAt a 0 ≡ a
+address-back a e = four-back a (address-length a e)
+
+pub servers-back : (s : List (List ℕ)) → length s ≡ 4 → areAddresses s ≡ true → fours (sixteen s) ≡ s
+servers-back [] l e = absurd (omega (arith, l))
+servers-back (a ∷ []) l e = absurd (omega (arith, l))
+servers-back (a ∷ b ∷ []) l e = absurd (omega (arith, l))
+servers-back (a ∷ b ∷ c ∷ []) l e = absurd (omega (arith, l))
+servers-back (a ∷ b ∷ c ∷ d ∷ []) l e =
+    let p = and-true (isAddress a) (areAddresses (b ∷ c ∷ d ∷ [])) e in
+    let q = and-true (isAddress b) (areAddresses (c ∷ d ∷ [])) (p .1) in
+    let r = and-true (isAddress c) (areAddresses (d ∷ [])) (q .1) in
+    let t = and-true (isAddress d) (areAddresses []) (r .1) in
+    ap₂ (λ (x : List ℕ) (y : List (List ℕ)). x ∷ y) (address-back a (p .0)) (ap₂ (λ (x : List ℕ) (y : List (List ℕ)). x ∷ y) (address-back b (q .0)) (ap₂ (λ (x y : List ℕ). x ∷ y ∷ []) (address-back c (r .0)) (address-back d (t .0))))
+servers-back (a ∷ b ∷ c ∷ d ∷ f ∷ s) l e = absurd (omega (arith, l))
+
+-- what is handed out is written as the record that it was
+pub writing-back : (r : JoinRecord) (s : List (List ℕ)) → Arrays r s → (n f : List ℕ) → writingIn (recordAt r s) n f ≡ writing r s n f
+writing-back r s a n f = rw (record-known r s, record-back r s, servers-back s (a .servers) (a .serverBytes))
+
+-- ---- the lengths of a record that is answered
+
+laid-short : (j : Join) → WellFormed j → Short (laid j)
+laid-short j w = record { name = omega (arith, w .name .high); passphrase = omega (arith, secret-short (j .credential) (w .credential)); servers = omega (arith, w .servers .high); domain = omega (arith, w .domain .high) }
+
+answer-short : (x : Joined) → ((j : Join) → x ≡ joined j → WellFormed j) → Short (recordAnswer x .«record»)
+answer-short (joined j) f = laid-short j (f j refl)
+answer-short (refused r l) f = record { name = omega arith; passphrase = omega arith; servers = omega arith; domain = omega arith }
+
+pub iwd-short : (name file : List ℕ) → Short (iwdRecord name file .«record»)
+unfolding iwdRecord
+iwd-short name file = answer-short (iwdJoined name file) (λ j e. iwd-formed name file e)
+
+pub service-short : (name file : List ℕ) (w : ℕ) → Short (serviceRecord name file w .«record»)
+unfolding serviceRecord
+service-short name file w = answer-short (serviceJoined name file w) (λ j e. service-formed name file w e)

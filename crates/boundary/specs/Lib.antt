@@ -1,0 +1,5 @@
+pub mod Codes
+pub mod Answers
+pub mod Records
+pub mod Settings
+pub mod Laws

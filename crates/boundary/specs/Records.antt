@@ -1,0 +1,99 @@
+-- The join record with its name servers in the C boundary's struct, and the record that a caller brings in one.
+use Prim.Native.Nat.{ℕ, _+_, _<_}
+use mathlib.Core.Path.{_≡_}
+use mathlib.Core.Bool.{Bool, cond, _&&_}
+use mathlib.Core.List.{List, [], _∷_, _++_}
+use lib.Dec.{leb}
+use lib.ListN.{getD, replicate}
+use Rattle.addresses.specs.Addresses.{noAddress}
+use Rattle.rules.specs.Numbers.{answerNumber, answerLine}
+use Rattle.rules.specs.declared.Refusal.the-variants.{Malformed}
+use Rattle.records.specs.declared.JoinRecord.{JoinRecord}
+use Rattle.joins.specs.declared.RecordAnswer.{RecordAnswer}
+use Rattle.writer.specs.Writing.{Writing, refuses, writing}
+use Rattle.boundary.specs.Codes.{bitOf, credentialCode, methodCode, ipv6Code, bitIn, credentialIn, methodIn, ipv6In}
+use Rattle.boundary.specs.declared.CRecord.{CRecord}
+use Rattle.boundary.specs.declared.CRecordAnswer.{CRecordAnswer}
+
+-- four bytes of b from i on
+abbrev pub fourAt : List ℕ → ℕ → List ℕ
+fourAt b i = getD b i 0 ∷ getD b (i + 1) 0 ∷ getD b (i + 2) 0 ∷ getD b (i + 3) 0 ∷ []
+
+-- four name servers as 16 bytes, and 16 bytes as four name servers
+abbrev pub sixteen : List (List ℕ) → List ℕ
+sixteen s = fourAt (getD s 0 []) 0 ++ fourAt (getD s 1 []) 0 ++ fourAt (getD s 2 []) 0 ++ fourAt (getD s 3 []) 0
+
+abbrev pub fours : List ℕ → List (List ℕ)
+fours b = fourAt b 0 ∷ fourAt b 4 ∷ fourAt b 8 ∷ fourAt b 12 ∷ []
+
+-- what the lent name servers hold before they are asked for
+abbrev pub noServers : List (List ℕ)
+noServers = replicate 4 noAddress
+
+-- ---- what is handed out
+
+abbrev pub recordAt : JoinRecord → List (List ℕ) → CRecord
+recordAt r s =
+    record {
+      «name_len» = r .«name_len»;
+      name = r .name;
+      credential = credentialCode (r .credential);
+      «passphrase_len» = r .«passphrase_len»;
+      passphrase = r .passphrase;
+      key = r .key;
+      hidden = bitOf (r .hidden);
+      ipv4 = methodCode (r .ipv4);
+      address = r .address;
+      «prefix_length» = r .length;
+      «has_gateway» = bitOf (r .«has_gateway»);
+      gateway = r .gateway;
+      «server_count» = r .«server_count»;
+      servers = sixteen s;
+      «domain_len» = r .«domain_len»;
+      domain = r .domain;
+      ipv6 = ipv6Code (r .ipv6);
+    }
+
+-- the lengths and the count of a record fit a byte
+pub record Short (r : JoinRecord) : Type 0 where
+  pub name : r .«name_len» < 256
+  pub passphrase : r .«passphrase_len» < 256
+  pub servers : r .«server_count» < 256
+  pub domain : r .«domain_len» < 256
+
+abbrev pub recordAnswerAt : RecordAnswer → List (List ℕ) → CRecordAnswer
+recordAnswerAt a s = record { line = answerLine (a .answer); number = answerNumber (a .answer); «record» = recordAt (a .«record») s }
+
+-- ---- what is brought in
+
+-- every code is that of a case
+abbrev pub known : CRecord → Bool
+known c = leb (c .credential) 2 && (leb (c .hidden) 1 && (leb (c .ipv4) 2 && (leb (c .«has_gateway») 1 && leb (c .ipv6) 1)))
+
+abbrev pub recordIn : CRecord → JoinRecord
+recordIn c =
+    record {
+      «name_len» = c .«name_len»;
+      name = c .name;
+      credential = credentialIn (c .credential);
+      «passphrase_len» = c .«passphrase_len»;
+      passphrase = c .passphrase;
+      key = c .key;
+      hidden = bitIn (c .hidden);
+      ipv4 = methodIn (c .ipv4);
+      address = c .address;
+      length = c .«prefix_length»;
+      «has_gateway» = bitIn (c .«has_gateway»);
+      gateway = c .gateway;
+      «server_count» = c .«server_count»;
+      «domain_len» = c .«domain_len»;
+      domain = c .domain;
+      ipv6 = ipv6In (c .ipv6);
+    }
+
+abbrev pub serversIn : CRecord → List (List ℕ)
+serversIn c = fours (c .servers)
+
+-- what is written of a record that is brought in: 19 where a code is that of no case, and what is written of the record else
+abbrev pub writingIn : CRecord → List ℕ → List ℕ → Writing
+writingIn c n f = cond (known c) (writing (recordIn c) (serversIn c) n f) (refuses Malformed 0)

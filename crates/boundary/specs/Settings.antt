@@ -1,0 +1,119 @@
+-- The typed settings in the C boundary's structs.
+use Prim.Native.Nat.{ℕ, _-_}
+use mathlib.Core.List.{List, [], _∷_}
+use lib.ListN.{getD}
+use Rattle.kinds.specs.declared.Entries.{Entries}
+use Rattle.rules.specs.Numbers.{answerNumber, answerLine}
+use Rattle.settings.specs.declared.GeneralSettings.{GeneralSettings}
+use Rattle.settings.specs.declared.SecuritySettings.{SecuritySettings}
+use Rattle.settings.specs.declared.Ipv4Settings.{Ipv4Settings}
+use Rattle.settings.specs.declared.NetworkSettings.{NetworkSettings}
+use Rattle.settings.specs.declared.AddressSettings.{AddressSettings}
+use Rattle.settings.specs.declared.IwdAnswer.{IwdAnswer}
+use Rattle.settings.specs.declared.ServiceAnswer.{ServiceAnswer}
+use Rattle.boundary.specs.Codes.{bitOf, choiceCode, chosenCode, givenMethodCode}
+use Rattle.boundary.specs.Records.{sixteen}
+use Rattle.boundary.specs.declared.CGeneral.{CGeneral}
+use Rattle.boundary.specs.declared.CSecurity.{CSecurity}
+use Rattle.boundary.specs.declared.CIpv4.{CIpv4}
+use Rattle.boundary.specs.declared.CIwdSettings.{CIwdSettings}
+use Rattle.boundary.specs.declared.CEntries.{CEntries}
+use Rattle.boundary.specs.declared.CNetwork.{CNetwork}
+use Rattle.boundary.specs.declared.CAddresses.{CAddresses}
+use Rattle.boundary.specs.declared.CServiceSettings.{CServiceSettings}
+
+-- ---- an iwd file, by its groups
+
+abbrev pub generalAt : GeneralSettings → CGeneral
+generalAt s =
+    record {
+      «auto_connect» = choiceCode (s .«auto_connect»);
+      hidden = choiceCode (s .hidden);
+      «always_randomize_address» = choiceCode (s .«always_randomize_address»);
+      «has_address_override» = bitOf (s .«address_override» .ok);
+      «address_override» = s .«address_override» .bytes;
+    }
+
+abbrev pub securityAt : SecuritySettings → CSecurity
+securityAt s =
+    record {
+      «passphrase_line» = s .passphrase;
+      «has_pre_shared_key» = bitOf (s .«pre_shared_key» .ok);
+      «pre_shared_key» = s .«pre_shared_key» .bytes;
+    }
+
+abbrev pub ipv4At : Ipv4Settings → List (List ℕ) → CIpv4
+ipv4At s servers =
+    record {
+      «domain_name_line» = s .«domain_name»;
+      «dns_count» = s .dns;
+      dns = sixteen servers;
+      «has_address» = bitOf (s .address .ok);
+      address = s .address .bytes;
+      «has_gateway» = bitOf (s .gateway .ok);
+      gateway = s .gateway .bytes;
+      «has_broadcast» = bitOf (s .broadcast .ok);
+      broadcast = s .broadcast .bytes;
+      «netmask_length» = s .netmask;
+      «send_hostname» = choiceCode (s .«send_hostname»);
+    }
+
+abbrev pub iwdSettingsAt : IwdAnswer → List (List ℕ) → CIwdSettings
+iwdSettingsAt a servers =
+    record {
+      line = answerLine (a .answer);
+      number = answerNumber (a .answer);
+      general = generalAt (a .settings .general);
+      security = securityAt (a .settings .security);
+      ipv4 = ipv4At (a .settings .ipv4) servers;
+      «ipv6_enabled» = choiceCode (a .settings .enabled);
+    }
+
+-- ---- a ConnMan service
+
+-- the length of entry i, from its start to its end
+abbrev pub entryLength : Entries → ℕ → ℕ
+entryLength e i = getD (e .ends) i 0 - getD (e .starts) i 0
+
+abbrev pub entriesAt : Entries → CEntries
+entriesAt e = record { count = e .count; start = e .starts; length = entryLength e 0 ∷ entryLength e 1 ∷ entryLength e 2 ∷ entryLength e 3 ∷ [] }
+
+abbrev pub networkAt : NetworkSettings → CNetwork
+networkAt s =
+    record {
+      «name_line» = s .name;
+      «passphrase_line» = s .passphrase;
+      «ssid_len» = s .ssid .length;
+      ssid = s .ssid .bytes;
+      «service_type» = chosenCode (s .«service_type»);
+      security = chosenCode (s .security);
+      hidden = choiceCode (s .hidden);
+    }
+
+abbrev pub addressesAt : AddressSettings → List (List ℕ) → CAddresses
+addressesAt s servers =
+    record {
+      «domain_line» = s .domain;
+      «search_domains» = entriesAt (s .«search_domains»);
+      timeservers = entriesAt (s .timeservers);
+      «nameserver_count» = s .nameservers;
+      nameservers = sixteen servers;
+      ipv4 = givenMethodCode (s .ipv4 .ok) (s .ipv4 .method);
+      address = s .ipv4 .address;
+      «prefix_length» = s .ipv4 .length;
+      «has_gateway» = bitOf (s .ipv4 .«has_gateway»);
+      gateway = s .ipv4 .gateway;
+      ipv6 = chosenCode (s .ipv6);
+      privacy = chosenCode (s .privacy);
+      «has_mac» = bitOf (s .mac .ok);
+      mac = s .mac .bytes;
+    }
+
+abbrev pub serviceSettingsAt : ServiceAnswer → List (List ℕ) → CServiceSettings
+serviceSettingsAt a servers =
+    record {
+      line = answerLine (a .answer);
+      number = answerNumber (a .answer);
+      network = networkAt (a .settings .network);
+      addresses = addressesAt (a .settings .addresses) servers;
+    }

@@ -1,0 +1,159 @@
+// The C boundary's structs, and the library's answers and records in them.
+//
+// An enum is a code, name servers are 16 bytes, and a part of the file is a start and a length; `include/qewaris.h` has the
+// same structs. `codes` gives the codes, `answers` lays out what the reading, the lookups, the writer and the move answer,
+// `record_layout` and `settings_layout` records and settings. The definitions are in specs/Codes, specs/Answers, specs/Records and specs/Settings.
+pub mod answers;
+pub mod codes;
+pub mod record_layout;
+pub mod settings_layout;
+
+// What a reading answers.
+#[repr(C)]
+pub struct CReading {
+    pub line: usize,
+    pub settings: usize,
+    pub services: usize,
+    pub number: u8,
+}
+
+// What a string lookup answers: where the value stands.
+#[repr(C)]
+pub struct CText {
+    pub line: usize,
+    pub start: usize,
+    pub length: usize,
+    pub number: u8,
+}
+
+// What the writer and the move answer: how many bytes are new in each buffer.
+#[repr(C)]
+pub struct CWritten {
+    pub line: usize,
+    pub name_len: usize,
+    pub file_len: usize,
+    pub number: u8,
+}
+
+// A join record with its name servers: bytes only, so that it has no padding.
+#[repr(C)]
+pub struct CRecord {
+    pub name_len: u8,
+    pub name: [u8; 32],
+    pub credential: u8,
+    pub passphrase_len: u8,
+    pub passphrase: [u8; 63],
+    pub key: [u8; 32],
+    pub hidden: u8,
+    pub ipv4: u8,
+    pub address: [u8; 4],
+    pub prefix_length: u8,
+    pub has_gateway: u8,
+    pub gateway: [u8; 4],
+    pub server_count: u8,
+    pub servers: [u8; 16],
+    pub domain_len: u8,
+    pub domain: [u8; 253],
+    pub ipv6: u8,
+}
+
+// The answer to a question for a join record.
+#[repr(C)]
+pub struct CRecordAnswer {
+    pub line: usize,
+    pub number: u8,
+    pub record: CRecord,
+}
+
+// iwd's group Settings.
+#[repr(C)]
+pub struct CGeneral {
+    pub auto_connect: u8,
+    pub hidden: u8,
+    pub always_randomize_address: u8,
+    pub has_address_override: u8,
+    pub address_override: [u8; 6],
+}
+
+// iwd's group Security.
+#[repr(C)]
+pub struct CSecurity {
+    pub passphrase_line: usize,
+    pub has_pre_shared_key: u8,
+    pub pre_shared_key: [u8; 32],
+}
+
+// iwd's group IPv4.
+#[repr(C)]
+pub struct CIpv4 {
+    pub domain_name_line: usize,
+    pub dns_count: usize,
+    pub dns: [u8; 16],
+    pub has_address: u8,
+    pub address: [u8; 4],
+    pub has_gateway: u8,
+    pub gateway: [u8; 4],
+    pub has_broadcast: u8,
+    pub broadcast: [u8; 4],
+    pub netmask_length: u8,
+    pub send_hostname: u8,
+}
+
+// The answer to a question for the settings of an iwd file, and these.
+#[repr(C)]
+pub struct CIwdSettings {
+    pub line: usize,
+    pub number: u8,
+    pub general: CGeneral,
+    pub security: CSecurity,
+    pub ipv4: CIpv4,
+    pub ipv6_enabled: u8,
+}
+
+// A list of entries, each by its place in the file.
+#[repr(C)]
+pub struct CEntries {
+    pub count: usize,
+    pub start: [usize; 4],
+    pub length: [usize; 4],
+}
+
+// Which network a ConnMan service joins, and how.
+#[repr(C)]
+pub struct CNetwork {
+    pub name_line: usize,
+    pub passphrase_line: usize,
+    pub ssid_len: usize,
+    pub ssid: [u8; 32],
+    pub service_type: u8,
+    pub security: u8,
+    pub hidden: u8,
+}
+
+// The addresses of a ConnMan service.
+#[repr(C)]
+pub struct CAddresses {
+    pub domain_line: usize,
+    pub search_domains: CEntries,
+    pub timeservers: CEntries,
+    pub nameserver_count: usize,
+    pub nameservers: [u8; 16],
+    pub ipv4: u8,
+    pub address: [u8; 4],
+    pub prefix_length: u8,
+    pub has_gateway: u8,
+    pub gateway: [u8; 4],
+    pub ipv6: u8,
+    pub privacy: u8,
+    pub has_mac: u8,
+    pub mac: [u8; 6],
+}
+
+// The answer to a question for the settings of a ConnMan service, and these.
+#[repr(C)]
+pub struct CServiceSettings {
+    pub line: usize,
+    pub number: u8,
+    pub network: CNetwork,
+    pub addresses: CAddresses,
+}

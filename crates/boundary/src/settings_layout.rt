@@ -1,0 +1,183 @@
+// Typed settings, handed out: those of an iwd file by its groups, and those of a ConnMan service.
+ghost use mathlib.Core.Path.{_≡_};
+ghost use Rattle.boundary.specs.Settings.{generalAt, securityAt, ipv4At, iwdSettingsAt, entriesAt, networkAt, addressesAt, serviceSettingsAt};
+use crate::CAddresses;
+use crate::CEntries;
+use crate::CGeneral;
+use crate::CIpv4;
+use crate::CIwdSettings;
+use crate::CNetwork;
+use crate::CSecurity;
+use crate::CServiceSettings;
+use crate::answers;
+use crate::codes;
+use crate::record_layout::sixteen;
+use kinds::Entries;
+use settings::AddressSettings;
+use settings::GeneralSettings;
+use settings::Ipv4Settings;
+use settings::IwdAnswer;
+use settings::NetworkSettings;
+use settings::SecuritySettings;
+use settings::ServiceAnswer;
+
+fn general_at(s: GeneralSettings) -> CGeneral
+    ensures { λ c. ⌜ c ≡ generalAt s ⌝ }
+{
+    let auto_connect = s.auto_connect;
+    let hidden = s.hidden;
+    let randomize = s.always_randomize_address;
+    let mac = s.address_override;
+    let bytes = mac.bytes;
+    CGeneral {
+        auto_connect: codes::choice_code(auto_connect),
+        hidden: codes::choice_code(hidden),
+        always_randomize_address: codes::choice_code(randomize),
+        has_address_override: codes::bit_of(mac.ok),
+        address_override: bytes,
+    }
+}
+
+fn security_at(s: SecuritySettings) -> CSecurity
+    ensures { λ c. ⌜ c ≡ securityAt s ⌝ }
+{
+    let key = s.pre_shared_key;
+    let bytes = key.bytes;
+    CSecurity {
+        passphrase_line: s.passphrase,
+        has_pre_shared_key: codes::bit_of(key.ok),
+        pre_shared_key: bytes,
+    }
+}
+
+fn ipv4_at(s: Ipv4Settings, servers: [[u8; 4]; 4]) -> CIpv4
+    ensures { λ c. ⌜ c ≡ ipv4At s servers ⌝ }
+{
+    let dns = sixteen(servers);
+    let address = s.address;
+    let address_bytes = address.bytes;
+    let gateway = s.gateway;
+    let gateway_bytes = gateway.bytes;
+    let broadcast = s.broadcast;
+    let broadcast_bytes = broadcast.bytes;
+    let send_hostname = s.send_hostname;
+    CIpv4 {
+        domain_name_line: s.domain_name,
+        dns_count: s.dns,
+        dns,
+        has_address: codes::bit_of(address.ok),
+        address: address_bytes,
+        has_gateway: codes::bit_of(gateway.ok),
+        gateway: gateway_bytes,
+        has_broadcast: codes::bit_of(broadcast.ok),
+        broadcast: broadcast_bytes,
+        netmask_length: s.netmask,
+        send_hostname: codes::choice_code(send_hostname),
+    }
+}
+
+// The settings of an iwd file, or a refusal with zeros, and its name servers.
+pub fn iwd_settings_at(a: IwdAnswer, servers: [[u8; 4]; 4]) -> CIwdSettings
+    ensures { λ c. ⌜ c ≡ iwdSettingsAt a servers ⌝ }
+{
+    let answer = a.answer;
+    let s = a.settings;
+    let general = s.general;
+    let security = s.security;
+    let ipv4 = s.ipv4;
+    let enabled = s.enabled;
+    CIwdSettings {
+        line: answers::answer_line(answer),
+        number: answers::answer_number(answer),
+        general: general_at(general),
+        security: security_at(security),
+        ipv4: ipv4_at(ipv4, servers),
+        ipv6_enabled: codes::choice_code(enabled),
+    }
+}
+
+// A list of entries, each by its start and its length.
+fn entries_at(e: Entries) -> CEntries
+    ensures { λ c. ⌜ c ≡ entriesAt e ⌝ }
+{
+    let starts = e.starts;
+    let ends = e.ends;
+    let length = [
+        answers::distance(starts[0], ends[0]),
+        answers::distance(starts[1], ends[1]),
+        answers::distance(starts[2], ends[2]),
+        answers::distance(starts[3], ends[3]),
+    ];
+    CEntries {
+        count: e.count,
+        start: starts,
+        length,
+    }
+}
+
+fn network_at(s: NetworkSettings) -> CNetwork
+    ensures { λ c. ⌜ c ≡ networkAt s ⌝ }
+{
+    let ssid = s.ssid;
+    let ssid_bytes = ssid.bytes;
+    let service_type = s.service_type;
+    let security = s.security;
+    let hidden = s.hidden;
+    CNetwork {
+        name_line: s.name,
+        passphrase_line: s.passphrase,
+        ssid_len: ssid.length,
+        ssid: ssid_bytes,
+        service_type: codes::chosen_code(service_type),
+        security: codes::chosen_code(security),
+        hidden: codes::choice_code(hidden),
+    }
+}
+
+fn addresses_at(s: AddressSettings, servers: [[u8; 4]; 4]) -> CAddresses
+    ensures { λ c. ⌜ c ≡ addressesAt s servers ⌝ }
+{
+    let search_domains = s.search_domains;
+    let timeservers = s.timeservers;
+    let nameservers = sixteen(servers);
+    let ipv4 = s.ipv4;
+    let method = ipv4.method;
+    let address = ipv4.address;
+    let gateway = ipv4.gateway;
+    let ipv6 = s.ipv6;
+    let privacy = s.privacy;
+    let mac = s.mac;
+    let mac_bytes = mac.bytes;
+    CAddresses {
+        domain_line: s.domain,
+        search_domains: entries_at(search_domains),
+        timeservers: entries_at(timeservers),
+        nameserver_count: s.nameservers,
+        nameservers,
+        ipv4: codes::given_method_code(ipv4.ok, method),
+        address,
+        prefix_length: ipv4.length,
+        has_gateway: codes::bit_of(ipv4.has_gateway),
+        gateway,
+        ipv6: codes::chosen_code(ipv6),
+        privacy: codes::chosen_code(privacy),
+        has_mac: codes::bit_of(mac.ok),
+        mac: mac_bytes,
+    }
+}
+
+// The settings of a ConnMan service, or a refusal with zeros, and its name servers.
+pub fn service_settings_at(a: ServiceAnswer, servers: [[u8; 4]; 4]) -> CServiceSettings
+    ensures { λ c. ⌜ c ≡ serviceSettingsAt a servers ⌝ }
+{
+    let answer = a.answer;
+    let s = a.settings;
+    let network = s.network;
+    let addresses = s.addresses;
+    CServiceSettings {
+        line: answers::answer_line(answer),
+        number: answers::answer_number(answer),
+        network: network_at(network),
+        addresses: addresses_at(addresses, servers),
+    }
+}

@@ -1,0 +1,12 @@
+-- The place, laid out.
+use borrow.Author.Needs.{needs}
+use Rattle.qewaris.proofs.exports.qewaris_iwd_passphrase.Statement.{statement}
+use Rattle.qewaris.proofs.exports.qewaris_iwd_passphrase.Tie as tie
+
+pub qewaris-iwd-passphrase-spec : {M : Type 1} → statement M
+qewaris-iwd-passphrase-spec =
+    tie.close
+    (tie.spec
+    (λ c κs. search needs)
+    (λ c κs. search needs)
+    (λ c. rw (c .text-at .ensures, c .before .iwd-passphrase .ensures .is)))

@@ -1,0 +1,160 @@
+// The C boundary: the entry points as functions that C and Rust call, with the structs of crate `boundary`.
+//
+// They only translate: each calls the entry point of its name and lays out what it answers. `include/qewaris.h` declares them
+// for C. None has a `requires`; a record that is brought in with a code that there is not is refused with 19.
+ghost use mathlib.Core.Path.{_≡_};
+ghost use Rattle.text.specs.Words.{word};
+ghost use Rattle.rules.specs.Reading.{reading};
+ghost use Rattle.settings.specs.Asked.{iwdAnswered, iwdServersAfter, serviceAnswered, serviceServersAfter};
+ghost use Rattle.lookups.specs.Lookups.{iwdLookup, globalLookup, serviceLookup, placeOf};
+ghost use Rattle.joins.specs.Joins.{iwdRecord, iwdRecordServers, serviceRecord, serviceRecordServers};
+ghost use Rattle.mover.specs.Moves.{moving};
+ghost use Rattle.boundary.specs.Answers.{readingAt, textAt, WritesAt};
+ghost use Rattle.boundary.specs.Records.{recordAnswerAt, writingIn, noServers};
+ghost use Rattle.boundary.specs.Settings.{iwdSettingsAt, serviceSettingsAt};
+use boundary::CIwdSettings;
+use boundary::CReading;
+use boundary::CRecord;
+use boundary::CRecordAnswer;
+use boundary::CServiceSettings;
+use boundary::CText;
+use boundary::CWritten;
+use boundary::answers;
+use boundary::record_layout;
+use boundary::settings_layout;
+use lookups::places;
+use rules::Refusal;
+use text::Dialect;
+
+#[no_mangle]
+pub extern "C" fn qewaris_check_iwd(name: &[u8], file: &[u8]) -> CReading
+    ensures { λ r. ⌜ r ≡ readingAt (reading Dialect.Iwd (now (name .entry)) (now (file .entry))) ⌝ }
+{
+    answers::reading_at(crate::check(Dialect::Iwd, name, file))
+}
+
+#[no_mangle]
+pub extern "C" fn qewaris_check_connman(name: &[u8], file: &[u8]) -> CReading
+    ensures { λ r. ⌜ r ≡ readingAt (reading Dialect.ConnMan (now (name .entry)) (now (file .entry))) ⌝ }
+{
+    answers::reading_at(crate::check(Dialect::ConnMan, name, file))
+}
+
+#[no_mangle]
+pub extern "C" fn qewaris_iwd_settings_of(name: &[u8], file: &[u8]) -> CIwdSettings
+    ensures { λ r. ⌜ r ≡ iwdSettingsAt (iwdAnswered (now (name .entry)) (now (file .entry))) (iwdServersAfter (now (name .entry)) (now (file .entry)) noServers) ⌝ }
+{
+    let mut servers = [[0; 4]; 4];
+    let answer = crate::typed::iwd_settings(name, file, &mut servers);
+    settings_layout::iwd_settings_at(answer, servers)
+}
+
+#[no_mangle]
+pub extern "C" fn qewaris_service_settings_of(
+    name: &[u8],
+    file: &[u8],
+    service: usize,
+) -> CServiceSettings
+    ensures { λ r. ⌜ r ≡ serviceSettingsAt (serviceAnswered (now (name .entry)) (now (file .entry)) service) (serviceServersAfter (now (name .entry)) (now (file .entry)) service noServers) ⌝ }
+{
+    let mut servers = [[0; 4]; 4];
+    let answer = crate::typed::service_settings(name, file, service, &mut servers);
+    settings_layout::service_settings_at(answer, servers)
+}
+
+#[no_mangle]
+pub extern "C" fn qewaris_iwd_passphrase(name: &[u8], file: &[u8]) -> CText
+    ensures { λ r. ⌜ r ≡ textAt (placeOf (iwdLookup (word "Security") (word "Passphrase") (now (name .entry)) (now (file .entry)))) ⌝ }
+{
+    answers::text_at(places::iwd_passphrase(name, file))
+}
+
+#[no_mangle]
+pub extern "C" fn qewaris_iwd_domain_name(name: &[u8], file: &[u8]) -> CText
+    ensures { λ r. ⌜ r ≡ textAt (placeOf (iwdLookup (word "IPv4") (word "DomainName") (now (name .entry)) (now (file .entry)))) ⌝ }
+{
+    answers::text_at(places::iwd_domain_name(name, file))
+}
+
+#[no_mangle]
+pub extern "C" fn qewaris_global_name(name: &[u8], file: &[u8]) -> CText
+    ensures { λ r. ⌜ r ≡ textAt (placeOf (globalLookup (word "Name") (now (name .entry)) (now (file .entry)))) ⌝ }
+{
+    answers::text_at(places::global_name(name, file))
+}
+
+#[no_mangle]
+pub extern "C" fn qewaris_global_description(name: &[u8], file: &[u8]) -> CText
+    ensures { λ r. ⌜ r ≡ textAt (placeOf (globalLookup (word "Description") (now (name .entry)) (now (file .entry)))) ⌝ }
+{
+    answers::text_at(places::global_description(name, file))
+}
+
+#[no_mangle]
+pub extern "C" fn qewaris_service_name(name: &[u8], file: &[u8], service: usize) -> CText
+    ensures { λ r. ⌜ r ≡ textAt (placeOf (serviceLookup service (word "Name") (now (name .entry)) (now (file .entry)))) ⌝ }
+{
+    answers::text_at(places::service_name(name, file, service))
+}
+
+#[no_mangle]
+pub extern "C" fn qewaris_service_passphrase(name: &[u8], file: &[u8], service: usize) -> CText
+    ensures { λ r. ⌜ r ≡ textAt (placeOf (serviceLookup service (word "Passphrase") (now (name .entry)) (now (file .entry)))) ⌝ }
+{
+    answers::text_at(places::service_passphrase(name, file, service))
+}
+
+#[no_mangle]
+pub extern "C" fn qewaris_service_domain(name: &[u8], file: &[u8], service: usize) -> CText
+    ensures { λ r. ⌜ r ≡ textAt (placeOf (serviceLookup service (word "Domain") (now (name .entry)) (now (file .entry)))) ⌝ }
+{
+    answers::text_at(places::service_domain(name, file, service))
+}
+
+#[no_mangle]
+pub extern "C" fn qewaris_iwd_record(name: &[u8], file: &[u8]) -> CRecordAnswer
+    ensures { λ r. ⌜ r ≡ recordAnswerAt (iwdRecord (now (name .entry)) (now (file .entry))) (iwdRecordServers (now (name .entry)) (now (file .entry)) noServers) ⌝ }
+{
+    let mut servers = [[0; 4]; 4];
+    let answer = crate::joined::iwd_record(name, file, &mut servers);
+    record_layout::record_answer_at(answer, servers)
+}
+
+#[no_mangle]
+pub extern "C" fn qewaris_service_record(name: &[u8], file: &[u8], service: usize) -> CRecordAnswer
+    ensures { λ r. ⌜ r ≡ recordAnswerAt (serviceRecord (now (name .entry)) (now (file .entry)) service) (serviceRecordServers (now (name .entry)) (now (file .entry)) service noServers) ⌝ }
+{
+    let mut servers = [[0; 4]; 4];
+    let answer = crate::joined::service_record(name, file, service, &mut servers);
+    record_layout::record_answer_at(answer, servers)
+}
+
+#[no_mangle]
+pub extern "C" fn qewaris_write_iwd(
+    brought: CRecord,
+    name_out: &mut [u8],
+    file_out: &mut [u8],
+) -> CWritten
+    ensures { λ a. ⌜ WritesAt (writingIn brought (now («name_out» .entry)) (now («file_out» .entry))) (now («name_out» .entry)) (now («file_out» .entry)) (now («name_out» .exit)) (now («file_out» .exit)) a ⌝ }
+{
+    if !record_layout::is_known(brought) {
+        return answers::written_at(writer::refused(Refusal::Malformed, 0));
+    }
+    let bytes = brought.servers;
+    let servers = record_layout::fours(bytes);
+    let record = record_layout::record_in(brought);
+    answers::written_at(crate::files::write_iwd(record, servers, name_out, file_out))
+}
+
+#[no_mangle]
+pub extern "C" fn qewaris_move_service(
+    name: &[u8],
+    file: &[u8],
+    service: usize,
+    name_out: &mut [u8],
+    file_out: &mut [u8],
+) -> CWritten
+    ensures { λ a. ⌜ WritesAt (moving (now (name .entry)) (now (file .entry)) service (now («name_out» .entry)) (now («file_out» .entry))) (now («name_out» .entry)) (now («file_out» .entry)) (now («name_out» .exit)) (now («file_out» .exit)) a ⌝ }
+{
+    answers::written_at(crate::files::move_service(name, file, service, name_out, file_out))
+}
