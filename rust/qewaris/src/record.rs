@@ -1,0 +1,180 @@
+//! The join record: what a till needs to join a network.
+
+use crate::raw;
+use crate::refusal::{answered, Refusal};
+use crate::Hidden;
+use std::fmt;
+use std::net::Ipv4Addr;
+
+/// A join record. Any value of this type may be handed to the writer, which refuses one that is malformed.
+#[derive(Clone, Debug, PartialEq, Eq)]
+pub struct JoinRecord {
+    /// The network name (SSID), 1 to 32 bytes.
+    pub name: Vec<u8>,
+    pub credential: Credential,
+    pub hidden: bool,
+    pub ipv4: Ipv4,
+    /// The name servers, at most 4, in order.
+    pub name_servers: Vec<Ipv4Addr>,
+    /// The domain, at most 253 bytes of UTF-8 without byte 0; empty where it is absent.
+    pub domain: Vec<u8>,
+    pub ipv6: Ipv6,
+}
+
+/// What the network asks for. `Debug` does not show a passphrase or a key.
+#[derive(Clone, PartialEq, Eq)]
+pub enum Credential {
+    None,
+    /// 8 to 63 bytes of UTF-8 without byte 0.
+    Passphrase(Vec<u8>),
+    Key([u8; 32]),
+}
+
+#[derive(Clone, Copy, Debug, PartialEq, Eq)]
+pub enum Ipv4 {
+    Dhcp,
+    Off,
+    Static(StaticIpv4),
+}
+
+#[derive(Clone, Copy, Debug, PartialEq, Eq)]
+pub struct StaticIpv4 {
+    pub address: Ipv4Addr,
+    /// 1 to 32.
+    pub prefix_length: u8,
+    pub gateway: Option<Ipv4Addr>,
+}
+
+#[derive(Clone, Copy, Debug, PartialEq, Eq)]
+pub enum Ipv6 {
+    Auto,
+    Off,
+}
+
+impl fmt::Debug for Credential {
+    fn fmt(&self, f: &mut fmt::Formatter<'_>) -> fmt::Result {
+        match self {
+            Credential::None => f.write_str("None"),
+            Credential::Passphrase(bytes) => f.debug_tuple("Passphrase").field(&Hidden(bytes.len())).finish(),
+            Credential::Key(bytes) => f.debug_tuple("Key").field(&Hidden(bytes.len())).finish(),
+        }
+    }
+}
+
+/// The join record of an iwd file.
+///
+/// ```
+/// let record = qewaris::iwd_record(b"Desk 4.open", b"")?;
+/// assert_eq!(record, qewaris::JoinRecord::open(b"Desk 4"));
+/// # Ok::<(), qewaris::Refusal>(())
+/// ```
+pub fn iwd_record(name: &[u8], file: &[u8]) -> Result<JoinRecord, Refusal> {
+    // SAFETY: the pointers and lengths are those of slices, which nothing changes during the call.
+    joined(unsafe { raw::qewaris_iwd_record(name.as_ptr(), name.len(), file.as_ptr(), file.len()) })
+}
+
+/// The join record of a ConnMan service, by its number from 1. Refused with 16 for an ethernet, wep or ieee8021x service.
+pub fn service_record(name: &[u8], file: &[u8], service: usize) -> Result<JoinRecord, Refusal> {
+    // SAFETY: as above.
+    joined(unsafe { raw::qewaris_service_record(name.as_ptr(), name.len(), file.as_ptr(), file.len(), service) })
+}
+
+fn joined(answer: raw::RecordAnswer) -> Result<JoinRecord, Refusal> {
+    answered(answer.number, answer.line, || JoinRecord::from_raw(&answer.record))
+}
+
+impl JoinRecord {
+    /// An open network with this name, with every other part at its default.
+    pub fn open(name: &[u8]) -> JoinRecord {
+        JoinRecord {
+            name: name.to_vec(),
+            credential: Credential::None,
+            hidden: false,
+            ipv4: Ipv4::Dhcp,
+            name_servers: Vec::new(),
+            domain: Vec::new(),
+            ipv6: Ipv6::Auto,
+        }
+    }
+
+    /// Whether joining asks for a passphrase or a key.
+    pub fn needs_key(&self) -> bool {
+        self.credential != Credential::None
+    }
+
+    /// The record in the archive's struct; none where a part is too long for it.
+    pub(crate) fn to_raw(&self) -> Option<raw::Record> {
+        let mut record = raw::Record {
+            hidden: self.hidden.into(),
+            ..raw::Record::ZERO
+        };
+        record.name_len = laid(&self.name, &mut record.name)?;
+        match &self.credential {
+            Credential::None => {}
+            Credential::Passphrase(bytes) => {
+                record.credential = 1;
+                record.passphrase_len = laid(bytes, &mut record.passphrase)?;
+            }
+            Credential::Key(bytes) => {
+                record.credential = 2;
+                record.key = *bytes;
+            }
+        }
+        match &self.ipv4 {
+            Ipv4::Dhcp => {}
+            Ipv4::Off => record.ipv4 = 1,
+            Ipv4::Static(fixed) => {
+                record.ipv4 = 2;
+                record.address = fixed.address.octets();
+                record.prefix_length = fixed.prefix_length;
+                record.has_gateway = fixed.gateway.is_some().into();
+                record.gateway = fixed.gateway.map_or([0; 4], |gateway| gateway.octets());
+            }
+        }
+        let servers: Vec<u8> = self.name_servers.iter().flat_map(Ipv4Addr::octets).collect();
+        record.server_count = laid(&servers, &mut record.servers)? / 4;
+        record.domain_len = laid(&self.domain, &mut record.domain)?;
+        record.ipv6 = (self.ipv6 == Ipv6::Off).into();
+        Some(record)
+    }
+
+    /// The record that the archive handed out.
+    fn from_raw(record: &raw::Record) -> JoinRecord {
+        JoinRecord {
+            name: record.name[..record.name_len.into()].to_vec(),
+            credential: match record.credential {
+                0 => Credential::None,
+                1 => Credential::Passphrase(record.passphrase[..record.passphrase_len.into()].to_vec()),
+                _ => Credential::Key(record.key),
+            },
+            hidden: record.hidden == 1,
+            ipv4: match record.ipv4 {
+                0 => Ipv4::Dhcp,
+                1 => Ipv4::Off,
+                _ => Ipv4::Static(StaticIpv4 {
+                    address: record.address.into(),
+                    prefix_length: record.prefix_length,
+                    gateway: (record.has_gateway == 1).then_some(record.gateway.into()),
+                }),
+            },
+            name_servers: addresses(&record.servers, record.server_count.into()),
+            domain: record.domain[..record.domain_len.into()].to_vec(),
+            ipv6: if record.ipv6 == 0 { Ipv6::Auto } else { Ipv6::Off },
+        }
+    }
+}
+
+/// Lays bytes down at the front of a place and gives their length; none where they do not fit.
+fn laid(bytes: &[u8], place: &mut [u8]) -> Option<u8> {
+    place.get_mut(..bytes.len())?.copy_from_slice(bytes);
+    u8::try_from(bytes.len()).ok()
+}
+
+/// The first `count` addresses of 16 bytes.
+pub(crate) fn addresses(bytes: &[u8; 16], count: usize) -> Vec<Ipv4Addr> {
+    bytes
+        .chunks_exact(4)
+        .take(count)
+        .map(|a| Ipv4Addr::new(a[0], a[1], a[2], a[3]))
+        .collect()
+}

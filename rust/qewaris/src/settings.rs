@@ -1,0 +1,220 @@
+//! Typed settings: every key of an iwd file or of a ConnMan service, with its value or none.
+
+use crate::raw;
+use crate::record::{addresses, Ipv4, StaticIpv4};
+use crate::refusal::{answered, Refusal};
+use crate::Hidden;
+use std::fmt;
+use std::net::Ipv4Addr;
+use std::ops::Range;
+
+/// The settings of an iwd file, by its groups. A string gives its line; its bytes are looked up.
+#[derive(Clone, Debug, PartialEq, Eq)]
+pub struct IwdSettings {
+    pub general: IwdGeneral,
+    pub security: IwdSecurity,
+    pub ipv4: IwdIpv4,
+    pub ipv6_enabled: Option<bool>,
+}
+
+/// iwd's group Settings.
+#[derive(Clone, Debug, PartialEq, Eq)]
+pub struct IwdGeneral {
+    pub auto_connect: Option<bool>,
+    pub hidden: Option<bool>,
+    pub always_randomize_address: Option<bool>,
+    pub address_override: Option<[u8; 6]>,
+}
+
+/// iwd's group Security. `Debug` does not show the key.
+#[derive(Clone, PartialEq, Eq)]
+pub struct IwdSecurity {
+    pub passphrase_line: Option<usize>,
+    pub pre_shared_key: Option<[u8; 32]>,
+}
+
+impl fmt::Debug for IwdSecurity {
+    fn fmt(&self, f: &mut fmt::Formatter<'_>) -> fmt::Result {
+        let key = self.pre_shared_key.map(|key| Hidden(key.len()));
+        f.debug_struct("IwdSecurity")
+            .field("passphrase_line", &self.passphrase_line)
+            .field("pre_shared_key", &key)
+            .finish()
+    }
+}
+
+/// iwd's group IPv4.
+#[derive(Clone, Debug, PartialEq, Eq)]
+pub struct IwdIpv4 {
+    pub address: Option<Ipv4Addr>,
+    pub gateway: Option<Ipv4Addr>,
+    pub broadcast: Option<Ipv4Addr>,
+    /// The length of Netmask, 1 to 32.
+    pub netmask_length: Option<u8>,
+    /// 1 to 4 addresses; empty where it is absent.
+    pub dns: Vec<Ipv4Addr>,
+    pub domain_name_line: Option<usize>,
+    pub send_hostname: Option<bool>,
+}
+
+/// The settings of a ConnMan service.
+#[derive(Clone, Debug, PartialEq, Eq)]
+pub struct ServiceSettings {
+    pub network: ServiceNetwork,
+    pub addresses: ServiceAddresses,
+}
+
+/// Which network a ConnMan service joins, and how.
+#[derive(Clone, Debug, PartialEq, Eq)]
+pub struct ServiceNetwork {
+    pub service_type: Option<ServiceType>,
+    pub name_line: Option<usize>,
+    /// 1 to 32 bytes.
+    pub ssid: Option<Vec<u8>>,
+    pub passphrase_line: Option<usize>,
+    pub security: Option<Security>,
+    pub hidden: Option<bool>,
+}
+
+/// The addresses of a ConnMan service.
+#[derive(Clone, Debug, PartialEq, Eq)]
+pub struct ServiceAddresses {
+    pub ipv4: Option<Ipv4>,
+    pub ipv6: Option<Ipv6Method>,
+    pub privacy: Option<Privacy>,
+    pub mac: Option<[u8; 6]>,
+    /// 1 to 4 addresses; empty where it is absent.
+    pub nameservers: Vec<Ipv4Addr>,
+    /// Where each of 1 to 4 entries stands in the file; empty where it is absent.
+    pub search_domains: Vec<Range<usize>>,
+    /// As of the search domains.
+    pub timeservers: Vec<Range<usize>>,
+    pub domain_line: Option<usize>,
+}
+
+#[derive(Clone, Copy, Debug, PartialEq, Eq)]
+pub enum ServiceType {
+    Wifi,
+    Ethernet,
+}
+
+#[derive(Clone, Copy, Debug, PartialEq, Eq)]
+pub enum Security {
+    Psk,
+    Ieee8021x,
+    None,
+    Wep,
+}
+
+#[derive(Clone, Copy, Debug, PartialEq, Eq)]
+pub enum Ipv6Method {
+    Off,
+    Auto,
+}
+
+#[derive(Clone, Copy, Debug, PartialEq, Eq)]
+pub enum Privacy {
+    Disabled,
+    Enabled,
+    Preferred,
+}
+
+/// The settings of an iwd file.
+///
+/// ```
+/// let settings = qewaris::iwd_settings(b"Desk 4.open", b"[IPv4]\nDNS=10.0.0.2 10.0.0.3\n[IPv6]\nEnabled=false\n")?;
+/// assert_eq!(settings.ipv4.dns.len(), 2);
+/// assert_eq!(settings.ipv6_enabled, Some(false));
+/// assert_eq!(settings.general.hidden, None);
+/// # Ok::<(), qewaris::Refusal>(())
+/// ```
+pub fn iwd_settings(name: &[u8], file: &[u8]) -> Result<IwdSettings, Refusal> {
+    // SAFETY: the pointers and lengths are those of slices, which nothing changes during the call.
+    let found = unsafe { raw::qewaris_iwd_settings_of(name.as_ptr(), name.len(), file.as_ptr(), file.len()) };
+    answered(found.number, found.line, || IwdSettings {
+        general: IwdGeneral {
+            auto_connect: choice(found.general.auto_connect),
+            hidden: choice(found.general.hidden),
+            always_randomize_address: choice(found.general.always_randomize_address),
+            address_override: given(found.general.has_address_override, found.general.address_override),
+        },
+        security: IwdSecurity {
+            passphrase_line: line(found.security.passphrase_line),
+            pre_shared_key: given(found.security.has_pre_shared_key, found.security.pre_shared_key),
+        },
+        ipv4: iwd_ipv4(&found.ipv4),
+        ipv6_enabled: choice(found.ipv6_enabled),
+    })
+}
+
+fn iwd_ipv4(found: &raw::IwdIpv4) -> IwdIpv4 {
+    IwdIpv4 {
+        address: given(found.has_address, found.address.into()),
+        gateway: given(found.has_gateway, found.gateway.into()),
+        broadcast: given(found.has_broadcast, found.broadcast.into()),
+        netmask_length: (found.netmask_length > 0).then_some(found.netmask_length),
+        dns: addresses(&found.dns, found.dns_count),
+        domain_name_line: line(found.domain_name_line),
+        send_hostname: choice(found.send_hostname),
+    }
+}
+
+/// The settings of a ConnMan service, by its number from 1; of every kind of service, wired ones too.
+pub fn service_settings(name: &[u8], file: &[u8], service: usize) -> Result<ServiceSettings, Refusal> {
+    // SAFETY: as above.
+    let found = unsafe { raw::qewaris_service_settings_of(name.as_ptr(), name.len(), file.as_ptr(), file.len(), service) };
+    answered(found.number, found.line, || ServiceSettings {
+        network: ServiceNetwork {
+            service_type: coded(found.network.service_type, &[ServiceType::Wifi, ServiceType::Ethernet]),
+            name_line: line(found.network.name_line),
+            ssid: (found.network.ssid_len > 0).then(|| found.network.ssid[..found.network.ssid_len].to_vec()),
+            passphrase_line: line(found.network.passphrase_line),
+            security: coded(
+                found.network.security,
+                &[Security::Psk, Security::Ieee8021x, Security::None, Security::Wep],
+            ),
+            hidden: choice(found.network.hidden),
+        },
+        addresses: service_addresses(&found.addresses),
+    })
+}
+
+fn service_addresses(found: &raw::ServiceAddresses) -> ServiceAddresses {
+    let fixed = StaticIpv4 {
+        address: found.address.into(),
+        prefix_length: found.prefix_length,
+        gateway: given(found.has_gateway, found.gateway.into()),
+    };
+    ServiceAddresses {
+        ipv4: coded(found.ipv4, &[Ipv4::Dhcp, Ipv4::Off, Ipv4::Static(fixed)]),
+        ipv6: coded(found.ipv6, &[Ipv6Method::Off, Ipv6Method::Auto]),
+        privacy: coded(found.privacy, &[Privacy::Disabled, Privacy::Enabled, Privacy::Preferred]),
+        mac: given(found.has_mac, found.mac),
+        nameservers: addresses(&found.nameservers, found.nameserver_count),
+        search_domains: entries(&found.search_domains),
+        timeservers: entries(&found.timeservers),
+        domain_line: line(found.domain_line),
+    }
+}
+
+fn choice(code: u8) -> Option<bool> {
+    coded(code, &[false, true])
+}
+
+/// The case of a code, which counts from 1 and is 0 where there is none.
+fn coded<T: Copy>(code: u8, cases: &[T]) -> Option<T> {
+    cases.get(usize::from(code).checked_sub(1)?).copied()
+}
+
+fn given<T>(has: u8, value: T) -> Option<T> {
+    (has == 1).then_some(value)
+}
+
+fn line(line: usize) -> Option<usize> {
+    (line > 0).then_some(line)
+}
+
+fn entries(found: &raw::Entries) -> Vec<Range<usize>> {
+    let places = found.start.iter().zip(&found.length).take(found.count);
+    places.map(|(start, length)| *start..start + length).collect()
+}
