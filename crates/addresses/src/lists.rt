@@ -32,7 +32,7 @@ fn field_at(s: &[u8], from: usize, sep: Separator) -> Field
     requires { ⌜ from ≤ length (now s) ⌝ }
     ensures { λ r. ⌜ FieldAt sep (now (s .entry)) from (r .end) (r .next) ⌝ }
 {
-    let end = scan::find(s, from, separator_byte(sep));
+    let end = scan::find_near(s, from, separator_byte(sep));
     let behind = end + 1;
     if end == s.len() {
         return Field { end, next: behind };

@@ -58,7 +58,7 @@ pub fn read_address(s: &[u8]) -> Address
     let mut at = 0;
     let mut n = 0;
     while n < 4 {
-        let e = scan::find(s, at, 46);
+        let e = scan::find_near(s, at, 46);
         let v = read_number(&s[at..e], 255);
         if !v.ok {
             return NO_ADDRESS;

@@ -59,7 +59,7 @@ fn assemble(
 }
 
 // The record of an accepted iwd file.
-pub fn iwd_join(name: &[u8], file: &[u8], x: &[usize; 384]) -> JoinRecord
+pub fn iwd_join(name: &[u8], file: &[u8], x: &[u16; 384]) -> JoinRecord
     requires { ⌜ IwdRows (now file) (now x) ⌝ }
     ensures { λ r. ⌜ r ≡ laid (iwdJoin (networkName (networkOf (now (name .entry)))) (iwdEntry (sectionsOf Dialect.Iwd (now (file .entry))))) ⌝ }
 {
@@ -84,7 +84,7 @@ pub fn iwd_join(name: &[u8], file: &[u8], x: &[usize; 384]) -> JoinRecord
 }
 
 // The record of the service asked for, which has one.
-pub fn service_join(file: &[u8], x: &[usize; 384]) -> JoinRecord
+pub fn service_join(file: &[u8], x: &[u16; 384]) -> JoinRecord
     requires { ⌜ RowOf (now file) (now x) 96 Group.Service ⌝ }
     ensures { λ r. ⌜ Typed (now (file .entry)) (now (x .entry)) 96 Group.Service (λ at. laid (serviceJoin at)) r ⌝ }
 {

@@ -103,7 +103,7 @@ fn answered(found: JoinRecord) -> RecordAnswer
 }
 
 // The record of an accepted iwd file.
-fn iwd_found(name: &[u8], file: &[u8], x: &[usize; 384], servers: &mut [[u8; 4]; 4]) -> RecordAnswer
+fn iwd_found(name: &[u8], file: &[u8], x: &[u16; 384], servers: &mut [[u8; 4]; 4]) -> RecordAnswer
     requires { ⌜ IwdRows (now file) (now x) ⌝ }
     ensures { λ r. ⌜ (r ≡ record { answer = Answer.Good; «record» = laid (iwdJoin (networkName (networkOf (now (name .entry)))) (iwdEntry (sectionsOf Dialect.Iwd (now (file .entry))))) })
         × (now (servers .exit) ≡ laidServers (iwdJoin (networkName (networkOf (now (name .entry)))) (iwdEntry (sectionsOf Dialect.Iwd (now (file .entry)))))) ⌝ }
@@ -127,7 +127,7 @@ pub fn iwd_record(name: &[u8], file: &[u8], servers: &mut [[u8; 4]; 4]) -> Recor
 }
 
 // The record of a service that there is, or the line for which it has none.
-fn service_found(file: &[u8], x: &[usize; 384], servers: &mut [[u8; 4]; 4]) -> RecordAnswer
+fn service_found(file: &[u8], x: &[u16; 384], servers: &mut [[u8; 4]; 4]) -> RecordAnswer
     requires { ⌜ RowOf (now file) (now x) 96 Group.Service ⌝ }
     ensures { λ r. ⌜ Answers (now (file .entry)) (now (x .entry)) (now (servers .entry)) (now (servers .exit)) r ⌝ }
 {

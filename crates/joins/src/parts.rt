@@ -161,7 +161,7 @@ fn login_of(phrase: Phrase, psk: Key) -> Login
     }
 }
 
-pub fn iwd_login(file: &[u8], x: &[usize; 384]) -> Login
+pub fn iwd_login(file: &[u8], x: &[u16; 384]) -> Login
     requires phrase { ⌜ SlotIn (now file) (now x) 17 ⌝ }
     requires psk { ⌜ SlotIn (now file) (now x) 18 ⌝ }
     ensures { λ r. ⌜ r ≡ loginAnswer (secretFrom (passphrase Dialect.Iwd (bytesAt (now (file .entry)) (slot 17 (now (x .entry))))) (key (bytesAt (now (file .entry)) (slot 18 (now (x .entry)))))) ⌝ }
@@ -171,7 +171,7 @@ pub fn iwd_login(file: &[u8], x: &[usize; 384]) -> Login
     login_of(phrase, psk)
 }
 
-pub fn service_login(file: &[u8], x: &[usize; 384]) -> Login
+pub fn service_login(file: &[u8], x: &[u16; 384]) -> Login
     requires { ⌜ SlotIn (now file) (now x) 108 ⌝ }
     ensures { λ r. ⌜ r ≡ loginAnswer (secretFrom (passphrase Dialect.ConnMan (bytesAt (now (file .entry)) (slot 108 (now (x .entry))))) none) ⌝ }
 {
@@ -186,7 +186,7 @@ pub fn service_login(file: &[u8], x: &[usize; 384]) -> Login
 }
 
 // The domain at a slot.
-pub fn domain_at(d: Dialect, file: &[u8], x: &[usize; 384], i: usize) -> Domain
+pub fn domain_at(d: Dialect, file: &[u8], x: &[u16; 384], i: usize) -> Domain
     requires { ⌜ SlotIn (now file) (now x) i ⌝ }
     ensures { λ r. ⌜ r ≡ domainAnswer (string d 1 253 (bytesAt (now (file .entry)) (slot i (now (x .entry))))) ⌝ }
 {
@@ -194,7 +194,7 @@ pub fn domain_at(d: Dialect, file: &[u8], x: &[usize; 384], i: usize) -> Domain
 }
 
 // Whether the network is hidden, which it is not where nothing is said.
-pub fn hidden_at(d: Dialect, file: &[u8], x: &[usize; 384], i: usize) -> bool
+pub fn hidden_at(d: Dialect, file: &[u8], x: &[u16; 384], i: usize) -> bool
     requires { ⌜ SlotIn (now file) (now x) i ⌝ }
     ensures { λ r. ⌜ r ≡ orFalse (flag d (bytesAt (now (file .entry)) (slot i (now (x .entry))))) ⌝ }
 {
@@ -241,7 +241,7 @@ fn numbers_of(a: Address, n: u8, g: Address) -> Ipv4
     }
 }
 
-pub fn iwd_numbers(file: &[u8], x: &[usize; 384]) -> Ipv4
+pub fn iwd_numbers(file: &[u8], x: &[u16; 384]) -> Ipv4
     requires address { ⌜ SlotIn (now file) (now x) 33 ⌝ }
     requires gateway { ⌜ SlotIn (now file) (now x) 34 ⌝ }
     requires mask { ⌜ SlotIn (now file) (now x) 36 ⌝ }
@@ -253,7 +253,7 @@ pub fn iwd_numbers(file: &[u8], x: &[usize; 384]) -> Ipv4
     numbers_of(a, n, g)
 }
 
-pub fn iwd_ipv6(file: &[u8], x: &[usize; 384]) -> Ipv6
+pub fn iwd_ipv6(file: &[u8], x: &[u16; 384]) -> Ipv6
     requires { ⌜ SlotIn (now file) (now x) 49 ⌝ }
     ensures { λ r. ⌜ r ≡ enabledIpv6 (flag Dialect.Iwd (bytesAt (now (file .entry)) (slot 49 (now (x .entry))))) ⌝ }
 {
@@ -266,14 +266,14 @@ pub fn iwd_ipv6(file: &[u8], x: &[usize; 384]) -> Ipv6
 }
 
 // Whether the word at a slot is the one with this number.
-pub fn word_is(list: WordList, file: &[u8], x: &[usize; 384], i: usize, k: u8) -> bool
+pub fn word_is(list: WordList, file: &[u8], x: &[u16; 384], i: usize, k: u8) -> bool
     requires { ⌜ SlotIn (now file) (now x) i ⌝ }
     ensures { λ r. ⌜ r ≡ numberIs k (namedWord (wordOf list (bytesAt (now (file .entry)) (slot i (now (x .entry)))))) ⌝ }
 {
     is_word(kinds::words::read_word(list, value_at(file, x, i)), k)
 }
 
-pub fn service_ipv6(file: &[u8], x: &[usize; 384]) -> Ipv6
+pub fn service_ipv6(file: &[u8], x: &[u16; 384]) -> Ipv6
     requires { ⌜ SlotIn (now file) (now x) 99 ⌝ }
     ensures { λ r. ⌜ r ≡ wordIpv6 (wordOf WordList.Ipv6Method (bytesAt (now (file .entry)) (slot 99 (now (x .entry))))) ⌝ }
 {
@@ -294,7 +294,7 @@ fn name_of(ssid: Ssid, name: Ssid) -> Ssid
 }
 
 // The name of a service's network: its SSID, or else its Name.
-pub fn service_name(file: &[u8], x: &[usize; 384]) -> Ssid
+pub fn service_name(file: &[u8], x: &[u16; 384]) -> Ssid
     requires name { ⌜ SlotIn (now file) (now x) 106 ⌝ }
     requires ssid { ⌜ SlotIn (now file) (now x) 107 ⌝ }
     ensures { λ r. ⌜ r ≡ nameOf (ssidAnswer (ssid (bytesAt (now (file .entry)) (slot 107 (now (x .entry)))))) (ssidAnswer (string Dialect.ConnMan 1 32 (bytesAt (now (file .entry)) (slot 106 (now (x .entry)))))) ⌝ }
@@ -305,7 +305,7 @@ pub fn service_name(file: &[u8], x: &[usize; 384]) -> Ssid
 }
 
 // The line for which a service has no record: ethernet, or Security wep or ieee8021x.
-pub fn hindrance_at(file: &[u8], x: &[usize; 384]) -> Hindrance
+pub fn hindrance_at(file: &[u8], x: &[u16; 384]) -> Hindrance
     requires kind { ⌜ SlotIn (now file) (now x) 97 ⌝ }
     requires security { ⌜ SlotIn (now file) (now x) 109 ⌝ }
     ensures { λ r. ⌜ r ≡ hindrance (isWord Word.Ethernet (wordOf WordList.ServiceType (bytesAt (now (file .entry)) (slot 97 (now (x .entry)))))) (slot 97 (now (x .entry)) .line) (foreignSecurity (wordOf WordList.Security (bytesAt (now (file .entry)) (slot 109 (now (x .entry)))))) (slot 109 (now (x .entry)) .line) ⌝ }

@@ -10,7 +10,7 @@ ghost use Rattle.kinds.specs.Answers.{ipv4Answer};
 use crate::Ipv4;
 use crate::Method;
 use addresses::Netmask;
-use text::scan::find;
+use text::scan::find_near;
 use text::words::equal;
 
 // A method without an address, or a refusal.
@@ -95,17 +95,17 @@ fn read_routed(a: &[u8], m: &[u8], g: &[u8]) -> Ipv4
 fn read_parts(s: &[u8]) -> Ipv4
     ensures { λ r. ⌜ r ≡ ipv4Answer (staticOf (pieces 47 (now (s .entry)))) ⌝ }
 {
-    let a = find(s, 0, 47);
+    let a = find_near(s, 0, 47);
     if a == s.len() {
         return no_ipv4();
     }
     let m = a + 1;
-    let b = find(s, m, 47);
+    let b = find_near(s, m, 47);
     if b == s.len() {
         return read_static(&s[0..a], &s[m..b]);
     }
     let g = b + 1;
-    let e = find(s, g, 47);
+    let e = find_near(s, g, 47);
     if e == s.len() {
         return read_routed(&s[0..a], &s[m..b], &s[g..e]);
     }

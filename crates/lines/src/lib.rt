@@ -62,7 +62,7 @@ fn header_form(d: Dialect, line: &[u8], from: usize) -> Form
     if line[end] != 93 {
         return Form::Broken(Break::BadHeader);
     }
-    let rest = text::scan::run_end(line, end + 1, Class::Blank);
+    let rest = text::scan::blank_end(line, end + 1);
     if rest != line.len() {
         return Form::Broken(Break::BadHeader);
     }
@@ -85,8 +85,8 @@ fn setting_form(d: Dialect, line: &[u8], at: usize) -> Form
     requires { ⌜ at ≤ length (now line) ⌝ }
     ensures { λ r. ⌜ Forms d (now (line .entry)) (drop at (now (line .entry))) r (settingOf d (drop at (now (line .entry)))) ⌝ }
 {
-    let key_end = text::scan::run_end(line, at, Class::Key(d));
-    let equal = text::scan::run_end(line, key_end, Class::Blank);
+    let key_end = text::scan::key_end(d, line, at);
+    let equal = text::scan::blank_end(line, key_end);
     if equal == line.len() {
         return Form::Broken(Break::Unrecognized);
     }
@@ -96,7 +96,7 @@ fn setting_form(d: Dialect, line: &[u8], at: usize) -> Form
     if line[equal] != 61 {
         return Form::Broken(Break::Unrecognized);
     }
-    let start = text::scan::run_end(line, equal + 1, Class::Blank);
+    let start = text::scan::blank_end(line, equal + 1);
     let end = value_end(d, line, start);
     Form::Setting(
         Place {
@@ -111,7 +111,7 @@ fn setting_form(d: Dialect, line: &[u8], at: usize) -> Form
 pub fn form_of(d: Dialect, line: &[u8]) -> Form
     ensures { λ r. ⌜ Forms d (now (line .entry)) (after isBlank (now (line .entry))) r (lineOf d (now (line .entry))) ⌝ }
 {
-    let at = text::scan::run_end(line, 0, Class::Blank);
+    let at = text::scan::blank_end(line, 0);
     if at == line.len() {
         return Form::Blank;
     }

@@ -12,21 +12,22 @@ ghost use Rattle.reader.specs.Store.{slot as slotAt};
 ghost use Rattle.lookups.specs.Lookups.{iwdLookup, globalLookup, serviceLookup, Placed};
 ghost use Rattle.lookups.specs.Keeping.{KeepsSome, slotPlace, PlacedKept};
 use crate::TextPlace;
+use reader::store::wide;
 use rules::Answer;
 use rules::asking;
 use text::Dialect;
 
 // The place that a slot of the table of places keeps, or the refusal.
-fn place_at(x: &[usize; 384], slot: usize, answer: Answer) -> TextPlace
+fn place_at(x: &[u16; 384], slot: usize, answer: Answer) -> TextPlace
     requires { ⌜ (answer ≡ Answer.Good → (length (now x) ≡ 384) × (slot < 128)) ⌝ }
     ensures { λ r. ⌜ r ≡ slotPlace answer (slotAt slot (now (x .entry))) ⌝ }
 {
     match answer {
         Answer::Good => TextPlace {
             number: 0,
-            line: x[256 + slot],
-            start: x[slot],
-            end: x[128 + slot],
+            line: wide(x[256 + slot]),
+            start: wide(x[slot]),
+            end: wide(x[128 + slot]),
         },
         Answer::Refused(refusal, at) => TextPlace {
             number: rules::numbers::number_of(refusal),

@@ -17,7 +17,7 @@ use text::Dialect;
 use writer::Written;
 
 // The move of a service that there is.
-fn move_found(file: &[u8], x: &[usize; 384], name_out: &mut [u8], file_out: &mut [u8]) -> Written
+fn move_found(file: &[u8], x: &[u16; 384], name_out: &mut [u8], file_out: &mut [u8]) -> Written
     requires { ⌜ RowOf (now file) (now x) 96 Group.Service ⌝ }
     ensures { λ a. ⌜ MovesBy (now (file .entry)) (now (x .entry)) (now («name_out» .entry)) (now («file_out» .entry)) (now («name_out» .exit)) (now («file_out» .exit)) a ⌝ }
 {

@@ -34,7 +34,7 @@ fn earlier(a: usize, b: usize) -> usize
 }
 
 // Type ethernet.
-fn type_line(file: &[u8], x: &[usize; 384]) -> usize
+fn type_line(file: &[u8], x: &[u16; 384]) -> usize
     requires { ⌜ RowOf (now file) (now x) 96 Group.Service ⌝ }
     ensures { λ r. ⌜ LineIs (now (file .entry)) (now (x .entry)) (λ at. earliest (lineIf (wired at) (at (word "Type")))) r ⌝ }
 {
@@ -45,7 +45,7 @@ fn type_line(file: &[u8], x: &[usize; 384]) -> usize
 }
 
 // Security wep or ieee8021x.
-fn security_line(file: &[u8], x: &[usize; 384]) -> usize
+fn security_line(file: &[u8], x: &[u16; 384]) -> usize
     requires { ⌜ RowOf (now file) (now x) 96 Group.Service ⌝ }
     ensures { λ r. ⌜ LineIs (now (file .entry)) (now (x .entry)) (λ at. earliest (lineIf (foreignSecurity (readAs (wordOf WordList.Security) (at (word "Security")))) (at (word "Security")))) r ⌝ }
 {
@@ -59,7 +59,7 @@ fn security_line(file: &[u8], x: &[usize; 384]) -> usize
 }
 
 // IPv4 off, or static without gateway.
-fn ipv4_line(file: &[u8], x: &[usize; 384]) -> usize
+fn ipv4_line(file: &[u8], x: &[u16; 384]) -> usize
     requires { ⌜ RowOf (now file) (now x) 96 Group.Service ⌝ }
     ensures { λ r. ⌜ LineIs (now (file .entry)) (now (x .entry)) (λ at. earliest (lineIf (not (hasPlace (ipv4OrDhcp (readAs ipv4 (at (word "IPv4")))))) (at (word "IPv4")))) r ⌝ }
 {
@@ -76,7 +76,7 @@ fn ipv4_line(file: &[u8], x: &[usize; 384]) -> usize
 }
 
 // MAC, IPv6.Privacy, SearchDomains and Timeservers, whatever they say.
-fn given_line(x: &[usize; 384]) -> usize
+fn given_line(x: &[u16; 384]) -> usize
     requires { ⌜ length (now x) ≡ 384 ⌝ }
     ensures { λ r. ⌜ GivenLine (now (x .entry)) r ⌝ }
 {
@@ -86,7 +86,7 @@ fn given_line(x: &[usize; 384]) -> usize
 }
 
 // The earliest of them all.
-pub fn unplaced_line(file: &[u8], x: &[usize; 384]) -> usize
+pub fn unplaced_line(file: &[u8], x: &[u16; 384]) -> usize
     requires { ⌜ RowOf (now file) (now x) 96 Group.Service ⌝ }
     ensures { λ r. ⌜ LineIs (now (file .entry)) (now (x .entry)) (λ at. earliest (unplaced at)) r ⌝ }
 {

@@ -94,7 +94,7 @@ fn stem_name(s: &[u8], suffix: Suffix) -> IwdName
 pub fn read_iwd_name(f: &[u8]) -> IwdName
     ensures { λ r. ⌜ r ≡ iwdNameAnswer (networkOf (now (f .entry))) ⌝ }
 {
-    let dot = text::scan::find(f, 0, 46);
+    let dot = text::scan::find_near(f, 0, 46);
     if text::words::equal(&f[dot..], b".open") {
         return stem_name(&f[0..dot], Suffix::Open);
     }

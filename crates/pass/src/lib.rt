@@ -55,7 +55,7 @@ fn kind_of(d: Dialect, name: &[u8]) -> FileKind
 }
 
 // Walks over the lines of a file, and stops at the first faulty one.
-fn walk(d: Dialect, file: &[u8], x: &mut [usize; 384], wanted: usize) -> Walked
+fn walk(d: Dialect, file: &[u8], x: &mut [u16; 384], wanted: usize) -> Walked
     requires small { ⌜ length (now file) ≤ 16384 ⌝ }
     requires empty { ⌜ now x ≡ replicate 384 0 ⌝ }
     ensures { λ r. ⌜ Walks d (now (file .entry)) wanted (now (x .exit)) r ⌝ }
@@ -86,13 +86,7 @@ fn walk(d: Dialect, file: &[u8], x: &mut [usize; 384], wanted: usize) -> Walked
 }
 
 // The reading of a file whose size is allowed and whose name says this kind.
-fn read_kind(
-    kind: FileKind,
-    d: Dialect,
-    file: &[u8],
-    x: &mut [usize; 384],
-    wanted: usize,
-) -> Reading
+fn read_kind(kind: FileKind, d: Dialect, file: &[u8], x: &mut [u16; 384], wanted: usize) -> Reading
     requires small { ⌜ length (now file) ≤ 16384 ⌝ }
     requires empty { ⌜ now x ≡ replicate 384 0 ⌝ }
     ensures { λ r. ⌜ ReadsKind kind d (now (file .entry)) wanted (now (x .exit)) r ⌝ }
@@ -108,7 +102,7 @@ fn read_kind(
 }
 
 // Reads a file, and leaves where its settings stand and those of the service asked for, counted from 1, in the table.
-pub fn read(d: Dialect, name: &[u8], file: &[u8], x: &mut [usize; 384], wanted: usize) -> Reading
+pub fn read(d: Dialect, name: &[u8], file: &[u8], x: &mut [u16; 384], wanted: usize) -> Reading
     requires empty { ⌜ now x ≡ replicate 384 0 ⌝ }
     ensures { λ r. ⌜ Reads d (now (name .entry)) (now (file .entry)) wanted (now (x .exit)) r ⌝ }
 {

@@ -22,7 +22,7 @@ use Rattle.rules.specs.Faults.{Entry, Section, given, keyFault, valueFault, fau
 use Rattle.rules.specs.declared.Group.{Group}
 use Rattle.rules.specs.declared.Refusal.{Refusal}
 use Rattle.rules.specs.declared.Refusal.the-variants.{RepeatedKey}
-use Rattle.reader.specs.Store.{Slot, stored}
+use Rattle.reader.specs.Store.{Slot, stored, Fits}
 use Rattle.reader.specs.History.{base, currentOf}
 use Rattle.reader.specs.Holds.{Stands, Holds}
 use Rattle.reader.specs.Says.{NewSetting}
@@ -36,6 +36,10 @@ use Rattle.reader.proofs.Line.{the-type}
 use Rattle.reader.proofs.Rows.{keys-few}
 use Rattle.reader.proofs.SettingLine.{Head, head, number-few}
 use Rattle.reader.proofs.Growing.{holds-setting}
+
+-- a place in a file of allowed size fits the table
+pub fits-within : {n a e l : ℕ} → a ≤ e → e ≤ n → n ≤ 16384 → l ≤ 16384 → Fits a e l
+fits-within p q r s = record { low = omega (arith, p, q, r); high = omega (arith, q, r); counted = omega (arith, s) }
 
 -- a key that may stand is not given yet
 not-given : (d : Dialect) (k v : List ℕ) (o : Option Kind) (es : List Entry) {x : Kind} → o ≡ some x → keyFault d k v o es ≡ none → given k es ≡ false
@@ -87,6 +91,9 @@ module _ {d : Dialect} {file : List ℕ} {w : ℕ} {st : State} {x : List ℕ} {
   module _ {i : ℕ} {p : Place} {v : Value} (q : f ≡ L.Setting i p v) where
     good : {gs : List Section} → Holds d file w st x gs → GoodSetting d file gs s l i p v
     good {gs} h = subst (LineIs d file gs s l) q (line-is h)
+
+    pub value-inside : Known d file w st x → Inside (length file) p
+    value-inside k = good (k .holds) .inside
 
     pub slot-few : Known d file w st x → i < 96
     slot-few k = let u = good (k .holds) .new in omega (arith, u .is, number-few (u .group), keys-few (u .group) (good (k .holds) .key))

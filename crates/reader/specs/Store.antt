@@ -22,6 +22,12 @@ emptySlot = record { start = 0; end = 0; line = 0 }
 unfoldable pub stored : ℕ → ℕ → ℕ → ℕ → List ℕ → List ℕ
 stored i a e l x = set (set (set x i a) (128 + i) e) (256 + i) l
 
+-- a place and its line fit the table
+pub record Fits (start end line : ℕ) : Type 0 where
+  pub low : start < 65536
+  pub high : end < 65536
+  pub counted : line < 65536
+
 -- the n slots from base on hold what v says, and the others what they held
 pub record Overwritten (base n : ℕ) (v : ℕ → Slot) (x y : List ℕ) : Type 0 where
   pub long : length y ≡ 384

@@ -10,11 +10,12 @@ use crate::services::either;
 use crate::services::is_word;
 use crate::services::taken;
 use crate::services::word_at;
+use crate::store::wide;
 use kinds::WordList;
 use rules::Refusal;
 
 // Whether a wireless service has neither a name nor an SSID.
-fn unnamed(file: &[u8], x: &[usize; 384]) -> bool
+fn unnamed(file: &[u8], x: &[u16; 384]) -> bool
     requires { ⌜ WordsIn (now file) (now x) ⌝ }
     ensures { λ r. ⌜ r ≡ slotsUnnamed (now (file .entry)) (now (x .entry)) ⌝ }
 {
@@ -23,7 +24,7 @@ fn unnamed(file: &[u8], x: &[usize; 384]) -> bool
 }
 
 // Whether the latest service needs a passphrase and has none.
-fn keyless(file: &[u8], x: &[usize; 384]) -> bool
+fn keyless(file: &[u8], x: &[u16; 384]) -> bool
     requires { ⌜ WordsIn (now file) (now x) ⌝ }
     ensures { λ r. ⌜ r ≡ slotsKeyless (now (file .entry)) (now (x .entry)) ⌝ }
 {
@@ -32,7 +33,7 @@ fn keyless(file: &[u8], x: &[usize; 384]) -> bool
 }
 
 // Whether something needed is missing in the latest service.
-fn lacks(file: &[u8], x: &[usize; 384]) -> bool
+fn lacks(file: &[u8], x: &[u16; 384]) -> bool
     requires { ⌜ WordsIn (now file) (now x) ⌝ }
     ensures { λ r. ⌜ r ≡ slotsLack (now (file .entry)) (now (x .entry)) ⌝ }
 {
@@ -40,7 +41,7 @@ fn lacks(file: &[u8], x: &[usize; 384]) -> bool
 }
 
 // Whether the latest service holds anything that only a wireless one may.
-fn is_wireless(x: &[usize; 384]) -> bool
+fn is_wireless(x: &[u16; 384]) -> bool
     requires { ⌜ length (now x) ≡ 384 ⌝ }
     ensures { λ r. ⌜ r ≡ slotsWireless (now (x .entry)) ⌝ }
 {
@@ -49,7 +50,7 @@ fn is_wireless(x: &[usize; 384]) -> bool
 }
 
 // Whether the settings of the latest service contradict each other.
-fn clashes(file: &[u8], x: &[usize; 384]) -> bool
+fn clashes(file: &[u8], x: &[u16; 384]) -> bool
     requires { ⌜ WordsIn (now file) (now x) ⌝ }
     ensures { λ r. ⌜ r ≡ slotsClash (now (file .entry)) (now (x .entry)) ⌝ }
 {
@@ -60,7 +61,7 @@ fn clashes(file: &[u8], x: &[usize; 384]) -> bool
 }
 
 // The rules over the latest service: what is missing before what contradicts.
-fn service_rule(file: &[u8], x: &[usize; 384]) -> Rule
+fn service_rule(file: &[u8], x: &[u16; 384]) -> Rule
     requires { ⌜ WordsIn (now file) (now x) ⌝ }
     ensures { λ r. ⌜ r ≡ ruleAnswer (slotsRule (now (file .entry)) (now (x .entry))) ⌝ }
 {
@@ -74,11 +75,11 @@ fn service_rule(file: &[u8], x: &[usize; 384]) -> Rule
 }
 
 // The fault of the latest service, if there is one.
-fn latest_fault(file: &[u8], x: &[usize; 384]) -> Pending
+fn latest_fault(file: &[u8], x: &[u16; 384]) -> Pending
     requires { ⌜ WordsIn (now file) (now x) ⌝ }
     ensures { λ r. ⌜ r ≡ pendingOf (slotsFault (now (file .entry)) (now (x .entry))) ⌝ }
 {
-    let line = x[336];
+    let line = wide(x[336]);
     if line == 0 {
         return Pending::Nothing;
     }
@@ -90,7 +91,7 @@ fn latest_fault(file: &[u8], x: &[usize; 384]) -> Pending
 }
 
 // The first fault of the services, the latest included.
-pub fn closed(file: &[u8], x: &[usize; 384], pending: Pending) -> Pending
+pub fn closed(file: &[u8], x: &[u16; 384], pending: Pending) -> Pending
     requires { ⌜ WordsIn (now file) (now x) ⌝ }
     ensures { λ r. ⌜ r ≡ orPending pending (pendingOf (slotsFault (now (file .entry)) (now (x .entry)))) ⌝ }
 {

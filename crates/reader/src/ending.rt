@@ -11,7 +11,7 @@ use crate::store::keep_found;
 use rules::Reading;
 
 // The first fault of the groups: of the services in file order, or of an iwd file.
-fn groups_fault(kind: FileKind, file: &[u8], x: &[usize; 384], pending: Pending) -> Pending
+fn groups_fault(kind: FileKind, file: &[u8], x: &[u16; 384], pending: Pending) -> Pending
     requires { ⌜ WordsIn (now file) (now x) ⌝ }
     ensures { λ r. ⌜ r ≡ slotsGroups kind (now (file .entry)) (now (x .entry)) pending ⌝ }
 {
@@ -32,13 +32,7 @@ fn answer(fault: Pending, settings: usize, services: usize) -> Reading
 }
 
 // The reading of a file of this kind whose lines are all good. The row of the service asked for is kept.
-pub fn ending(
-    kind: FileKind,
-    file: &[u8],
-    x: &mut [usize; 384],
-    wanted: usize,
-    st: State,
-) -> Reading
+pub fn ending(kind: FileKind, file: &[u8], x: &mut [u16; 384], wanted: usize, st: State) -> Reading
     requires { ⌜ Held (now file) wanted st (now x) ⌝ }
     ensures { λ r. ⌜ Ends kind (now (file .entry)) wanted st (now (x .entry)) r (now (x .exit)) ⌝ }
 {

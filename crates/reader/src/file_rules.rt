@@ -22,7 +22,7 @@ fn is_open(s: Suffix) -> bool
 }
 
 // Whether a passphrase or a key is given.
-fn has_secret(x: &[usize; 384]) -> bool
+fn has_secret(x: &[u16; 384]) -> bool
     requires { ⌜ length (now x) ≡ 384 ⌝ }
     ensures { λ r. ⌜ r ≡ slotsSecret (now (x .entry)) ⌝ }
 {
@@ -30,7 +30,7 @@ fn has_secret(x: &[usize; 384]) -> bool
 }
 
 // Whether a passphrase or a key is needed and neither is given.
-fn lacks_secret(suffix: Suffix, x: &[usize; 384]) -> bool
+fn lacks_secret(suffix: Suffix, x: &[u16; 384]) -> bool
     requires { ⌜ length (now x) ≡ 384 ⌝ }
     ensures { λ r. ⌜ r ≡ slotsSecretless suffix (now (x .entry)) ⌝ }
 {
@@ -38,7 +38,7 @@ fn lacks_secret(suffix: Suffix, x: &[usize; 384]) -> bool
 }
 
 // Whether an address is given without its gateway.
-fn lacks_gateway(x: &[usize; 384]) -> bool
+fn lacks_gateway(x: &[u16; 384]) -> bool
     requires { ⌜ length (now x) ≡ 384 ⌝ }
     ensures { λ r. ⌜ r ≡ slotsGatewayless (now (x .entry)) ⌝ }
 {
@@ -46,7 +46,7 @@ fn lacks_gateway(x: &[usize; 384]) -> bool
 }
 
 // Whether a gateway, a netmask or a broadcast address is given without an address.
-fn lacks_address(x: &[usize; 384]) -> bool
+fn lacks_address(x: &[u16; 384]) -> bool
     requires { ⌜ length (now x) ≡ 384 ⌝ }
     ensures { λ r. ⌜ r ≡ slotsAddressless (now (x .entry)) ⌝ }
 {
@@ -55,7 +55,7 @@ fn lacks_address(x: &[usize; 384]) -> bool
 }
 
 // Whether something needed is missing in the file.
-fn file_lacks(suffix: Suffix, x: &[usize; 384]) -> bool
+fn file_lacks(suffix: Suffix, x: &[u16; 384]) -> bool
     requires { ⌜ length (now x) ≡ 384 ⌝ }
     ensures { λ r. ⌜ r ≡ slotsFileLacks suffix (now (x .entry)) ⌝ }
 {
@@ -66,7 +66,7 @@ fn file_lacks(suffix: Suffix, x: &[usize; 384]) -> bool
 }
 
 // Whether the settings of the file contradict its name.
-fn file_clashes(suffix: Suffix, x: &[usize; 384]) -> bool
+fn file_clashes(suffix: Suffix, x: &[u16; 384]) -> bool
     requires { ⌜ length (now x) ≡ 384 ⌝ }
     ensures { λ r. ⌜ r ≡ slotsFileClashes suffix (now (x .entry)) ⌝ }
 {
@@ -74,7 +74,7 @@ fn file_clashes(suffix: Suffix, x: &[usize; 384]) -> bool
 }
 
 // The fault of the file as a whole, if there is one: what is missing before what contradicts.
-pub fn file_fault(suffix: Suffix, x: &[usize; 384]) -> Pending
+pub fn file_fault(suffix: Suffix, x: &[u16; 384]) -> Pending
     requires { ⌜ length (now x) ≡ 384 ⌝ }
     ensures { λ r. ⌜ r ≡ pendingOf (faultAt 0 (slotsFile suffix (now (x .entry)))) ⌝ }
 {

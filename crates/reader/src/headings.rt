@@ -15,7 +15,7 @@ use rules::Refusal;
 use text::Dialect;
 
 // Whether a group was named before.
-fn was_named(file: &[u8], x: &[usize; 384], services: usize, name: &[u8], base: usize) -> bool
+fn was_named(file: &[u8], x: &[u16; 384], services: usize, name: &[u8], base: usize) -> bool
     requires long { ⌜ length (now x) ≡ 384 ⌝ }
     requires spans { ⌜ Spans (now file) (now x) services ⌝ }
     requires row { ⌜ base < 128 ⌝ }
@@ -28,7 +28,7 @@ fn was_named(file: &[u8], x: &[usize; 384], services: usize, name: &[u8], base: 
 }
 
 // What a header of a listed group does.
-fn open_group(file: &[u8], x: &[usize; 384], services: usize, name: &[u8], g: Group) -> Heading
+fn open_group(file: &[u8], x: &[u16; 384], services: usize, name: &[u8], g: Group) -> Heading
     requires long { ⌜ length (now x) ≡ 384 ⌝ }
     requires spans { ⌜ Spans (now file) (now x) services ⌝ }
     ensures { λ r. ⌜ r ≡ slotsOpen (now (file .entry)) (now (x .entry)) services (now (name .entry)) g ⌝ }
@@ -46,7 +46,7 @@ fn open_group(file: &[u8], x: &[usize; 384], services: usize, name: &[u8], g: Gr
 }
 
 // What a header does, by its name.
-pub fn heading(d: Dialect, file: &[u8], x: &[usize; 384], services: usize, name: &[u8]) -> Heading
+pub fn heading(d: Dialect, file: &[u8], x: &[u16; 384], services: usize, name: &[u8]) -> Heading
     requires long { ⌜ length (now x) ≡ 384 ⌝ }
     requires spans { ⌜ Spans (now file) (now x) services ⌝ }
     ensures { λ r. ⌜ r ≡ slotsHeading (now (file .entry)) (now (x .entry)) services (now (name .entry)) (groupOf d (now (name .entry))) ⌝ }

@@ -36,7 +36,7 @@ pub fn base_of(g: Group) -> usize
 pub fn setting_line(
     d: Dialect,
     file: &[u8],
-    x: &[usize; 384],
+    x: &[u16; 384],
     current: Current,
     key: Place,
     value: Place,
@@ -93,7 +93,7 @@ fn refusal_of(b: Break) -> Refusal
 pub fn line_at(
     d: Dialect,
     file: &[u8],
-    x: &[usize; 384],
+    x: &[u16; 384],
     current: Current,
     start: usize,
     end: usize,

@@ -8,6 +8,7 @@ ghost use Rattle.text.specs.Parts.{Inside, partAt};
 ghost use Rattle.lines.specs.Lines.{header};
 ghost use Rattle.reader.specs.History.{base};
 ghost use Rattle.reader.specs.Closing.{WordsIn};
+ghost use Rattle.reader.specs.Store.{Fits};
 ghost use Rattle.reader.specs.Steps.{Opened, Known, Steps};
 use crate::Current;
 use crate::Heading;
@@ -25,7 +26,7 @@ use text::Place;
 // Stores a good header, and returns what is known after it. A service closes the one before.
 fn opened(
     file: &[u8],
-    x: &mut [usize; 384],
+    x: &mut [u16; 384],
     wanted: usize,
     st: State,
     g: Group,
@@ -35,6 +36,8 @@ fn opened(
 ) -> State
     requires words { ⌜ WordsIn (now file) (now x) ⌝ }
     requires room { ⌜ (eqb (base g) 80 && leb 8 (st .services)) ≡ false ⌝ }
+    requires header { ⌜ Fits start start line ⌝ }
+    requires named { ⌜ Fits (name .start) (name .end) line ⌝ }
     ensures { λ r. ⌜ Opened (now (file .entry)) wanted st (now (x .entry)) g start name line r (now (x .exit)) ⌝ }
 {
     let row = base_of(g);
@@ -62,7 +65,7 @@ fn opened(
 pub fn header_step(
     d: Dialect,
     file: &[u8],
-    x: &mut [usize; 384],
+    x: &mut [u16; 384],
     wanted: usize,
     st: State,
     start: usize,
@@ -72,6 +75,8 @@ pub fn header_step(
     requires known { ⌜ Known d (now file) wanted st (now x) ⌝ }
     requires inside { ⌜ Inside (length (now file)) name ⌝ }
     requires counted { ⌜ 0 < line ⌝ }
+    requires header { ⌜ Fits start start line ⌝ }
+    requires named { ⌜ Fits (name .start) (name .end) line ⌝ }
     ensures { λ r. ⌜ Steps d (now (file .entry)) wanted st (now (x .entry)) line start 0 (header (partAt (now (file .entry)) name)) (now (x .exit)) r ⌝ }
 {
     let a = name.start;

@@ -8,12 +8,13 @@ ghost use Rattle.rules.specs.Groups.{wordNumber};
 ghost use Rattle.reader.specs.Store.{slot};
 ghost use Rattle.reader.specs.Holds.{Spans, among};
 ghost use Rattle.reader.specs.Closing.{numberIs, slotWord, SlotIn};
+use crate::store::value_at;
 use kinds::NamedWord;
 use kinds::Word;
 use kinds::WordList;
 
 // Whether a name is that of one of the first n services.
-pub fn service_named(file: &[u8], x: &[usize; 384], n: usize, name: &[u8]) -> bool
+pub fn service_named(file: &[u8], x: &[u16; 384], n: usize, name: &[u8]) -> bool
     requires long { ⌜ length (now x) ≡ 384 ⌝ }
     requires spans { ⌜ Spans (now file) (now x) n ⌝ }
     ensures { λ r. ⌜ r ≡ among (now (file .entry)) (now (x .entry)) n (now (name .entry)) ⌝ }
@@ -21,9 +22,7 @@ pub fn service_named(file: &[u8], x: &[usize; 384], n: usize, name: &[u8]) -> bo
     let mut i = n;
     while 0 < i {
         let j = i - 1;
-        let a = x[112 + j];
-        let e = x[128 + (112 + j)];
-        if text::words::equal(name, &file[a..e]) {
+        if text::words::equal(name, value_at(file, x, 112 + j)) {
             return true;
         }
         i = j;
@@ -72,7 +71,7 @@ pub fn both(a: bool, b: bool) -> bool
 }
 
 // Whether a key is given, by its slot.
-pub fn taken(x: &[usize; 384], i: usize) -> bool
+pub fn taken(x: &[u16; 384], i: usize) -> bool
     requires { ⌜ (length (now x) ≡ 384) × (i < 128) ⌝ }
     ensures { λ r. ⌜ r ≡ not (eqb (slot i (now (x .entry)) .line) 0) ⌝ }
 {
@@ -80,14 +79,12 @@ pub fn taken(x: &[usize; 384], i: usize) -> bool
 }
 
 // The word that stands at a slot.
-pub fn word_at(file: &[u8], x: &[usize; 384], i: usize, list: WordList) -> NamedWord
+pub fn word_at(file: &[u8], x: &[u16; 384], i: usize, list: WordList) -> NamedWord
     requires { ⌜ SlotIn (now file) (now x) i ⌝ }
     ensures { λ r. ⌜ r ≡ slotWord (now (file .entry)) list (slot i (now (x .entry))) ⌝ }
 {
     if x[256 + i] == 0 {
         return NamedWord::Broken;
     }
-    let a = x[i];
-    let e = x[128 + i];
-    kinds::words::read_word(list, &file[a..e])
+    kinds::words::read_word(list, value_at(file, x, i))
 }

@@ -16,7 +16,7 @@ use text::Dialect;
 pub fn step(
     d: Dialect,
     file: &[u8],
-    x: &mut [usize; 384],
+    x: &mut [u16; 384],
     wanted: usize,
     st: State,
     start: usize,
@@ -27,6 +27,7 @@ pub fn step(
     requires low { ⌜ start ≤ end ⌝ }
     requires within { ⌜ end ≤ length (now file) ⌝ }
     requires counted { ⌜ st .settings < line ⌝ }
+    requires small { ⌜ (length (now file) ≤ 16384) × (line ≤ 16384) ⌝ }
     ensures { λ r. ⌜ Steps d (now (file .entry)) wanted st (now (x .entry)) line start (valueStart d (part start end (now (file .entry)))) (lineOf d (part start end (now (file .entry)))) (now (x .exit)) r ⌝ }
 {
     let current = st.current;

@@ -11,7 +11,7 @@ use rules::Reading;
 use text::Dialect;
 
 // The settings of an iwd file, by the rows of its four groups.
-fn iwd_rows(file: &[u8], x: &[usize; 384]) -> IwdSettings
+fn iwd_rows(file: &[u8], x: &[u16; 384]) -> IwdSettings
     requires { ⌜ IwdRows (now file) (now x) ⌝ }
     ensures { λ r. ⌜ IwdTyped (now (file .entry)) (now (x .entry)) r ⌝ }
 {

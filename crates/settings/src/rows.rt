@@ -13,7 +13,7 @@ use kinds::WordList;
 use rules::Group;
 use text::Dialect;
 
-pub fn general_settings(file: &[u8], x: &[usize; 384]) -> GeneralSettings
+pub fn general_settings(file: &[u8], x: &[u16; 384]) -> GeneralSettings
     requires { ⌜ RowOf (now file) (now x) 0 Group.Settings ⌝ }
     ensures { λ r. ⌜ Typed (now (file .entry)) (now (x .entry)) 0 Group.Settings generalOf r ⌝ }
 {
@@ -25,7 +25,7 @@ pub fn general_settings(file: &[u8], x: &[usize; 384]) -> GeneralSettings
     }
 }
 
-pub fn security_settings(file: &[u8], x: &[usize; 384]) -> SecuritySettings
+pub fn security_settings(file: &[u8], x: &[u16; 384]) -> SecuritySettings
     requires { ⌜ RowOf (now file) (now x) 16 Group.Security ⌝ }
     ensures { λ r. ⌜ Typed (now (file .entry)) (now (x .entry)) 16 Group.Security securityOf r ⌝ }
 {
@@ -35,7 +35,7 @@ pub fn security_settings(file: &[u8], x: &[usize; 384]) -> SecuritySettings
     }
 }
 
-pub fn ipv4_settings(file: &[u8], x: &[usize; 384]) -> Ipv4Settings
+pub fn ipv4_settings(file: &[u8], x: &[u16; 384]) -> Ipv4Settings
     requires { ⌜ RowOf (now file) (now x) 32 Group.Ipv4 ⌝ }
     ensures { λ r. ⌜ Typed (now (file .entry)) (now (x .entry)) 32 Group.Ipv4 ipv4Of r ⌝ }
 {
@@ -51,7 +51,7 @@ pub fn ipv4_settings(file: &[u8], x: &[usize; 384]) -> Ipv4Settings
 }
 
 // Of the service asked for: which network it joins, and how.
-pub fn network_settings(file: &[u8], x: &[usize; 384]) -> NetworkSettings
+pub fn network_settings(file: &[u8], x: &[u16; 384]) -> NetworkSettings
     requires { ⌜ RowOf (now file) (now x) 96 Group.Service ⌝ }
     ensures { λ r. ⌜ Typed (now (file .entry)) (now (x .entry)) 96 Group.Service networkSettingsOf r ⌝ }
 {
@@ -66,7 +66,7 @@ pub fn network_settings(file: &[u8], x: &[usize; 384]) -> NetworkSettings
 }
 
 // Of the service asked for: its addresses.
-pub fn address_settings(file: &[u8], x: &[usize; 384]) -> AddressSettings
+pub fn address_settings(file: &[u8], x: &[u16; 384]) -> AddressSettings
     requires { ⌜ RowOf (now file) (now x) 96 Group.Service ⌝ }
     ensures { λ r. ⌜ Typed (now (file .entry)) (now (x .entry)) 96 Group.Service addressSettingsOf r ⌝ }
 {

@@ -17,7 +17,7 @@ use rules::asking;
 use text::Dialect;
 
 // The settings of the service asked for, by its row.
-fn service_row(file: &[u8], x: &[usize; 384]) -> ServiceSettings
+fn service_row(file: &[u8], x: &[u16; 384]) -> ServiceSettings
     requires { ⌜ RowOf (now file) (now x) 96 Group.Service ⌝ }
     ensures { λ r. ⌜ Typed (now (file .entry)) (now (x .entry)) 96 Group.Service serviceSettings r ⌝ }
 {

@@ -25,6 +25,7 @@ use kinds::Ssid;
 use kinds::WordList;
 use kinds::YesNo;
 use reader::store::value_at;
+use reader::store::wide;
 use text::Dialect;
 
 fn choice_of(b: bool) -> Choice
@@ -36,7 +37,7 @@ fn choice_of(b: bool) -> Choice
     Choice::No
 }
 
-pub fn choice_at(d: Dialect, file: &[u8], x: &[usize; 384], i: usize) -> Choice
+pub fn choice_at(d: Dialect, file: &[u8], x: &[u16; 384], i: usize) -> Choice
     requires { ⌜ SlotIn (now file) (now x) i ⌝ }
     ensures { λ r. ⌜ r ≡ choice (flag d (bytesAt (now (file .entry)) (slot i (now (x .entry))))) ⌝ }
 {
@@ -47,7 +48,7 @@ pub fn choice_at(d: Dialect, file: &[u8], x: &[usize; 384], i: usize) -> Choice
     }
 }
 
-pub fn chosen_at(list: WordList, file: &[u8], x: &[usize; 384], i: usize) -> Chosen
+pub fn chosen_at(list: WordList, file: &[u8], x: &[u16; 384], i: usize) -> Chosen
     requires { ⌜ SlotIn (now file) (now x) i ⌝ }
     ensures { λ r. ⌜ r ≡ chosen (wordOf list (bytesAt (now (file .entry)) (slot i (now (x .entry))))) ⌝ }
 {
@@ -58,14 +59,14 @@ pub fn chosen_at(list: WordList, file: &[u8], x: &[usize; 384], i: usize) -> Cho
     }
 }
 
-pub fn address_at(file: &[u8], x: &[usize; 384], i: usize) -> Address
+pub fn address_at(file: &[u8], x: &[u16; 384], i: usize) -> Address
     requires { ⌜ SlotIn (now file) (now x) i ⌝ }
     ensures { λ r. ⌜ r ≡ addressAnswer (address (bytesAt (now (file .entry)) (slot i (now (x .entry))))) ⌝ }
 {
     addresses::numbers::read_address(value_at(file, x, i))
 }
 
-pub fn netmask_at(file: &[u8], x: &[usize; 384], i: usize) -> u8
+pub fn netmask_at(file: &[u8], x: &[u16; 384], i: usize) -> u8
     requires { ⌜ SlotIn (now file) (now x) i ⌝ }
     ensures { λ r. ⌜ r ≡ lengthOr0 (netmask (bytesAt (now (file .entry)) (slot i (now (x .entry))))) ⌝ }
 {
@@ -76,28 +77,28 @@ pub fn netmask_at(file: &[u8], x: &[usize; 384], i: usize) -> u8
     }
 }
 
-pub fn ipv4_at(file: &[u8], x: &[usize; 384], i: usize) -> Ipv4
+pub fn ipv4_at(file: &[u8], x: &[u16; 384], i: usize) -> Ipv4
     requires { ⌜ SlotIn (now file) (now x) i ⌝ }
     ensures { λ r. ⌜ r ≡ ipv4Answer (ipv4 (bytesAt (now (file .entry)) (slot i (now (x .entry))))) ⌝ }
 {
     kinds::connman_ipv4::read_ipv4(value_at(file, x, i))
 }
 
-pub fn mac_at(file: &[u8], x: &[usize; 384], i: usize) -> Mac
+pub fn mac_at(file: &[u8], x: &[u16; 384], i: usize) -> Mac
     requires { ⌜ SlotIn (now file) (now x) i ⌝ }
     ensures { λ r. ⌜ r ≡ macAnswer (mac (bytesAt (now (file .entry)) (slot i (now (x .entry))))) ⌝ }
 {
     kinds::hexes::read_mac(value_at(file, x, i))
 }
 
-pub fn key_at(file: &[u8], x: &[usize; 384], i: usize) -> Key
+pub fn key_at(file: &[u8], x: &[u16; 384], i: usize) -> Key
     requires { ⌜ SlotIn (now file) (now x) i ⌝ }
     ensures { λ r. ⌜ r ≡ keyAnswer (key (bytesAt (now (file .entry)) (slot i (now (x .entry))))) ⌝ }
 {
     kinds::hexes::read_key(value_at(file, x, i))
 }
 
-pub fn ssid_at(file: &[u8], x: &[usize; 384], i: usize) -> Ssid
+pub fn ssid_at(file: &[u8], x: &[u16; 384], i: usize) -> Ssid
     requires { ⌜ SlotIn (now file) (now x) i ⌝ }
     ensures { λ r. ⌜ r ≡ ssidAnswer (ssid (bytesAt (now (file .entry)) (slot i (now (x .entry))))) ⌝ }
 {
@@ -105,7 +106,7 @@ pub fn ssid_at(file: &[u8], x: &[usize; 384], i: usize) -> Ssid
 }
 
 // How many addresses a list has.
-pub fn count_at(sep: Separator, file: &[u8], x: &[usize; 384], i: usize) -> usize
+pub fn count_at(sep: Separator, file: &[u8], x: &[u16; 384], i: usize) -> usize
     requires { ⌜ SlotIn (now file) (now x) i ⌝ }
     ensures { λ r. ⌜ r ≡ length (plain (addresses sep (bytesAt (now (file .entry)) (slot i (now (x .entry)))))) ⌝ }
 {
@@ -113,7 +114,7 @@ pub fn count_at(sep: Separator, file: &[u8], x: &[usize; 384], i: usize) -> usiz
 }
 
 // The addresses of a list, with zeros behind them.
-pub fn servers_at(sep: Separator, file: &[u8], x: &[usize; 384], i: usize) -> [[u8; 4]; 4]
+pub fn servers_at(sep: Separator, file: &[u8], x: &[u16; 384], i: usize) -> [[u8; 4]; 4]
     requires { ⌜ SlotIn (now file) (now x) i ⌝ }
     ensures { λ r. ⌜ r ≡ rows (addresses sep (bytesAt (now (file .entry)) (slot i (now (x .entry))))) ⌝ }
 {
@@ -121,18 +122,18 @@ pub fn servers_at(sep: Separator, file: &[u8], x: &[usize; 384], i: usize) -> [[
 }
 
 // The entries of a list, by their places in the file.
-pub fn entries_at(file: &[u8], x: &[usize; 384], i: usize) -> Entries
+pub fn entries_at(file: &[u8], x: &[u16; 384], i: usize) -> Entries
     requires { ⌜ SlotIn (now file) (now x) i ⌝ }
     ensures { λ r. ⌜ r ≡ entriesAnswer (slot i (now (x .entry)) .start) (entries (bytesAt (now (file .entry)) (slot i (now (x .entry))))) ⌝ }
 {
-    let start = x[i];
+    let start = wide(x[i]);
     kinds::lists::read_entries(value_at(file, x, i), start)
 }
 
 // The line of a setting, 0 where it is absent.
-pub fn line_at(x: &[usize; 384], i: usize) -> usize
+pub fn line_at(x: &[u16; 384], i: usize) -> usize
     requires { ⌜ (length (now x) ≡ 384) × (i < 128) ⌝ }
     ensures { λ r. ⌜ r ≡ slot i (now (x .entry)) .line ⌝ }
 {
-    x[256 + i]
+    wide(x[256 + i])
 }

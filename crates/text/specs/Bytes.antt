@@ -5,7 +5,7 @@ use lib.Dec.{eqb, leb}
 use Rattle.text.specs.declared.Dialect.{Dialect}
 use Rattle.text.specs.declared.Dialect.the-variants.{Iwd, ConnMan}
 use Rattle.text.specs.declared.Class.{Class}
-use Rattle.text.specs.declared.Class.the-variants.{Blank, Space, Header, Key, Plain, Alphanumeric, Identifier, LowerHex, Entry}
+use Rattle.text.specs.declared.Class.the-variants.{Space, Header, Plain, Alphanumeric, Identifier, LowerHex, Entry}
 
 -- a byte from a to b; every byte but b
 abbrev pub between : ℕ → ℕ → ℕ → Bool
@@ -68,10 +68,8 @@ isEntryByte x = other 44 x && not (isBlank x)
 
 -- the bytes of a class
 abbrev pub memberOf : Class → ℕ → Bool
-memberOf Blank = isBlank
 memberOf Space = λ x. eqb x 32
 memberOf Header = isHeaderByte
-memberOf (Key d) = isKeyByte d
 memberOf Plain = isPlain
 memberOf Alphanumeric = isAlphanumeric
 memberOf Identifier = isIdentifier

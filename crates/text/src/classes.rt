@@ -115,10 +115,8 @@ pub fn member(c: Class, x: u8) -> bool
     ensures { λ r. ⌜ r ≡ memberOf c x ⌝ }
 {
     match c {
-        Class::Blank => is_blank(x),
         Class::Space => x == 32,
         Class::Header => is_header_byte(x),
-        Class::Key(d) => is_key_byte(d, x),
         Class::Plain => is_plain(x),
         Class::Alphanumeric => is_alphanumeric(x),
         Class::Identifier => is_identifier(x),

@@ -18,12 +18,10 @@ pub struct Place {
     pub end: usize,
 }
 
-// The classes of bytes that a run is made of.
+// The classes of bytes that a run is made of; blanks and key bytes have a scan of their own.
 pub enum Class {
-    Blank,
     Space,
     Header,
-    Key(Dialect),
     Plain,
     Alphanumeric,
     Identifier,

@@ -1,15 +1,16 @@
 // Where runs of bytes end: the end of a line, of a run of a class, of a value.
 //
-// A byte or a range of bytes is looked for sixteen at a time: the block test has no early exit, so that it compiles to
-// vector instructions.
+// The end of a line and of printable text are looked for sixteen bytes at a time: the block test has no early exit and, where it
+// can, no bounds but constants, so that it compiles to vector instructions. What stands near is looked for byte by byte.
 ghost use mathlib.Core.Path.{_≡_};
 ghost use mathlib.Core.Bool.{true};
 ghost use Prim.Native.Nat.{_+_, _≤_};
 ghost use lib.ListN.{length};
-ghost use Rattle.text.specs.Bytes.{inLine, between, other, memberOf};
+ghost use Rattle.text.specs.Bytes.{inLine, isBlank, isKeyByte, between, other, memberOf};
 ghost use Rattle.text.specs.Parts.{all};
 ghost use Rattle.text.specs.Scans.{Stop, Scan, Trim};
 use crate::Class;
+use crate::Dialect;
 use crate::classes;
 
 // The end of the run of a class that starts at from.
@@ -20,6 +21,38 @@ pub fn run_end(s: &[u8], from: usize, c: Class) -> usize
     let mut i = from;
     while i < s.len() {
         if classes::member(c, s[i]) {
+            i += 1;
+        } else {
+            return i;
+        }
+    }
+    i
+}
+
+// The end of the blanks from from on.
+pub fn blank_end(s: &[u8], from: usize) -> usize
+    requires { ⌜ from ≤ length (now s) ⌝ }
+    ensures { λ r. ⌜ Stop isBlank (now (s .entry)) from r ⌝ }
+{
+    let mut i = from;
+    while i < s.len() {
+        if classes::is_blank(s[i]) {
+            i += 1;
+        } else {
+            return i;
+        }
+    }
+    i
+}
+
+// The end of the key bytes from from on.
+pub fn key_end(d: Dialect, s: &[u8], from: usize) -> usize
+    requires { ⌜ from ≤ length (now s) ⌝ }
+    ensures { λ r. ⌜ Stop (isKeyByte d) (now (s .entry)) from r ⌝ }
+{
+    let mut i = from;
+    while i < s.len() {
+        if classes::is_key_byte(d, s[i]) {
             i += 1;
         } else {
             return i;
@@ -52,7 +85,8 @@ pub fn trim_end(s: &[u8], from: usize) -> usize
     e
 }
 
-fn find_by_bytes(s: &[u8], from: usize, b: u8) -> usize
+// The first place of the byte b from from on, or the end of s: byte by byte, for a byte that stands near.
+pub fn find_near(s: &[u8], from: usize, b: u8) -> usize
     requires { ⌜ from ≤ length (now s) ⌝ }
     ensures { λ r. ⌜ Stop (other b) (now (s .entry)) from r ⌝ }
 {
@@ -93,10 +127,10 @@ pub fn find(s: &[u8], from: usize, b: u8) -> usize
         if none_in_block(s, i, b) {
             i += 16;
         } else {
-            return find_by_bytes(s, i, b);
+            return find_near(s, i, b);
         }
     }
-    find_by_bytes(s, i, b)
+    find_near(s, i, b)
 }
 
 // The end of the line that starts at from.
@@ -107,7 +141,8 @@ pub fn line_end(s: &[u8], from: usize) -> usize
     find(s, from, 10)
 }
 
-fn range_by_bytes(s: &[u8], from: usize, low: u8, high: u8) -> usize
+// The end of the run of bytes from low to high that starts at from.
+pub fn range_end(s: &[u8], from: usize, low: u8, high: u8) -> usize
     requires { ⌜ from ≤ length (now s) ⌝ }
     ensures { λ r. ⌜ Stop (between low high) (now (s .entry)) from r ⌝ }
 {
@@ -122,16 +157,16 @@ fn range_by_bytes(s: &[u8], from: usize, low: u8, high: u8) -> usize
     i
 }
 
-// Whether the sixteen bytes at i all lie from low to high.
-fn range_in_block(s: &[u8], i: usize, low: u8, high: u8) -> bool
+// Whether the sixteen bytes at i are all printable ASCII.
+fn printable_block(s: &[u8], i: usize) -> bool
     requires { ⌜ i + 16 ≤ length (now s) ⌝ }
-    ensures { λ r. ⌜ (r ≡ true → Scan (between low high) (now (s .entry)) i (i + 16)) ⌝ }
+    ensures { λ r. ⌜ (r ≡ true → Scan (between 32 126) (now (s .entry)) i (i + 16)) ⌝ }
 {
     let e = i + 16;
     let mut hit: u8 = 0;
     let mut j = i;
     while j < e {
-        if classes::within(low, high, s[j]) {} else {
+        if classes::within(32, 126, s[j]) {} else {
             hit = 1;
         }
         j += 1;
@@ -139,18 +174,18 @@ fn range_in_block(s: &[u8], i: usize, low: u8, high: u8) -> bool
     hit == 0
 }
 
-// The end of the run of bytes from low to high that starts at from.
-pub fn range_end(s: &[u8], from: usize, low: u8, high: u8) -> usize
+// The end of the run of printable ASCII, bytes 32 to 126, that starts at from.
+pub fn printable_end(s: &[u8], from: usize) -> usize
     requires { ⌜ from ≤ length (now s) ⌝ }
-    ensures { λ r. ⌜ Stop (between low high) (now (s .entry)) from r ⌝ }
+    ensures { λ r. ⌜ Stop (between 32 126) (now (s .entry)) from r ⌝ }
 {
     let mut i = from;
     while 16 <= s.len() - i {
-        if range_in_block(s, i, low, high) {
+        if printable_block(s, i) {
             i += 16;
         } else {
-            return range_by_bytes(s, i, low, high);
+            return range_end(s, i, 32, 126);
         }
     }
-    range_by_bytes(s, i, low, high)
+    range_end(s, i, 32, 126)
 }

@@ -87,7 +87,7 @@ fn is_text_byte(line: bool, b: u8) -> bool
 fn is_text(s: &[u8], line: bool) -> bool
     ensures { λ r. ⌜ r ≡ text line (now (s .entry)) ⌝ }
 {
-    let mut i = text::scan::range_end(s, 0, 32, 126);
+    let mut i = text::scan::printable_end(s, 0);
     let mut d = next_due(0, 0, 0);
     while i < s.len() {
         let b = s[i];

@@ -17,5 +17,5 @@ header-form-spec =
     (λ c. header-other (c .before .before .before .before .before .before .is-extension .ensures) (c .before .before .before .before .before .if1 .left) (c .before .before .before .before .run-end .ensures) (c .before .before .before .if2 .left) (c .if4 .taken))
     (λ c. search needs)
     (λ c κs. search needs)
-    (λ c. header-rest (c .before .before .before .before .before .before .before .before .is-extension .ensures) (c .before .before .before .before .before .before .before .if1 .left) (c .before .before .before .before .before .before .run-end .ensures) (c .before .before .before .before .before .if2 .left) (c .before .before .if4 .left) (c .before .run-end2 .ensures) (c .if5 .taken))
-    (λ c. header-good (c .before .before .before .before .before .before .before .before .is-extension .ensures) (c .before .before .before .before .before .before .before .if1 .left) (c .before .before .before .before .before .before .run-end .ensures) (c .before .before .before .before .before .if2 .left) (c .before .before .if4 .left) (c .before .run-end2 .ensures) (c .before .before .before .before .if3 .left) (c .if5 .left)))
+    (λ c. header-rest (c .before .before .before .before .before .before .before .before .is-extension .ensures) (c .before .before .before .before .before .before .before .if1 .left) (c .before .before .before .before .before .before .run-end .ensures) (c .before .before .before .before .before .if2 .left) (c .before .before .if4 .left) (c .before .blank-end .ensures) (c .if5 .taken))
+    (λ c. header-good (c .before .before .before .before .before .before .before .before .is-extension .ensures) (c .before .before .before .before .before .before .before .if1 .left) (c .before .before .before .before .before .before .run-end .ensures) (c .before .before .before .before .before .if2 .left) (c .before .before .if4 .left) (c .before .blank-end .ensures) (c .before .before .before .before .if3 .left) (c .if5 .left)))

@@ -16,7 +16,7 @@ walk-spec =
     (λ d file x₀ wanted st₀ at₀ line₀ x st at line. length file + 1 - at)
     (λ c. running-first (c .before .args .d) (c .before .args .file .now) (c .before .args .wanted) (c .before .pre .0) (c .before .pre .1))
     (λ c κs. search needs)
-    (λ c κs. let h = c .before .before .before .loop .inv in (h .known, (stop-low (c .before .line-end .ensures), (c .before .line-end .ensures .within, h .low))))
+    (λ c κs. let h = c .before .before .before .loop .inv in (h .known, (stop-low (c .before .line-end .ensures), (c .before .line-end .ensures .within, (h .low, (h .small, omega (arith, h .high, h .small, c .before .before .loop-test .taken)))))))
     (λ c. search needs)
     (λ c. running-stop (c .before .before .before .before .before .before .before .loop .inv) (c .before .before .before .before .before .before .loop-test .taken) (c .before .before .before .before .before .line-end .ensures) (c .before .before .before .step .ensures) (c .before .stepped .given .1))
     (λ c. search needs)

@@ -16,7 +16,7 @@ is-text-spec =
     (λ s line i₀ d₀ i d. length s - i)
     (λ c κs. search needs)
     (λ c κs. search needs)
-    (λ c. turn-first _ (c .before .range-end .ensures) (c .next-due .ensures))
+    (λ c. turn-first _ (c .before .printable-end .ensures) (c .next-due .ensures))
     (λ c. search needs)
     (λ c κs. search needs)
     (λ c κs. search needs)

@@ -1,4 +1,5 @@
 -- A row whose line is 0 stands for no service.
+use mathlib.Core.Path.{sym, _∙_}
 use borrow.Author.Tests.{eq-eqb, ne-eqb}
 use Rattle.reader.proofs.RuleFault.{obeyed-fault, broken-fault}
 use Rattle.reader.specs.Closing.{slotsFault, slotsRule}
@@ -13,9 +14,10 @@ latest-fault-spec =
     tie.close
     (tie.spec
     (λ c. search needs)
-    (λ c. rw (eq-eqb _ 0 (c .if1 .taken)))
+    (λ c κs. search needs)
+    (λ c. rw (eq-eqb _ 0 (sym (c .before .wide .ensures) ∙ c .if1 .taken)))
     (λ c κs. search needs)
     (λ c. search needs)
     (λ c. search needs)
-    (λ c. rw (ne-eqb _ 0 (c .before .before .before .if1 .left)) (obeyed-fault (slot 80 (c .before .before .before .before .before .before .args .x .now) .line) (slotsRule (c .before .before .before .before .before .before .args .file .now) (c .before .before .before .before .before .before .args .x .now)) (c .before .before .service-rule .ensures) (c .enum-told .given .1)))
-    (λ c. rw (ne-eqb _ 0 (c .before .before .before .before .if1 .left)) (broken-fault (slot 80 (c .before .before .before .before .before .before .before .args .x .now) .line) (slotsRule (c .before .before .before .before .before .before .before .args .file .now) (c .before .before .before .before .before .before .before .args .x .now)) (c .before .before .before .service-rule .ensures) (c .before .rule .given .1))))
+    (λ c. rw (ne-eqb _ 0 (λ e. c .before .before .before .if1 .left (c .before .before .before .before .wide .ensures ∙ e))) (obeyed-fault (slot 80 (c .before .before .before .before .before .before .before .args .x .now) .line) (slotsRule (c .before .before .before .before .before .before .before .args .file .now) (c .before .before .before .before .before .before .before .args .x .now)) (c .before .before .service-rule .ensures) (c .enum-told .given .1)))
+    (λ c. rw (c .before .before .before .before .before .wide .ensures, ne-eqb _ 0 (λ e. c .before .before .before .before .if1 .left (c .before .before .before .before .before .wide .ensures ∙ e))) (broken-fault (slot 80 (c .before .before .before .before .before .before .before .before .args .x .now) .line) (slotsRule (c .before .before .before .before .before .before .before .before .args .file .now) (c .before .before .before .before .before .before .before .before .args .x .now)) (c .before .before .before .service-rule .ensures) (c .before .rule .given .1))))

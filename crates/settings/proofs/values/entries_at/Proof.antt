@@ -1,10 +1,9 @@
 -- The value at the slot, read, and its places counted from its start.
 use Prim.Native.Nat.{ℕ}
-use mathlib.Core.Path.{ap, _∙_}
+use mathlib.Core.Path.{ap₂, _∙_}
 use mathlib.Core.List.{List}
 use Rattle.kinds.specs.Kinds.{entries}
 use Rattle.kinds.specs.Answers.{entriesAnswer}
-use Rattle.reader.specs.Store.{slot}
 use borrow.Author.Needs.{needs}
 use Rattle.settings.proofs.values.entries_at.Statement.{statement}
 use Rattle.settings.proofs.values.entries_at.Tie as tie
@@ -17,4 +16,5 @@ entries-at-spec =
     (λ c. search needs)
     (λ c κs. search needs)
     (λ c κs. search needs)
-    (λ c. c .read-entries .ensures ∙ ap (λ (s : List ℕ). entriesAnswer (slot (c .before .before .before .before .args .i) (c .before .before .before .before .args .x .now) .start) (entries s)) (c .before .value-at .ensures)))
+    (λ c κs. search needs)
+    (λ c. c .read-entries .ensures ∙ ap₂ (λ (a : ℕ) (s : List ℕ). entriesAnswer a (entries s)) (c .before .before .wide .ensures) (c .before .value-at .ensures)))

@@ -19,6 +19,6 @@ find-spec =
     (λ c. search needs)
     (λ c. scan-on (c .before .before .before .loop .inv) (c .before .none-in-block .ensures (c .if1 .taken)))
     (λ c κs. search needs)
-    (λ c. scan-then (c .before .before .before .before .loop .inv) (c .find-by-bytes .ensures))
+    (λ c. scan-then (c .before .before .before .before .loop .inv) (c .find-near .ensures))
     (λ c κs. search needs)
-    (λ c. scan-then (c .before .before .loop .inv) (c .find-by-bytes2 .ensures)))
+    (λ c. scan-then (c .before .before .loop .inv) (c .find-near2 .ensures)))

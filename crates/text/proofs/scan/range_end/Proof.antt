@@ -1,7 +1,8 @@
 use Prim.Native.Nat.{_-_}
 use lib.ListN.{length}
+use mathlib.Core.Path.{sym, _∙_}
 use Rattle.text.specs.Bytes.{between}
-use Rattle.text.specs.Scans.{Scan, scan-none, scan-on, scan-then}
+use Rattle.text.specs.Scans.{Scan, scan-none, scan-turn, scan-stop, scan-end}
 use borrow.Author.Needs.{needs}
 use Rattle.text.proofs.scan.range_end.Statement.{statement}
 use Rattle.text.proofs.scan.range_end.Tie as tie
@@ -17,8 +18,6 @@ range-end-spec =
     (λ c κs. search needs)
     (λ c. search needs)
     (λ c. search needs)
-    (λ c. scan-on (c .before .before .before .loop .inv) (c .before .range-in-block .ensures (c .if1 .taken)))
-    (λ c κs. search needs)
-    (λ c. scan-then (c .before .before .before .before .loop .inv) (c .range-by-bytes .ensures))
-    (λ c κs. search needs)
-    (λ c. scan-then (c .before .before .loop .inv) (c .range-by-bytes2 .ensures)))
+    (λ c. scan-turn (c .before .before .before .before .loop .inv) (search needs) (sym (c .before .within .ensures) ∙ c .if1 .taken))
+    (λ c. scan-stop (c .before .before .before .before .loop .inv) (search needs) (sym (c .before .within .ensures) ∙ c .if1 .left))
+    (λ c. scan-end (c .before .loop .inv) (search needs)))

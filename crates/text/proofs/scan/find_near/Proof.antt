@@ -4,11 +4,11 @@ use Rattle.text.specs.Bytes.{other}
 use Rattle.text.specs.Laws.{is-other, not-other}
 use Rattle.text.specs.Scans.{Scan, scan-none, scan-turn, scan-stop, scan-end}
 use borrow.Author.Needs.{needs}
-use Rattle.text.proofs.scan.find_by_bytes.Statement.{statement}
-use Rattle.text.proofs.scan.find_by_bytes.Tie as tie
+use Rattle.text.proofs.scan.find_near.Statement.{statement}
+use Rattle.text.proofs.scan.find_near.Tie as tie
 
-pub find-by-bytes-spec : {M : Type 1} → statement M
-find-by-bytes-spec =
+pub find-near-spec : {M : Type 1} → statement M
+find-near-spec =
     tie.close
     (tie.spec
     (λ s from b i₀ i. Scan (other b) s from i)

@@ -1,0 +1,23 @@
+use Prim.Native.Nat.{_-_}
+use lib.ListN.{length}
+use mathlib.Core.Path.{sym, _∙_}
+use Rattle.text.specs.Bytes.{isBlank}
+use Rattle.text.specs.Scans.{Scan, scan-none, scan-turn, scan-stop, scan-end}
+use borrow.Author.Needs.{needs}
+use Rattle.text.proofs.scan.blank_end.Statement.{statement}
+use Rattle.text.proofs.scan.blank_end.Tie as tie
+
+pub blank-end-spec : {M : Type 1} → statement M
+blank-end-spec =
+    tie.close
+    (tie.spec
+    (λ s from i₀ i. Scan isBlank s from i)
+    (λ s from i₀ i. length s - i)
+    (λ c. scan-none (search needs))
+    (λ c. search needs)
+    (λ c κs. search needs)
+    (λ c. search needs)
+    (λ c. search needs)
+    (λ c. scan-turn (c .before .before .before .before .loop .inv) (search needs) (sym (c .before .is-blank .ensures) ∙ c .if1 .taken))
+    (λ c. scan-stop (c .before .before .before .before .loop .inv) (search needs) (sym (c .before .is-blank .ensures) ∙ c .if1 .left))
+    (λ c. scan-end (c .before .loop .inv) (search needs)))
