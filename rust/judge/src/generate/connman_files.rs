@@ -1,0 +1,151 @@
+//! Drafts of ConnMan files: legal ones, and ones with any keys at all.
+
+use super::draft::{Draft, Piece};
+use super::keys::{find, GLOBAL_KEYS, SERVICE_KEYS};
+use super::names::good_connman;
+use super::values::{good, static_ipv4};
+use crate::random::Random;
+use crate::reference::Dialect;
+
+/// A legal ConnMan file under a legal name, with 0 to 8 services.
+pub fn valid(random: &mut Random) -> Draft {
+    draft(random, |random| match random.weighted(&[5, 2, 1]) {
+        0 => movable(random),
+        1 => wifi(random),
+        _ => ethernet(random),
+    })
+}
+
+/// A ConnMan file whose lines are legal, with any keys in each service.
+pub fn loose(random: &mut Random) -> Draft {
+    draft(random, |random| {
+        if random.percent(70) {
+            nearly_legal(random)
+        } else {
+            movable(random)
+        }
+    })
+}
+
+fn draft(random: &mut Random, service: impl Fn(&mut Random) -> Vec<Piece>) -> Draft {
+    let count = random.pick(&[0, 1, 1, 1, 1, 1, 1, 1, 1, 2, 2, 2, 3, 4, 5, 7, 8]);
+    let mut groups = Vec::new();
+    for number in 0..count {
+        let mut pieces = service(random);
+        random.shuffle(&mut pieces);
+        let name = identifier(random, number);
+        groups.push([vec![Piece::header(&name)], pieces].concat());
+    }
+    if random.once_in(3) {
+        let place = random.below(groups.len() + 1);
+        groups.insert(place, global(random));
+    }
+    Draft {
+        dialect: Dialect::Connman,
+        name: good_connman(random),
+        pieces: groups.concat(),
+    }
+}
+
+/// A service's header, different for each number below ten.
+pub fn identifier(random: &mut Random, number: usize) -> String {
+    let tail = random.pick(&["", "", "_", "till", "A_b_9", "0123456789012345678901234567890"]);
+    format!("service_{number}{tail}")
+}
+
+fn global(random: &mut Random) -> Vec<Piece> {
+    let keys = GLOBAL_KEYS.iter().filter(|_| random.percent(60)).collect::<Vec<_>>();
+    let settings = keys.into_iter().map(|key| Piece::setting(key.name, good(random, key.kind)));
+    [vec![Piece::header("global")], settings.collect()].concat()
+}
+
+/// A setting with a legal value.
+pub fn setting(random: &mut Random, name: &str) -> Piece {
+    Piece::setting(name, good(random, find(SERVICE_KEYS, name).kind))
+}
+
+fn word(name: &str, value: &str) -> Piece {
+    Piece::setting(name, value.as_bytes().to_vec())
+}
+
+fn settings(random: &mut Random, names: &[&str], percent: usize) -> Vec<Piece> {
+    let chosen: Vec<&str> = names.iter().copied().filter(|_| random.percent(percent)).collect();
+    chosen.into_iter().map(|name| setting(random, name)).collect()
+}
+
+/// A wifi service that iwd has a place for.
+fn movable(random: &mut Random) -> Vec<Piece> {
+    let mut pieces = vec![word("Type", "wifi")];
+    pieces.extend(network_name(random));
+    match random.below(5) {
+        0 => {}
+        1 => pieces.push(word("Security", "none")),
+        2 => pieces.push(setting(random, "Passphrase")),
+        _ => pieces.extend([word("Security", "psk"), setting(random, "Passphrase")]),
+    }
+    match random.below(3) {
+        0 => {}
+        1 => pieces.push(word("IPv4", "dhcp")),
+        _ => pieces.push(Piece::setting("IPv4", static_ipv4(random, true))),
+    }
+    pieces.extend(settings(random, &["IPv6", "Nameservers", "Domain", "Hidden"], 35));
+    pieces
+}
+
+fn network_name(random: &mut Random) -> Vec<Piece> {
+    match random.below(5) {
+        0 => vec![setting(random, "Name"), setting(random, "SSID")],
+        1 => vec![setting(random, "SSID")],
+        _ => vec![setting(random, "Name")],
+    }
+}
+
+/// Any legal wifi service.
+fn wifi(random: &mut Random) -> Vec<Piece> {
+    let mut pieces = vec![word("Type", "wifi")];
+    pieces.extend(network_name(random));
+    let security = random.pick(&["", "psk", "none", "wep", "ieee8021x"]);
+    if !security.is_empty() {
+        pieces.push(word("Security", security));
+    }
+    if security == "psk" || (security != "none" && random.once_in(2)) {
+        pieces.push(setting(random, "Passphrase"));
+    }
+    pieces.extend(settings(random, &["IPv4", "IPv6", "Nameservers", "Domain", "Hidden"], 35));
+    pieces.extend(settings(random, &["IPv6.Privacy", "MAC", "SearchDomains", "Timeservers"], 20));
+    pieces
+}
+
+fn ethernet(random: &mut Random) -> Vec<Piece> {
+    let keys = [
+        "IPv4",
+        "IPv6",
+        "IPv6.Privacy",
+        "MAC",
+        "Nameservers",
+        "SearchDomains",
+        "Timeservers",
+        "Domain",
+    ];
+    [vec![word("Type", "ethernet")], settings(random, &keys, 30)].concat()
+}
+
+/// A service with any keys, most of them such that one rule at a time is broken.
+fn nearly_legal(random: &mut Random) -> Vec<Piece> {
+    let wireless = ["Name", "SSID", "Passphrase", "Security", "Hidden"];
+    match random.below(4) {
+        0 => [ethernet(random), settings(random, &wireless, 25)].concat(),
+        1 => [vec![word("Type", "wifi")], settings(random, &wireless, 40)].concat(),
+        2 => settings(
+            random,
+            &["Type", "Name", "SSID", "Passphrase", "Security", "Hidden", "MAC", "IPv4"],
+            50,
+        ),
+        _ => {
+            let mut pieces = if random.once_in(2) { wifi(random) } else { movable(random) };
+            let place = random.below(pieces.len());
+            pieces.remove(place);
+            pieces
+        }
+    }
+}

@@ -1,0 +1,129 @@
+//! The promises of document 01 put to the library's own answers, without the reference.
+//!
+//! A well-formed record with a place, written with room, reads back as the same record; the files of a move are accepted and have
+//! the service's record; a service that needs a key never becomes one that needs none.
+
+use crate::answer::Answer;
+use crate::case::{Buffers, Case};
+use crate::compare::Difference;
+use crate::entry::Entry;
+use crate::judged::Answers;
+use crate::library::{write_iwd, Input};
+use qewaris::raw;
+
+/// The promises that the library breaks at this case.
+pub fn broken_promises(case: &Case, answers: &Answers) -> Vec<Difference> {
+    let room = Buffers {
+        name: 70,
+        file: 858,
+        dirt: case.buffers().dirt,
+    };
+    match case {
+        Case::Record(case) => record_reads_back(&case.record, &room).into_iter().collect(),
+        Case::File(case) => {
+            let own = own_record(answers, Entry::IwdRecord).and_then(|record| iwd_record_is_written(&record, &room));
+            let moved = own_record(answers, Entry::ServiceRecord).and_then(|record| {
+                let mut input = Input::new(&case.name, &case.file, room.null());
+                let (moved, name, file) = new_bytes(input.move_service(case.service, &room).answer);
+                if moved.number != 0 {
+                    return None;
+                }
+                move_keeps_record(&record, &name, &file).or_else(|| move_is_what_is_written(&record, &name, &file, &room))
+            });
+            own.into_iter().chain(moved).collect()
+        }
+    }
+}
+
+fn broken(promise: &str, number: u8, members: Vec<(&str, String, String)>) -> Option<Difference> {
+    let members = members
+        .into_iter()
+        .map(|(name, judge, library)| (name.to_string(), judge, library))
+        .collect();
+    Some(Difference {
+        place: promise.to_string(),
+        numbers: (0, number),
+        members,
+    })
+}
+
+/// The record that an entry point gave, none where it refused.
+fn own_record(answers: &Answers, asked: Entry) -> Option<raw::Record> {
+    answers.iter().find_map(|(entry, outcome)| match &outcome.answer {
+        Answer::Record(answer) if *entry == asked && answer.number == 0 => Some(answer.record),
+        _ => None,
+    })
+}
+
+/// The new bytes at the front of each buffer, as many as the answer counts.
+fn new_bytes(answer: Answer) -> (raw::Written, Vec<u8>, Vec<u8>) {
+    let Answer::Written { written, name, file } = answer else {
+        panic!("a writer writes")
+    };
+    let front = |bytes: Vec<u8>, count: usize| bytes[..count.min(bytes.len())].to_vec();
+    (written, front(name, written.name_len), front(file, written.file_len))
+}
+
+fn shown(bytes: &[u8]) -> String {
+    format!("\"{}\"", bytes.escape_ascii())
+}
+
+/// "A record so written with room reads back as the same record."
+fn record_reads_back(record: &raw::Record, room: &Buffers) -> Option<Difference> {
+    let (written, name, file) = new_bytes(write_iwd(record, room).answer);
+    if written.number != 0 {
+        return None;
+    }
+    let read = Input::new(&name, &file, false).iwd_record();
+    if read.number == 0 && read.record == *record {
+        return None;
+    }
+    broken(
+        "a record written with room reads back as itself",
+        read.number,
+        vec![("file", "the same record".to_string(), shown(&file))],
+    )
+}
+
+/// Every record of an iwd file has a place in iwd, and reads back.
+fn iwd_record_is_written(record: &raw::Record, room: &Buffers) -> Option<Difference> {
+    let (written, _, _) = new_bytes(write_iwd(record, room).answer);
+    if written.number != 0 {
+        return broken("the record of an iwd file can be written with room", written.number, vec![]);
+    }
+    record_reads_back(record, room)
+}
+
+/// "A service needs a key when its credential is not none"; the moved file is accepted and has the service's record.
+fn move_keeps_record(record: &raw::Record, name: &[u8], file: &[u8]) -> Option<Difference> {
+    let mut input = Input::new(name, file, false);
+    let (reading, read) = (input.check_iwd(), input.iwd_record());
+    let shown = || vec![("name", String::new(), shown(name)), ("file", String::new(), shown(file))];
+    if reading.number != 0 || read.number != 0 {
+        return broken("the files of a move are accepted", reading.number.max(read.number), shown());
+    }
+    if record.credential != 0 && (read.record.credential == 0 || !name.ends_with(b".psk")) {
+        return broken("a service that needs a key never becomes one that needs none", 0, shown());
+    }
+    if read.record != *record {
+        return broken("the files of a move have the service's record", 0, shown());
+    }
+    None
+}
+
+/// "A move writes the file name and the file of the service's record."
+fn move_is_what_is_written(record: &raw::Record, name: &[u8], file: &[u8], room: &Buffers) -> Option<Difference> {
+    let (written, written_name, written_file) = new_bytes(write_iwd(record, room).answer);
+    if written.number == 0 && written_name == name && written_file == file {
+        return None;
+    }
+    let members = vec![
+        ("name", shown(&written_name), shown(name)),
+        ("file", shown(&written_file), shown(file)),
+    ];
+    broken(
+        "a move writes what the writer writes of the service's record",
+        written.number,
+        members,
+    )
+}

@@ -1,0 +1,123 @@
+//! The written iwd file: its name and its bytes, line by line as document 01 lists them.
+
+use super::file_name::{self, lower_hex, Suffix};
+use super::kind::{mask_of, Ipv4};
+use super::record::{Credential, Ipv6, Record};
+use super::refusal::{Fault, Refusal};
+use super::text::escape;
+
+/// A file name and a file, to be written into two buffers.
+#[derive(Clone, Debug, PartialEq, Eq)]
+pub struct Written {
+    pub name: Vec<u8>,
+    pub file: Vec<u8>,
+}
+
+/// How long the two lent buffers are.
+#[derive(Clone, Copy, Debug, PartialEq, Eq)]
+pub struct Room {
+    pub name: usize,
+    pub file: usize,
+}
+
+/// What the writer writes of a record, which is none where it was malformed: "the writer asks 19, 16, 17".
+pub fn write(record: Option<&Record>, room: Room) -> Result<Written, Refusal> {
+    let record = record
+        .filter(|record| record.is_well_formed())
+        .ok_or(Fault::Malformed.without_line())?;
+    if !record.has_place_in_iwd() {
+        return Err(Fault::NoPlace.without_line());
+    }
+    let written = Written {
+        name: name(record),
+        file: file(record),
+    };
+    if written.fits(room) {
+        Ok(written)
+    } else {
+        Err(Fault::ShortBuffer.without_line())
+    }
+}
+
+impl Written {
+    /// "A buffer has room when it is at least as long as what must be written into it."
+    fn fits(&self, room: Room) -> bool {
+        self.name.len() <= room.name && self.file.len() <= room.file
+    }
+}
+
+fn name(record: &Record) -> Vec<u8> {
+    let suffix = if record.needs_key() { Suffix::Psk } else { Suffix::Open };
+    file_name::write_iwd(&record.ssid, suffix)
+}
+
+/// "Groups in the order Settings, Security, IPv4, IPv6, only those with a line."
+fn file(record: &Record) -> Vec<u8> {
+    let groups: [(&[u8], Vec<Vec<u8>>); 4] = [
+        (b"[Settings]", settings_lines(record)),
+        (b"[Security]", security_lines(record)),
+        (b"[IPv4]", ipv4_lines(record)),
+        (b"[IPv6]", ipv6_lines(record)),
+    ];
+    let mut file = Vec::new();
+    for (header, lines) in groups.into_iter().filter(|(_, lines)| !lines.is_empty()) {
+        for line in std::iter::once(header.to_vec()).chain(lines) {
+            file.extend(line);
+            file.push(b'\n');
+        }
+    }
+    file
+}
+
+fn setting(key: &str, value: &[u8]) -> Vec<u8> {
+    [key.as_bytes(), b"=", value].concat()
+}
+
+/// "Hidden=true if hidden."
+fn settings_lines(record: &Record) -> Vec<Vec<u8>> {
+    record.hidden.then(|| setting("Hidden", b"true")).into_iter().collect()
+}
+
+/// "Passphrase or PreSharedKey (lower-case hex)."
+fn security_lines(record: &Record) -> Vec<Vec<u8>> {
+    match &record.credential {
+        Credential::None => vec![],
+        Credential::Passphrase(passphrase) => vec![setting("Passphrase", &escape(passphrase))],
+        Credential::Key(key) => vec![setting("PreSharedKey", &lower_hex(key))],
+    }
+}
+
+/// "Address, Netmask, Gateway if static; DNS with single spaces; DomainName."
+fn ipv4_lines(record: &Record) -> Vec<Vec<u8>> {
+    let mut lines = Vec::new();
+    if let Ipv4::Static {
+        address,
+        prefix_length,
+        gateway: Some(gateway),
+    } = record.ipv4
+    {
+        lines.push(setting("Address", &dotted(address)));
+        lines.push(setting("Netmask", &dotted(mask_of(prefix_length))));
+        lines.push(setting("Gateway", &dotted(gateway)));
+    }
+    if !record.servers.is_empty() {
+        let servers: Vec<Vec<u8>> = record.servers.iter().map(|&server| dotted(server)).collect();
+        lines.push(setting("DNS", &servers.join(&b' ')));
+    }
+    if !record.domain.is_empty() {
+        lines.push(setting("DomainName", &escape(&record.domain)));
+    }
+    lines
+}
+
+/// "Enabled=false if off."
+fn ipv6_lines(record: &Record) -> Vec<Vec<u8>> {
+    match record.ipv6 {
+        Ipv6::Off => vec![setting("Enabled", b"false")],
+        Ipv6::Auto => vec![],
+    }
+}
+
+fn dotted([a, b, c, d]: [u8; 4]) -> Vec<u8> {
+    format!("{a}.{b}.{c}.{d}").into_bytes()
+}
