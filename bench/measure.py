@@ -1,0 +1,85 @@
+"""Runs the measured programs: instructions by callgrind, nanoseconds by the clock, bytes of stack."""
+
+import os
+import re
+import subprocess
+import sys
+
+from inputs import inputs
+
+
+def stop(message):
+    sys.exit(f"bench: {message}")
+
+
+class Bench:
+    """The programs in `folder`/bin on the files in `folder`/inputs. What was counted once is not counted again."""
+
+    # inih reads at most 200 bytes of a line, and the long DomainName has more.
+    CANNOT_LOAD = {("inih", "strings.psk")}
+
+    SWEEPS = 8
+
+    def __init__(self, folder):
+        self.folder = folder
+        self.inputs = inputs()
+        self.counted = {}
+        self.timed = {}
+
+    def program(self, name):
+        return os.path.join(self.folder, "bin", name)
+
+    def path(self, file):
+        return os.path.join(self.folder, "inputs", file)
+
+    def run(self, *command):
+        done = subprocess.run(command, capture_output=True, text=True, check=False)
+        if done.returncode:
+            stop(f"{' '.join(command)} failed:\n{done.stderr}")
+        return done
+
+    def loads(self, program, file):
+        """Whether a parser loads a file. That it cannot must be known beforehand, and it must give every value."""
+        if (program, file) in self.CANNOT_LOAD:
+            return False
+        self.holds_all(program, file)
+        return True
+
+    def holds_all(self, program, file, *task):
+        """Stops unless the program accepts the file and gives as many values as the file has settings."""
+        values = int(self.run(self.program(program), "once", self.path(file), *task).stdout)
+        expected = self.inputs[file].settings
+        if values != expected:
+            stop(f"{program} gives {values} values of {file}, which has {expected}")
+
+    def collected(self, program, file, task, times):
+        """The instructions of a whole run with so many repetitions."""
+        done = self.run("valgrind", "--tool=callgrind", "--callgrind-out-file=/dev/null",
+                        self.program(program), str(times), self.path(file), *task)
+        return int(re.search(r"Collected : (\d+)", done.stderr).group(1))
+
+    def instructions(self, program, file, *task):
+        """For one file: the difference between n and 2n repetitions, over n, so that starting up cancels out."""
+        key = (program, file, task)
+        if key not in self.counted:
+            n = max(10, 20000 // self.inputs[file].bytes)
+            once = self.collected(program, file, task, n)
+            twice = self.collected(program, file, task, 2 * n)
+            self.counted[key] = (twice - once) / n
+        return self.counted[key]
+
+    def time_all(self, works):
+        """Times each work, a program with a file and perhaps a task, in several sweeps, so that one busy moment of the
+        machine does not fall on all rounds of a work; the least counts."""
+        for _ in range(self.SWEEPS):
+            for program, file, *task in works:
+                spent = float(self.run(self.program(program), "time", self.path(file), *task).stdout)
+                key = (program, file, *task)
+                self.timed[key] = min(spent, self.timed.get(key, spent))
+
+    def nanoseconds(self, *work):
+        """For one file: the least that the sweeps found."""
+        return self.timed[work]
+
+    def stack(self, file, function):
+        return int(self.run(self.program("stack"), self.path(file), function).stdout)
