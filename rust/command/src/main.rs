@@ -1,0 +1,71 @@
+//! The command `qewaris`: checks, shows, moves and explains the network files of iwd and ConnMan.
+//!
+//! What is good and what is not the library says; this is the tool around it.
+
+mod arguments;
+mod catalogue;
+mod check;
+mod diagnosis;
+mod explain;
+mod help;
+mod input;
+mod json;
+mod layout;
+mod messages;
+mod moving;
+mod output;
+mod placing;
+mod report;
+mod secrets;
+mod show;
+mod visible;
+mod walk;
+
+use arguments::Request;
+use output::Output;
+use std::env;
+use std::ffi::OsString;
+use std::io::{self, Write};
+use std::process::ExitCode;
+
+/// How a run ends; the numbers are the exit statuses.
+#[derive(Clone, Copy, Debug, PartialEq, Eq)]
+pub enum Outcome {
+    Good = 0,
+    /// A file was refused, or a move was.
+    Refused = 1,
+    /// A file could not be read or written.
+    Unreadable = 2,
+    /// The command was not used as it is meant.
+    Usage = 3,
+}
+
+fn main() -> ExitCode {
+    let words: Vec<OsString> = env::args_os().skip(1).collect();
+    let mut output = Output::standard();
+    let done = run(&words, &mut output).and_then(|outcome| output.flush().map(|()| outcome));
+    match done {
+        Ok(outcome) => ExitCode::from(outcome as u8),
+        Err(error) => {
+            if error.kind() != io::ErrorKind::BrokenPipe {
+                let _ = writeln!(io::stderr(), "qewaris: the output cannot be written: {}", input::plainly(&error));
+            }
+            ExitCode::from(Outcome::Unreadable as u8)
+        }
+    }
+}
+
+fn run(words: &[OsString], output: &mut Output) -> io::Result<Outcome> {
+    match arguments::parse(words) {
+        Ok(Request::Help(topic)) => output.line(help::help(topic).trim_end()).map(|()| Outcome::Good),
+        Ok(Request::Version) => output.line(help::VERSION).map(|()| Outcome::Good),
+        Ok(Request::Check { paths, verbose }) => check::run(&paths, verbose, output),
+        Ok(Request::Show(request)) => show::run(&request, output),
+        Ok(Request::Move(request)) => moving::run(&request, output),
+        Ok(Request::Explain(number)) => explain::run(number, output),
+        Err((sentence, topic)) => {
+            output.error(&format!("{sentence}. Try {}", help::asks_for(topic)))?;
+            Ok(Outcome::Usage)
+        }
+    }
+}

@@ -1,0 +1,108 @@
+//! The table that a person reads.
+
+use super::settings::{hex, Group};
+use super::value::Hiding;
+use super::{Service, Shown};
+use crate::catalogue::{counted, Dialect};
+use crate::output::{Output, Style};
+use crate::report::shown_path;
+use crate::visible::visible;
+use qewaris::{Credential, Ipv4, Ipv6, JoinRecord};
+use std::io;
+
+/// How wide the column of the keys is: the longest key and two blanks.
+const KEYS: usize = 24;
+
+pub fn print(shown: &Shown<'_>, output: &mut Output) -> io::Result<()> {
+    let counts = &shown.counts;
+    let what = match shown.dialect {
+        Dialect::Iwd => format!("iwd, {}", counted(counts.settings, "setting")),
+        Dialect::Connman => {
+            let services = counted(counts.services, "service");
+            format!("ConnMan, {}, {services}", counted(counts.settings, "setting"))
+        }
+    };
+    let title = output.styled(Style::Bold, &shown_path(shown.path));
+    output.line(&format!("{title} ({what})"))?;
+    for group in &shown.groups {
+        print_group(group, group.name, &shown.hiding, output)?;
+    }
+    if let Some(record) = &shown.record {
+        print_record(record, &shown.hiding, output)?;
+    }
+    shown.services.iter().try_for_each(|service| print_service(service, shown, output))
+}
+
+/// A group, if it has a setting.
+fn print_group(group: &Group, title: &str, hiding: &Hiding, output: &mut Output) -> io::Result<()> {
+    let rows: Vec<(&str, String)> = group
+        .rows
+        .iter()
+        .filter_map(|(key, value)| Some((*key, value.shown(hiding)?)))
+        .collect();
+    if rows.is_empty() {
+        return Ok(());
+    }
+    print_rows(title, &rows, output)
+}
+
+fn print_rows(title: &str, rows: &[(&str, String)], output: &mut Output) -> io::Result<()> {
+    let title = output.styled(Style::Bold, title);
+    output.line(&format!("\n  {title}"))?;
+    for (key, value) in rows {
+        output.line(&format!("    {key:KEYS$}{value}"))?;
+    }
+    Ok(())
+}
+
+fn print_service(service: &Service, shown: &Shown<'_>, output: &mut Output) -> io::Result<()> {
+    let title = format!("service {}, [{}] on line {}", service.number, service.group, service.line);
+    print_group(&service.settings, &title, &shown.hiding, output)?;
+    match &service.record {
+        Ok(record) => print_record(record, &shown.hiding, output),
+        Err(finding) => {
+            let line = finding.line.map_or(String::new(), |line| format!("line {line}: "));
+            let reason = format!("{line}{} [{}]", finding.sentence, finding.number);
+            print_rows("join record", &[("none", reason)], output)
+        }
+    }
+}
+
+fn print_record(record: &JoinRecord, hiding: &Hiding, output: &mut Output) -> io::Result<()> {
+    let servers: Vec<String> = record.name_servers.iter().map(ToString::to_string).collect();
+    let mut rows = vec![("network name", visible(&record.name))];
+    match &record.credential {
+        Credential::None => rows.push(("credential", "none, the network is open".to_string())),
+        Credential::Passphrase(passphrase) => rows.push(("passphrase", hiding.secret(passphrase))),
+        Credential::Key(key) => rows.push(("key", hiding.secret(hex(key).as_bytes()))),
+    }
+    rows.extend([
+        ("hidden", if record.hidden { "yes" } else { "no" }.to_string()),
+        ("IPv4", ipv4(&record.ipv4)),
+        ("name servers", or_none(servers.join(", "))),
+        ("domain", or_none(hiding.text(&record.domain))),
+        ("IPv6", if record.ipv6 == Ipv6::Off { "off" } else { "auto" }.to_string()),
+    ]);
+    print_rows("join record", &rows, output)
+}
+
+fn or_none(text: String) -> String {
+    if text.is_empty() {
+        "none".to_string()
+    } else {
+        text
+    }
+}
+
+fn ipv4(ipv4: &Ipv4) -> String {
+    match ipv4 {
+        Ipv4::Dhcp => "dhcp".to_string(),
+        Ipv4::Off => "off".to_string(),
+        Ipv4::Static(fixed) => {
+            let gateway = fixed
+                .gateway
+                .map_or("no gateway".to_string(), |gateway| format!("gateway {gateway}"));
+            format!("{}/{}, {gateway}", fixed.address, fixed.prefix_length)
+        }
+    }
+}

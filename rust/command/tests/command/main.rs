@@ -1,0 +1,12 @@
+//! The built command as a person runs it: words, exit statuses, both streams, and the files on disk afterwards.
+
+mod check;
+mod common;
+mod examples;
+mod folders;
+mod interrupted;
+mod moving;
+mod secrets;
+mod show;
+mod terminal;
+mod usage;

@@ -1,0 +1,170 @@
+//! `qewaris show`, as a table and as JSON.
+
+use crate::common::json::{read, text, Value};
+use crate::common::{Folder, DESK, SHOP};
+
+const OFFICE: &str = "[global]\nName = Office\nDescription = Two tills\n[service_a]\nType = wifi\nSSID = 436166e9\n\
+Security = none\nDomain = shop.example\n[service_b]\nType = ethernet\nMAC = 02:00:5E:10:00:01\nTimeservers = a,b\n\
+IPv6.Privacy = prefered\nIPv4 = off\n";
+
+#[test]
+fn a_table_has_settings_and_record() {
+    let folder = Folder::new("table");
+    folder.write("shop.config", SHOP);
+    let told = "\
+shop.config (ConnMan, 7 settings, 1 service)
+
+  service 1, [service_till] on line 1
+    Type                    wifi
+    IPv4                    10.20.0.14/24/10.20.0.1
+    IPv6                    off
+    Nameservers             10.20.0.2, 10.20.0.3
+    Name                    Desk 4
+    Passphrase              ........... (hidden, --secrets shows it)
+    Hidden                  true
+
+  join record
+    network name            Desk 4
+    passphrase              ........... (hidden, --secrets shows it)
+    hidden                  yes
+    IPv4                    10.20.0.14/24, gateway 10.20.0.1
+    name servers            10.20.0.2, 10.20.0.3
+    domain                  none
+    IPv6                    off
+";
+    folder.run(&["show", "shop.config"]).gives(0, told, "");
+    folder.run(&["show", "shop.config", "1"]).gives(0, told, "");
+    let open = told.replace("........... (hidden, --secrets shows it)", "low\\tide 88");
+    folder.run(&["show", "--secrets", "shop.config"]).gives(0, &open, "");
+}
+
+#[test]
+fn an_iwd_file_is_shown_by_its_groups() {
+    let folder = Folder::new("iwd-table");
+    folder.write("Desk 4.psk", DESK);
+    let run = folder.run(&["show", "Desk 4.psk", "--secrets"]);
+    assert_eq!((run.code, run.err.as_str()), (Some(0), ""));
+    assert!(run
+        .out
+        .starts_with("Desk 4.psk (iwd, 7 settings)\n\n  Settings\n    Hidden                  true\n"));
+    assert!(
+        run.out.contains("    Passphrase              low\\\\tide 88\n"),
+        "as it stands in the file"
+    );
+    assert!(run.out.contains("    passphrase              low\\tide 88\n"), "as it is meant");
+    folder.write("Desk.open", "");
+    let run = folder.run(&["show", "Desk.open"]);
+    assert!(run.out.contains("    credential              none, the network is open\n"));
+    assert_eq!(run.code, Some(0));
+}
+
+#[test]
+fn a_service_without_a_record_is_shown_with_the_reason() {
+    let folder = Folder::new("no-record");
+    folder.write("office.config", OFFICE);
+    let run = folder.run(&["show", "office.config"]);
+    assert_eq!((run.code, run.err.as_str()), (Some(0), ""));
+    assert!(run.out.contains("  global\n    Name                    Office\n"));
+    assert!(run.out.contains("    network name            Caf\\xe9\n"));
+    let reason = "    none                    line 10: [service_b] is ethernet, which has no place in iwd; only wifi moves [16]\n";
+    assert!(run.out.contains(reason), "{}", run.out);
+    assert!(!folder.run(&["show", "office.config", "1"]).out.contains("ethernet"));
+}
+
+#[test]
+fn a_refused_file_is_told_as_by_check() {
+    let folder = Folder::new("show-refused");
+    folder.write("Desk.psk", "[Security]\nPassphrase=lowtide\n");
+    let told = folder.run(&["check", "Desk.psk"]).out;
+    folder.run(&["show", "Desk.psk"]).gives(1, &told, "");
+    folder.write("shop.config", SHOP);
+    for number in ["0", "2", "99999999999999999999"] {
+        let run = folder.run(&["show", "shop.config", number]);
+        assert_eq!((run.code, run.err.as_str()), (Some(1), ""));
+        assert!(run.out.starts_with("shop.config: error: There is no service "), "{}", run.out);
+        assert!(run.out.ends_with("; the file has 1 [18]\n"), "{}", run.out);
+    }
+}
+
+#[test]
+fn an_iwd_file_has_no_services() {
+    let folder = Folder::new("iwd-service");
+    folder.write("Desk.open", "");
+    let told = "qewaris: An iwd file has no services, so no number of one can be given. Try qewaris show --help\n";
+    folder.run(&["show", "Desk.open", "1"]).gives(3, "", told);
+}
+
+#[test]
+fn json_has_every_member() {
+    let folder = Folder::new("json");
+    folder.write("shop.config", SHOP);
+    let run = folder.run(&["show", "--json", "shop.config"]);
+    assert_eq!((run.code, run.err.as_str()), (Some(0), ""));
+    let value = read(&run.out);
+    assert_eq!(*value.at("format"), Value::Number(1));
+    assert_eq!(*value.at("file"), text("shop.config"));
+    assert_eq!(*value.at("kind"), text("connman"));
+    assert_eq!(*value.at("refusal"), Value::Null);
+    assert_eq!(
+        (value.at("setting_count"), value.at("service_count")),
+        (&Value::Number(7), &Value::Number(1))
+    );
+    let service = value.at("services/0");
+    assert_eq!((service.at("number"), service.at("line")), (&Value::Number(1), &Value::Number(1)));
+    assert_eq!(*service.at("group"), text("service_till"));
+    assert_eq!(*service.at("settings/Nameservers/1"), text("10.20.0.3"));
+    assert_eq!(*service.at("settings/IPv6.Privacy"), Value::Null);
+    assert_eq!(*service.at("settings/Passphrase"), Value::Null);
+    assert_eq!(*service.at("settings/Passphrase_hidden"), Value::Bool(true));
+    assert_eq!(*service.at("record/name_hex"), text("4465736b2034"));
+    assert_eq!(*service.at("record/credential"), text("passphrase"));
+    assert_eq!(*service.at("record/passphrase_hidden"), Value::Bool(true));
+    assert_eq!(*service.at("record/key_hidden"), Value::Bool(false));
+    assert_eq!(*service.at("record/ipv4/prefix_length"), Value::Number(24));
+    assert_eq!(*service.at("record_refusal"), Value::Null);
+    let open = read(&folder.run(&["show", "--json", "--secrets", "shop.config"]).out);
+    assert_eq!(*open.at("services/0/record/passphrase"), text("low\\tide 88"));
+    assert_eq!(*open.at("services/0/settings/Passphrase_hidden"), Value::Bool(false));
+}
+
+#[test]
+fn json_of_odd_bytes_is_valid() {
+    let folder = Folder::new("json-odd");
+    folder.write("office.config", OFFICE);
+    let value = read(&folder.run(&["show", "--json", "office.config"]).out);
+    assert_eq!(*value.at("global/Description"), text("Two tills"));
+    assert_eq!(*value.at("services/0/record/name"), Value::Null);
+    assert_eq!(*value.at("services/0/record/name_hex"), text("436166e9"));
+    assert_eq!(*value.at("services/1/record"), Value::Null);
+    assert_eq!(*value.at("services/1/record_refusal/number"), Value::Number(16));
+    assert_eq!(*value.at("services/1/settings/IPv6.Privacy"), text("preferred"));
+    assert_eq!(*value.at("services/1/settings/MAC"), text("02:00:5e:10:00:01"));
+    let odd = "[IPv4]\nDomainName=\u{1}\"\\\\\\n\u{e9}\u{1f600}\u{7f}\u{2028}\n[Security]\nPreSharedKey=";
+    folder.write("Desk.psk", format!("{odd}{}\n", "5A".repeat(32)));
+    let value = read(&folder.run(&["show", "--json", "Desk.psk"]).out);
+    assert_eq!(*value.at("record/domain"), text("\u{1}\"\\\n\u{e9}\u{1f600}\u{7f}\u{2028}"));
+    assert_eq!(
+        *value.at("settings/IPv4/DomainName"),
+        text("\u{1}\"\\\\\\n\u{e9}\u{1f600}\u{7f}\u{2028}")
+    );
+    assert_eq!(*value.at("record/key"), Value::Null);
+    let open = read(&folder.run(&["show", "--json", "--secrets", "Desk.psk"]).out);
+    assert_eq!(*open.at("record/key"), text(&"5a".repeat(32)));
+}
+
+#[test]
+fn json_of_a_refused_file_tells_the_refusal() {
+    let folder = Folder::new("json-refused");
+    folder.write("Desk.psk", "[Security]\nPassphrase=lowtide\n");
+    let run = folder.run(&["show", "--json", "Desk.psk"]);
+    assert_eq!((run.code, run.err.as_str()), (Some(1), ""));
+    let value = read(&run.out);
+    assert_eq!(*value.at("refusal/number"), Value::Number(12));
+    assert_eq!(*value.at("refusal/line"), Value::Number(2));
+    assert_eq!(*value.at("refusal/sentence"), text("Passphrase has 7 bytes; it needs 8 to 63"));
+    folder.write("Desk.psk", "");
+    assert_eq!(
+        *read(&folder.run(&["show", "--json", "Desk.psk"]).out).at("refusal/line"),
+        Value::Null
+    );
+}
