@@ -95,3 +95,17 @@ pub fn read_addresses(s: &[u8], sep: Separator) -> [[u8; 4]; 4]
     }
     list
 }
+
+// Stores the addresses that s lists, and 0.0.0.0 up to four, and returns how many it lists; 0.0.0.0 alone and 0 where it is broken.
+pub fn read_list(out: &mut [[u8; 4]; 4], s: &[u8], sep: Separator) -> usize
+    ensures { λ r. ⌜ (r ≡ length (plain (addresses sep (now (s .entry))))) × (now (out .exit) ≡ rows (addresses sep (now (s .entry)))) ⌝ }
+{
+    let mut list = [[0u8; 4]; 4];
+    let n = fill_addresses(&mut list, s, sep);
+    if n == 0 {
+        *out = [[0u8; 4]; 4];
+        return 0;
+    }
+    *out = list;
+    n
+}

@@ -1,5 +1,10 @@
 // A join record from its parts, by the rows of the table of places.
 ghost use mathlib.Core.Path.{_≡_};
+ghost use lib.ListN.{length};
+ghost use Rattle.text.specs.Options.{plain};
+ghost use Rattle.addresses.specs.Addresses.{addresses};
+ghost use Rattle.reader.specs.Store.{slot};
+ghost use Rattle.settings.specs.Values.{bytesAt};
 ghost use Rattle.names.specs.Names.{networkOf};
 ghost use Rattle.rules.specs.Asking.{iwdEntry};
 ghost use Rattle.rules.specs.Reading.{sectionsOf};
@@ -58,16 +63,16 @@ fn assemble(
     }
 }
 
-// The record of an accepted iwd file.
-pub fn iwd_join(name: &[u8], file: &[u8], x: &[u16; 384]) -> JoinRecord
-    requires { ⌜ IwdRows (now file) (now x) ⌝ }
+// The record of an accepted iwd file, which has count name servers.
+pub fn iwd_join(name: &[u8], file: &[u8], x: &[u16; 384], count: usize) -> JoinRecord
+    requires rows { ⌜ IwdRows (now file) (now x) ⌝ }
+    requires counted { ⌜ count ≡ length (plain (addresses Separator.Spaces (bytesAt (now file) (slot 37 (now x))))) ⌝ }
     ensures { λ r. ⌜ r ≡ laid (iwdJoin (networkName (networkOf (now (name .entry)))) (iwdEntry (sectionsOf Dialect.Iwd (now (file .entry))))) ⌝ }
 {
     let network = names::read_iwd_name(name);
     let login = parts::iwd_login(file, x);
     let hidden = parts::hidden_at(Dialect::Iwd, file, x, 2);
     let numbers = parts::iwd_numbers(file, x);
-    let count = values::count_at(Separator::Spaces, file, x, 37);
     let domain = parts::domain_at(Dialect::Iwd, file, x, 38);
     let ipv6 = parts::iwd_ipv6(file, x);
     let bytes = network.bytes;
@@ -83,16 +88,16 @@ pub fn iwd_join(name: &[u8], file: &[u8], x: &[u16; 384]) -> JoinRecord
     )
 }
 
-// The record of the service asked for, which has one.
-pub fn service_join(file: &[u8], x: &[u16; 384]) -> JoinRecord
-    requires { ⌜ RowOf (now file) (now x) 96 Group.Service ⌝ }
+// The record of the service asked for, which has one, and count name servers.
+pub fn service_join(file: &[u8], x: &[u16; 384], count: usize) -> JoinRecord
+    requires row { ⌜ RowOf (now file) (now x) 96 Group.Service ⌝ }
+    requires counted { ⌜ count ≡ length (plain (addresses Separator.Comma (bytesAt (now file) (slot 102 (now x))))) ⌝ }
     ensures { λ r. ⌜ Typed (now (file .entry)) (now (x .entry)) 96 Group.Service (λ at. laid (serviceJoin at)) r ⌝ }
 {
     let name = parts::service_name(file, x);
     let login = parts::service_login(file, x);
     let hidden = parts::hidden_at(Dialect::ConnMan, file, x, 110);
     let numbers = values::ipv4_at(file, x, 98);
-    let count = values::count_at(Separator::Comma, file, x, 102);
     let domain = parts::domain_at(Dialect::ConnMan, file, x, 105);
     let ipv6 = parts::service_ipv6(file, x);
     let bytes = name.bytes;

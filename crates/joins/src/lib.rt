@@ -108,8 +108,8 @@ fn iwd_found(name: &[u8], file: &[u8], x: &[u16; 384], servers: &mut [[u8; 4]; 4
     ensures { λ r. ⌜ (r ≡ record { answer = Answer.Good; «record» = laid (iwdJoin (networkName (networkOf (now (name .entry)))) (iwdEntry (sectionsOf Dialect.Iwd (now (file .entry))))) })
         × (now (servers .exit) ≡ laidServers (iwdJoin (networkName (networkOf (now (name .entry)))) (iwdEntry (sectionsOf Dialect.Iwd (now (file .entry)))))) ⌝ }
 {
-    let record = joining::iwd_join(name, file, x);
-    *servers = values::servers_at(Separator::Spaces, file, x, 37);
+    let count = values::list_at(servers, Separator::Spaces, file, x, 37);
+    let record = joining::iwd_join(name, file, x, count);
     answered(record)
 }
 
@@ -135,8 +135,8 @@ fn service_found(file: &[u8], x: &[u16; 384], servers: &mut [[u8; 4]; 4]) -> Rec
     match hindrance {
         Hindrance::At(line) => refused(Refusal::NoPlace, line),
         Hindrance::Nothing => {
-            let record = joining::service_join(file, x);
-            *servers = values::servers_at(Separator::Comma, file, x, 102);
+            let count = values::list_at(servers, Separator::Comma, file, x, 102);
+            let record = joining::service_join(file, x, count);
             answered(record)
         }
     }

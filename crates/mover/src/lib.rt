@@ -25,8 +25,9 @@ fn move_found(file: &[u8], x: &[u16; 384], name_out: &mut [u8], file_out: &mut [
     if 0 < line {
         return writer::refused(Refusal::NoPlace, line);
     }
-    let record = joins::joining::service_join(file, x);
-    let servers = values::servers_at(Separator::Comma, file, x, 102);
+    let mut servers = [[0u8; 4]; 4];
+    let count = values::list_at(&mut servers, Separator::Comma, file, x, 102);
+    let record = joins::joining::service_join(file, x, count);
     writer::write_placed(record, servers, name_out, file_out)
 }
 

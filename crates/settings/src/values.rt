@@ -121,6 +121,21 @@ pub fn servers_at(sep: Separator, file: &[u8], x: &[u16; 384], i: usize) -> [[u8
     addresses::lists::read_addresses(value_at(file, x, i), sep)
 }
 
+// Stores the addresses of a list, with zeros behind them, and returns how many it has.
+pub fn list_at(
+    out: &mut [[u8; 4]; 4],
+    sep: Separator,
+    file: &[u8],
+    x: &[u16; 384],
+    i: usize,
+) -> usize
+    requires { ⌜ SlotIn (now file) (now x) i ⌝ }
+    ensures { λ r. ⌜ (r ≡ length (plain (addresses sep (bytesAt (now (file .entry)) (slot i (now (x .entry)))))))
+        × (now (out .exit) ≡ rows (addresses sep (bytesAt (now (file .entry)) (slot i (now (x .entry)))))) ⌝ }
+{
+    addresses::lists::read_list(out, value_at(file, x, i), sep)
+}
+
 // The entries of a list, by their places in the file.
 pub fn entries_at(file: &[u8], x: &[u16; 384], i: usize) -> Entries
     requires { ⌜ SlotIn (now file) (now x) i ⌝ }

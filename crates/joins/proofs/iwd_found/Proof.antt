@@ -17,7 +17,7 @@ unfolding keysOf
 iwd-found-spec =
     tie.close
     (tie.spec
-    (λ c κs. search needs)
     (λ c κs. slot-in (ipv4-row (c .before .before .before .pre)) (word "DNS") 4 refl (omega arith))
+    (λ c κs. (c .before .before .before .before .pre, c .list-at .ensures .0))
     (λ c κs. search needs)
-    (λ c. (rw (← c .before .before .iwd-join .ensures) (c .answered .ensures), iwd-servers (networkName (networkOf (c .before .before .before .before .before .args .name .now))) (c .before .before .before .before .before .pre) (c .before .servers-at .ensures))))
+    (λ c. (rw (← c .before .iwd-join .ensures) (c .answered .ensures), iwd-servers (networkName (networkOf (c .before .before .before .before .before .before .args .name .now))) (c .before .before .before .before .before .before .pre) (c .before .before .list-at .ensures .1))))

@@ -15,11 +15,10 @@ iwd-join-spec =
     tie.close
     (tie.spec
     (λ c κs. search needs)
-    (λ c κs. (slot-in (security-row (c .before .before .before .pre)) (word "Passphrase") 0 refl (omega arith), slot-in (security-row (c .before .before .before .pre)) (word "PreSharedKey") 1 refl (omega arith)))
-    (λ c κs. slot-in (general-row (c .before .before .before .before .pre)) (word "Hidden") 1 refl (omega arith))
-    (λ c κs. (slot-in (ipv4-row (c .before .before .before .before .before .pre)) (word "Address") 0 refl (omega arith), (slot-in (ipv4-row (c .before .before .before .before .before .pre)) (word "Gateway") 1 refl (omega arith), slot-in (ipv4-row (c .before .before .before .before .before .pre)) (word "Netmask") 3 refl (omega arith))))
-    (λ c κs. slot-in (ipv4-row (c .before .before .before .before .before .before .pre)) (word "DNS") 4 refl (omega arith))
-    (λ c κs. slot-in (ipv4-row (c .before .before .before .before .before .before .before .pre)) (word "DomainName") 5 refl (omega arith))
-    (λ c κs. slot-in (ipv6-row (c .before .before .before .before .before .before .before .before .pre)) (word "Enabled") 0 refl (omega arith))
+    (λ c κs. (slot-in (security-row (c .before .before .before .pre .0)) (word "Passphrase") 0 refl (omega arith), slot-in (security-row (c .before .before .before .pre .0)) (word "PreSharedKey") 1 refl (omega arith)))
+    (λ c κs. slot-in (general-row (c .before .before .before .before .pre .0)) (word "Hidden") 1 refl (omega arith))
+    (λ c κs. (slot-in (ipv4-row (c .before .before .before .before .before .pre .0)) (word "Address") 0 refl (omega arith), (slot-in (ipv4-row (c .before .before .before .before .before .pre .0)) (word "Gateway") 1 refl (omega arith), slot-in (ipv4-row (c .before .before .before .before .before .pre .0)) (word "Netmask") 3 refl (omega arith))))
+    (λ c κs. slot-in (ipv4-row (c .before .before .before .before .before .before .pre .0)) (word "DomainName") 5 refl (omega arith))
+    (λ c κs. slot-in (ipv6-row (c .before .before .before .before .before .before .before .pre .0)) (word "Enabled") 0 refl (omega arith))
     (λ c κs. search needs)
-    (λ c. iwd-joined (c .before .before .before .before .before .before .before .before .before .before .before .args .name .now) (c .before .before .before .before .before .before .before .before .before .before .before .pre) (c .before .before .before .before .before .before .before .before .read-iwd-name .ensures) (c .before .before .before .before .before .before .before .iwd-login .ensures) (c .before .before .before .before .before .before .hidden-at .ensures) (c .before .before .before .before .before .iwd-numbers .ensures) (c .before .before .before .before .count-at .ensures) (c .before .before .before .domain-at .ensures) (c .before .before .iwd-ipv6 .ensures) (c .assemble .ensures)))
+    (λ c. iwd-joined (c .before .before .before .before .before .before .before .before .before .before .args .name .now) (c .before .before .before .before .before .before .before .before .before .before .pre .0) (c .before .before .before .before .before .before .before .read-iwd-name .ensures) (c .before .before .before .before .before .before .iwd-login .ensures) (c .before .before .before .before .before .hidden-at .ensures) (c .before .before .before .before .iwd-numbers .ensures) (c .before .before .before .before .before .before .before .before .before .before .pre .1) (c .before .before .before .domain-at .ensures) (c .before .before .iwd-ipv6 .ensures) (c .assemble .ensures)))

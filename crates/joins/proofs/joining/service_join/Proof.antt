@@ -14,12 +14,11 @@ unfolding keysOf
 service-join-spec =
     tie.close
     (tie.spec
-    (λ c κs. (slot-in (c .before .pre) (word "Name") 9 refl (omega arith), slot-in (c .before .pre) (word "SSID") 10 refl (omega arith)))
-    (λ c κs. slot-in (c .before .before .pre) (word "Passphrase") 11 refl (omega arith))
-    (λ c κs. slot-in (c .before .before .before .pre) (word "Hidden") 13 refl (omega arith))
-    (λ c κs. slot-in (c .before .before .before .before .pre) (word "IPv4") 1 refl (omega arith))
-    (λ c κs. slot-in (c .before .before .before .before .before .pre) (word "Nameservers") 5 refl (omega arith))
-    (λ c κs. slot-in (c .before .before .before .before .before .before .pre) (word "Domain") 8 refl (omega arith))
-    (λ c κs. slot-in (c .before .before .before .before .before .before .before .pre) (word "IPv6") 2 refl (omega arith))
+    (λ c κs. (slot-in (c .before .pre .0) (word "Name") 9 refl (omega arith), slot-in (c .before .pre .0) (word "SSID") 10 refl (omega arith)))
+    (λ c κs. slot-in (c .before .before .pre .0) (word "Passphrase") 11 refl (omega arith))
+    (λ c κs. slot-in (c .before .before .before .pre .0) (word "Hidden") 13 refl (omega arith))
+    (λ c κs. slot-in (c .before .before .before .before .pre .0) (word "IPv4") 1 refl (omega arith))
+    (λ c κs. slot-in (c .before .before .before .before .before .pre .0) (word "Domain") 8 refl (omega arith))
+    (λ c κs. slot-in (c .before .before .before .before .before .before .pre .0) (word "IPv6") 2 refl (omega arith))
     (λ c κs. search needs)
-    (λ c. service-joined (c .before .before .before .before .before .before .before .before .service-name .ensures) (c .before .before .before .before .before .before .before .service-login .ensures) (c .before .before .before .before .before .before .hidden-at .ensures) (c .before .before .before .before .before .ipv4-at .ensures) (c .before .before .before .before .count-at .ensures) (c .before .before .before .domain-at .ensures) (c .before .before .service-ipv6 .ensures) (c .assemble .ensures)))
+    (λ c. service-joined (c .before .before .before .before .before .before .before .service-name .ensures) (c .before .before .before .before .before .before .service-login .ensures) (c .before .before .before .before .before .hidden-at .ensures) (c .before .before .before .before .ipv4-at .ensures) (c .before .before .before .before .before .before .before .before .before .pre .1) (c .before .before .before .domain-at .ensures) (c .before .before .service-ipv6 .ensures) (c .assemble .ensures)))
