@@ -11,4 +11,4 @@ keyless-spec =
     (λ c κs. search needs)
     (λ c κs. search needs)
     (λ c κs. search needs)
-    (λ c. cc))
+    (λ c. rw (c .both .ensures, c .before .taken .ensures, c .before .before .is-word .ensures, c .before .before .before .word-at .ensures)))

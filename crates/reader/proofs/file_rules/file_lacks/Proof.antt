@@ -12,4 +12,4 @@ file-lacks-spec =
     (λ c κs. search needs)
     (λ c κs. search needs)
     (λ c κs. search needs)
-    (λ c. cc))
+    (λ c. rw (c .either2 .ensures, c .before .either .ensures, c .before .before .lacks-address .ensures, c .before .before .before .lacks-gateway .ensures, c .before .before .before .before .lacks-secret .ensures)))

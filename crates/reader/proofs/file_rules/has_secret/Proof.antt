@@ -10,4 +10,4 @@ has-secret-spec =
     (λ c κs. search needs)
     (λ c κs. search needs)
     (λ c κs. search needs)
-    (λ c. cc))
+    (λ c. rw (c .either .ensures, c .before .taken2 .ensures, c .before .before .taken .ensures)))

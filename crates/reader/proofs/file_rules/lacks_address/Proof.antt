@@ -14,4 +14,4 @@ lacks-address-spec =
     (λ c κs. search needs)
     (λ c κs. search needs)
     (λ c κs. search needs)
-    (λ c. cc))
+    (λ c. rw (c .both .ensures, c .before .taken4 .ensures, c .before .before .either2 .ensures, c .before .before .before .either .ensures, c .before .before .before .before .taken3 .ensures, c .before .before .before .before .before .taken2 .ensures, c .before .before .before .before .before .before .taken .ensures)))

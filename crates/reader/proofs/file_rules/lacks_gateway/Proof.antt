@@ -10,4 +10,4 @@ lacks-gateway-spec =
     (λ c κs. search needs)
     (λ c κs. search needs)
     (λ c κs. search needs)
-    (λ c. cc))
+    (λ c. rw (c .both .ensures, c .before .taken2 .ensures, c .before .before .taken .ensures)))

@@ -1,3 +1,4 @@
+use mathlib.Core.Path.{sym, _∙_}
 use borrow.Author.Needs.{needs}
 use Rattle.text.proofs.classes.is_letter.Statement.{statement}
 use Rattle.text.proofs.classes.is_letter.Tie as tie
@@ -8,5 +9,5 @@ is-letter-spec =
     (tie.spec
     (λ c κs. search needs)
     (λ c κs. search needs)
-    (λ c. cc)
-    (λ c. cc))
+    (λ c. rw (sym (c .before .within .ensures) ∙ c .if1 .taken) (c .if1 .taken))
+    (λ c. rw (sym (c .before .before .within .ensures) ∙ c .before .if1 .left) (c .within2 .ensures)))

@@ -1,3 +1,4 @@
+use mathlib.Core.Path.{sym, _∙_}
 use borrow.Author.Needs.{needs}
 use Rattle.text.proofs.classes.is_lower_hex.Statement.{statement}
 use Rattle.text.proofs.classes.is_lower_hex.Tie as tie
@@ -8,5 +9,5 @@ is-lower-hex-spec =
     (tie.spec
     (λ c κs. search needs)
     (λ c κs. search needs)
-    (λ c. cc)
-    (λ c. cc))
+    (λ c. rw (sym (c .before .is-digit .ensures) ∙ c .if1 .taken) (c .if1 .taken))
+    (λ c. rw (sym (c .before .before .is-digit .ensures) ∙ c .before .if1 .left) (c .within .ensures)))
