@@ -2,6 +2,8 @@ pub mod Bytes
 pub mod Parts
 pub mod Words
 pub mod Options
+pub mod Relations
 pub mod Scans
 pub mod Laws
 pub mod OptionLaws
+pub mod RelationLaws
