@@ -3,7 +3,9 @@ pub mod Parts
 pub mod Words
 pub mod Options
 pub mod Relations
+pub mod Pieces
 pub mod Scans
 pub mod Laws
 pub mod OptionLaws
 pub mod RelationLaws
+pub mod PieceLaws
