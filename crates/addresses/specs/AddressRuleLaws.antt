@@ -7,7 +7,6 @@ use mathlib.Core.List.{List, [], _∷_}
 use mathlib.Core.Option.{Option, none, some, Option·some-injective, Option·none-ne-some}
 use borrow.Author.Tests.{eqb-true, eqb-false, leb-true, le-leb}
 use lib.Dec.{eqb, leb}
-use lib.ListN.{length}
 use Rattle.text.specs.Bytes.{isDigit}
 use Rattle.text.specs.Parts.{all, empty, pieces}
 use Rattle.text.specs.PieceLaws.{pieces-are, pieces-only}
@@ -103,15 +102,12 @@ pub address-is : (v : List ℕ) {a : List ℕ} → address v ≡ some a → Addr
 unfolding address
 address-is v {a} e =
     let s = sized-is 4 4 (each octet (pieces 46 v)) e in
-    let low = s .0 .least in
-    let high = s .0 .most in
-    record { numbers = pieces 46 v; dots = pieces-are 46 v; four = omega arith; each = each-pairwise octet (NumberIs 255) (λ p n k. number-is 255 p k) (pieces 46 v) (s .1) }
+    record { numbers = pieces 46 v; dots = pieces-are 46 v; four = s .0; each = each-pairwise octet (NumberIs 255) (λ p n k. number-is 255 p k) (pieces 46 v) (s .1) }
 
 pub is-address : (v : List ℕ) {a : List ℕ} → AddressIs v a → address v ≡ some a
 unfolding address
 is-address v {a} h =
-    let n = h .four in
-    is-sized 4 4 (each octet (pieces 46 v)) (record { least = omega arith; most = omega arith })
+    is-sized 4 4 (each octet (pieces 46 v)) (h .four)
     (ap (each octet) (pieces-only 46 (h .dots)) ∙ pairwise-each octet (NumberIs 255) (λ p n k. is-number 255 p k) (h .numbers) a (h .each))
 
 -- ---- lists of addresses

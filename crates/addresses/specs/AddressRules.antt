@@ -1,10 +1,10 @@
 -- Addresses, masks and lists of addresses, said of the bytes of their text. `AddressRuleLaws` and `MaskRuleLaws` show
 -- that the readings keep to it.
-use Prim.Native.Nat.{ℕ, suc, _+_, _-_, _*_, _/_, _%_, _≤_}
+use Prim.Native.Nat.{ℕ, _+_, _-_, _*_, _/_, _%_, _≤_}
 use mathlib.Core.Path.{_≡_}
 use mathlib.Core.Bool.{true}
 use mathlib.Core.List.{List, [], _∷_, _++_}
-use lib.ListN.{length, replicate}
+use lib.ListN.{replicate}
 use Rattle.text.specs.Bytes.{other, isDigit}
 use Rattle.text.specs.Parts.{all}
 use Rattle.text.specs.Pieces.{Pieces}
@@ -32,7 +32,7 @@ pub record NumberIs (m : ℕ) (s : List ℕ) (n : ℕ) : Type 0 where
 pub record AddressIs (v bytes : List ℕ) : Type 0 where
   pub numbers : List (List ℕ)
   pub dots : Pieces 46 v numbers
-  pub four : length bytes ≡ 4
+  pub four : Sized 4 4 bytes
   pub each : Pairwise (NumberIs 255) numbers bytes
 
 -- ---- masks

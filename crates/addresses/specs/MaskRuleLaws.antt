@@ -1,10 +1,10 @@
 -- What `netmask` reads is the count of the ones in front of a mask's zeros.
 use Prim.Native.Nat.{ℕ, zero, suc, _+_, _-_, _*_, _/_, _%_, _≤_, _<_}
 use native.Mathlib.Omega.{arith}
-use mathlib.Core.Path.{_≡_, refl, ap, _∙_, sym, subst}
-use mathlib.Core.Bool.{Bool, true, false, cond, _&&_}
+use mathlib.Core.Path.{_≡_, refl, ap, _∙_, sym}
+use mathlib.Core.Bool.{Bool, true, false, cond}
 use mathlib.Core.List.{List, [], _∷_, _++_}
-use mathlib.Core.Option.{Option, none, some, Option·some-injective, Option·none-ne-some}
+use mathlib.Core.Option.{some, Option·some-injective, Option·none-ne-some}
 use borrow.Author.Tests.{eqb-true}
 use lib.Dec.{eqb}
 use lib.ListN.{length, replicate, length-append, length-replicate}
@@ -14,7 +14,7 @@ use Rattle.text.specs.Laws.{below, below-at, same-eq}
 use Rattle.addresses.specs.Addresses.{address, isAddress, asNumber, mask, lengthUpTo, maskLength, maskBytes, netmask}
 use Rattle.addresses.specs.Laws.{address-elim, address-bytes}
 use Rattle.addresses.specs.Written.{mask-address, mask-length}
-use Rattle.addresses.specs.AddressRules.{bitsOf, bits, AddressIs, MaskIs}
+use Rattle.addresses.specs.AddressRules.{bitsOf, bits, MaskIs}
 use Rattle.addresses.specs.AddressRuleLaws.{address-is, is-address}
 
 -- the number that bits write behind those of n

@@ -2,16 +2,14 @@
 use Prim.Native.Nat.{ℕ, _+_, _*_}
 use native.Mathlib.Omega.{arith}
 use mathlib.Core.Path.{_≡_, refl, ap, _∙_, subst}
-use mathlib.Core.Bool.{true, _&&_}
+use mathlib.Core.Bool.{_&&_}
 use mathlib.Core.List.{List, [], _∷_}
 use mathlib.Core.Option.{Option, some, Option·some-injective, Option·none-ne-some}
-use borrow.Author.Tests.{eq-eqb, eqb-true}
+use borrow.Author.Tests.{eqb-true}
 use lib.Dec.{eqb, ltb}
 use lib.ListN.{length}
-use Rattle.text.specs.Bytes.{between}
 use Rattle.text.specs.Options.{andThen, prepend}
-use Rattle.text.specs.OptionLaws.{only-some, then-some, prepend-some}
-use Rattle.text.specs.Laws.{inside, between-low, between-high}
+use Rattle.text.specs.OptionLaws.{only-some, then-some, is-sized, sized-then, prepend-some}
 use Rattle.hex.specs.Hex.{nibble, unhex}
 use Rattle.hex.specs.HexRules.{HexPair}
 use Rattle.hex.specs.HexRuleLaws.{pair-digits, digits-pair, unhex-writes, writes-unhex}
@@ -68,32 +66,28 @@ pairs-length (next h k) = let e = pairs-length k in omega arith
 pub mac-is : (v : List ℕ) {t : List ℕ} → mac v ≡ some t → MacIs v t
 unfolding mac
 mac-is v {t} e =
-    let o = only-some (eqb (length v) 17) (pairs v) e in
-    let k = pairs-are v (o .1) in
-    let l : length v ≡ 17 = eqb-true (length v) 17 (o .0) in
+    let s = sized-then 17 17 pairs v e in
+    let k = pairs-are v (s .1) in
+    let z = s .0 in
     let n = pairs-length k in
-    record { long = l; six = omega arith; pairs = k }
+    record { size = z; six = record { least = omega arith; most = omega arith }; pairs = k }
 
 pub is-mac : (v : List ℕ) {t : List ℕ} → MacIs v t → mac v ≡ some t
 unfolding mac
-is-mac v h = rw (eq-eqb (length v) 17 (h .long)) (are-pairs (h .pairs))
+is-mac v h = rw (is-sized 17 17 (some v) (h .size) refl) (are-pairs (h .pairs))
 
 pub key-is : (v : List ℕ) {t : List ℕ} → key v ≡ some t → PreSharedKeyIs v t
 unfolding key
-key-is v e =
-    let o = only-some (eqb (length v) 64) (unhex v) e in
-    record { long = eqb-true (length v) 64 (o .0); digits = unhex-writes v (o .1) }
+key-is v e = let h = sized-then 64 64 unhex v e in record { size = h .0; digits = unhex-writes v (h .1) }
 
 pub is-key : (v : List ℕ) {t : List ℕ} → PreSharedKeyIs v t → key v ≡ some t
 unfolding key
-is-key v h = rw (eq-eqb (length v) 64 (h .long)) (writes-unhex (h .digits))
+is-key v h = rw (is-sized 64 64 (some v) (h .size) refl) (writes-unhex (h .digits))
 
 pub ssid-is : (v : List ℕ) {t : List ℕ} → ssid v ≡ some t → SsidIs v t
 unfolding ssid
-ssid-is v e =
-    let o = only-some (between 2 64 (length v)) (unhex v) e in
-    record { size = record { least = between-low {x = length v} 2 64 (o .0); most = between-high {x = length v} 2 64 (o .0) }; digits = unhex-writes v (o .1) }
+ssid-is v e = let h = sized-then 2 64 unhex v e in record { size = h .0; digits = unhex-writes v (h .1) }
 
 pub is-ssid : (v : List ℕ) {t : List ℕ} → SsidIs v t → ssid v ≡ some t
 unfolding ssid
-is-ssid v h = rw (inside {x = length v} 2 64 (h .size .least) (h .size .most)) (writes-unhex (h .digits))
+is-ssid v h = rw (is-sized 2 64 (some v) (h .size) refl) (writes-unhex (h .digits))

@@ -11,7 +11,7 @@ use Rattle.text.specs.Bytes.{isDigit}
 use Rattle.text.specs.Parts.{pieces}
 use Rattle.text.specs.Pieces.{Pieces}
 use Rattle.text.specs.PieceLaws.{pieces-are, pieces-only}
-use Rattle.text.specs.Relations.{Pairwise}
+use Rattle.text.specs.Relations.{Sized, Pairwise}
 use Rattle.text.specs.Words.{word, same}
 use Rattle.text.specs.Options.{andThen, orElse}
 use Rattle.text.specs.OptionLaws.{then-some}
@@ -37,12 +37,12 @@ length-is m {n} e = go (prefixLength m) refl e
 
 -- digits alone are no address
 digits-undotted : (m : List ℕ) {k : ℕ} {a : List ℕ} → LengthIs m k → AddressIs m a → ⊥
-digits-undotted m {k} {a} h g = one a (h .number) (subst (λ (ps : List (List ℕ)). Pairwise (NumberIs 255) ps a) (sym (pieces-only 46 (g .dots)) ∙ pieces-last 46 m (all-other isDigit 46 refl m (h .number .digits))) (g .each)) (g .four)
+digits-undotted m {k} {a} h g = one a (subst (λ (ps : List (List ℕ)). Pairwise (NumberIs 255) ps a) (sym (pieces-only 46 (g .dots)) ∙ pieces-last 46 m (all-other isDigit 46 refl m (h .number .digits))) (g .each)) (g .four)
   where
-    one : (a : List ℕ) → NumberIs 32 m k → Pairwise (NumberIs 255) (m ∷ []) a → length a ≡ 4 → ⊥
-    one [] n h e = absurd h
-    one (x ∷ []) n h e = omega arith
-    one (x ∷ y ∷ a) n h e = absurd (h .1)
+    one : (a : List ℕ) → Pairwise (NumberIs 255) (m ∷ []) a → Sized 4 4 a → ⊥
+    one [] h e = absurd h
+    one (x ∷ []) h e = omega arith
+    one (x ∷ y ∷ a) h e = absurd (h .1)
 
 is-length : (m : List ℕ) {n : ℕ} → MaskOrLength m n → lengthOf m ≡ some n
 is-length m (inr h) = rw (is-prefix m h)

@@ -1,18 +1,17 @@
 -- A value is read by its kind exactly as the rules say, and its text is judged broken exactly where the rules say so.
 use Prim.Native.Nat.{ℕ}
 use mathlib.Core.Path.{_≡_, refl, ap, ap₂, _∙_, subst}
-use mathlib.Core.Bool.{Bool, true, false, not, _&&_, true≢false}
+use mathlib.Core.Bool.{Bool, true, false, not, true≢false}
 use mathlib.Core.List.{List, [], _∷_}
 use mathlib.Core.Option.{Option, some, Option·some-injective}
-use lib.ListN.{length}
-use Rattle.text.specs.Bytes.{between, other, isEntryByte}
+use Rattle.text.specs.Bytes.{other, isEntryByte}
 use Rattle.text.specs.Parts.{all, pieces}
 use Rattle.text.specs.Pieces.{Pieces}
 use Rattle.text.specs.PieceLaws.{pieces-are, pieces-only}
 use Rattle.text.specs.Relations.{Each, Pairwise}
-use Rattle.text.specs.Options.{isSome, mapped, each}
+use Rattle.text.specs.Options.{isSome, mapped, only, each}
 use Rattle.text.specs.OptionLaws.{some-is, only-some, sized-is, is-sized, mapped-some, each-pairwise, pairwise-each}
-use Rattle.text.specs.Laws.{and-true, inside, between-low, between-high, all-cons, all-weaken}
+use Rattle.text.specs.Laws.{and-true, all-cons, all-weaken}
 use Rattle.text.specs.declared.Dialect.{Dialect}
 use Rattle.utf8.specs.Utf8.{utf8, text, textByte, valueText}
 use Rattle.utf8.specs.WellFormedLaws.{utf8-formed, formed-utf8}
@@ -41,15 +40,13 @@ AsItStands p e = (p ≡ e) × Entry e
 
 entry-is : (p e : List ℕ) → D.entry p ≡ some e → AsItStands p e
 entry-is p e i =
-    let o = only-some (between 1 253 (length p) && all isEntryByte p) (some p) i in
-    let k = and-true (between 1 253 (length p)) (all isEntryByte p) (o .0) in
+    let s = sized-is 1 253 (only (all isEntryByte p) (some p)) i in
+    let o = only-some (all isEntryByte p) (some p) (s .1) in
     let q : p ≡ e = Option·some-injective p e (o .1) in
-    (q, subst Entry q (record { size = record { least = between-low {x = length p} 1 253 (k .0); most = between-high {x = length p} 1 253 (k .0) }; bytes = k .1 }))
+    (q, record { size = s .0; bytes = rw q at (o .0) })
 
 is-entry : (p e : List ℕ) → AsItStands p e → D.entry p ≡ some e
-is-entry p e h =
-    let k = h .1 in
-    rw (h .0, inside {x = length e} 1 253 (k .size .least) (k .size .most), k .bytes)
+is-entry p e h = is-sized 1 253 (only (all isEntryByte p) (some p)) (h .1 .size) (rw (h .0, h .1 .bytes))
 
 read-as : (ps l : List (List ℕ)) → Pairwise AsItStands ps l → (ps ≡ l) × Each Entry l
 read-as [] [] h = (refl, tt)

@@ -7,7 +7,6 @@ use mathlib.Core.Bool.{Bool, true, false}
 use mathlib.Core.List.{List, [], _∷_}
 use mathlib.Core.Logic.{_⊎_}
 use mathlib.Core.Option.{none, some}
-use lib.ListN.{length}
 use Rattle.text.specs.Bytes.{other, isEntryByte}
 use Rattle.text.specs.Parts.{all}
 use Rattle.text.specs.Pieces.{Pieces}
@@ -85,13 +84,13 @@ pub data ColonPairs : List ℕ → List ℕ → Type 0 where
 
 -- "A MAC is 17 bytes, six pairs of hex digits with colons."
 pub record MacIs (v bytes : List ℕ) : Type 0 where
-  pub long : length v ≡ 17
-  pub six : length bytes ≡ 6
+  pub size : Sized 17 17 v
+  pub six : Sized 6 6 bytes
   pub pairs : ColonPairs v bytes
 
 -- "PreSharedKey (64 hex digits)"
 pub record PreSharedKeyIs (v bytes : List ℕ) : Type 0 where
-  pub long : length v ≡ 64
+  pub size : Sized 64 64 v
   pub digits : Hex v bytes
 
 -- "SSID (2 to 64 hex digits, an even count)"

@@ -3,8 +3,8 @@ use Prim.Native.Nat.{ℕ}
 use mathlib.Core.Path.{_≡_, refl, ap, sym, _∙_}
 use mathlib.Core.Bool.{Bool, true, false, cond}
 use mathlib.Core.List.{List, [], _∷_}
-use mathlib.Core.Logic.{_⊎_, inl, inr}
-use mathlib.Core.Option.{Option, none, some, Option·some-injective, Option·none-ne-some}
+use mathlib.Core.Logic.{inl, inr}
+use mathlib.Core.Option.{some, Option·some-injective, Option·none-ne-some}
 use Rattle.text.specs.Laws.{same-eq}
 use Rattle.text.specs.Relations.{Each, Some}
 use Rattle.text.specs.Words.{same, named}

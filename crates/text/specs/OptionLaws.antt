@@ -1,5 +1,5 @@
 -- What a reading that succeeds says of its parts.
-use mathlib.Core.Path.{_≡_, refl, subst}
+use mathlib.Core.Path.{_≡_, refl, sym, subst}
 use mathlib.Core.Bool.{Bool, true, false, cond, false≢true}
 use mathlib.Core.List.{List, [], _∷_}
 use mathlib.Core.Option.{Option, none, some, Option·some-injective, Option·none-ne-some}
@@ -39,6 +39,13 @@ module _ {A : Type 0} where
   pub is-sized : (m n : ℕ) (o : Option (List A)) {t : List A} → Sized m n t → o ≡ some t → sized m n o ≡ some t
   is-sized m n o {t} h e = rw (e, inside {x = length t} m n (h .least) (h .most))
 
+  pub unsized : (m n : ℕ) (t : List A) → (Sized m n t → ⊥) → sized m n (some t) ≡ none
+  unsized m n t h = go (between m n (length t)) refl
+    where
+      go : (b : Bool) → between m n (length t) ≡ b → cond b (some t) none ≡ none
+      go true e = absurd (h (record { least = between-low {x = length t} m n e; most = between-high {x = length t} m n e }))
+      go false e = refl
+
   pub mapped-some : {B : Type 0} (f : A → B) (o : Option A) {b : B} → mapped f o ≡ some b → (a : A) × (o ≡ some a) × (f a ≡ b)
   mapped-some f none {b} e = absurd (Option·none-ne-some b e)
   mapped-some f (some a) {b} e = (a, refl, Option·some-injective (f a) b e)
@@ -46,6 +53,14 @@ module _ {A : Type 0} where
   pub prepend-some : (x : A) (o : Option (List A)) {t : List A} → prepend x o ≡ some t → (u : List A) × (o ≡ some u) × (x ∷ u ≡ t)
   prepend-some x none {t} e = absurd (Option·none-ne-some t e)
   prepend-some x (some u) {t} e = (u, refl, Option·some-injective (x ∷ u) t e)
+
+-- what is read on from a list of a right length is read of that list
+pub sized-then : {A B : Type 0} (m n : ℕ) (f : List A → Option B) (t : List A) {b : B} → andThen (sized m n (some t)) f ≡ some b → Sized m n t × (f t ≡ some b)
+sized-then m n f t e =
+    let k = then-some (sized m n (some t)) f e in
+    let s = sized-is m n (some t) (k .1) in
+    let q : k .0 ≡ t = sym (Option·some-injective t (k .0) (s .1)) in
+    (rw q at (s .0), rw q at (k .2))
 
 -- texts are read each exactly where they stand pairwise, as R says, to what is read of them
 module _ {A : Type 0} (f : List ℕ → Option A) (R : List ℕ → A → Type 0) where

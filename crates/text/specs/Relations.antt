@@ -14,7 +14,7 @@ abbrev pub Some : {A : Type 0} → (A → Type 0) → List A → Type 0
 Some P [] = ⊥
 Some P (x ∷ xs) = P x ⊎ Some P xs
 
--- a list of low to high elements: the one rule for lengths, cited wherever a length is asked
+-- a list of low to high elements
 pub record Sized {A : Type 0} (low high : ℕ) (l : List A) : Type 0 where
   pub least : low ≤ length l
   pub most : length l ≤ high
