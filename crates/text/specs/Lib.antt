@@ -7,3 +7,4 @@ pub mod Scans
 pub mod Laws
 pub mod OptionLaws
 pub mod RelationLaws
+pub mod RunLaws
