@@ -1,6 +1,8 @@
 -- What holds of the elements of a list: of each of them, of one of them, and of the elements of two lists side by side.
+use Prim.Native.Nat.{ℕ, _≤_}
 use mathlib.Core.List.{List, [], _∷_}
 use mathlib.Core.Logic.{_⊎_}
+use lib.ListN.{length}
 
 -- each element is so
 abbrev pub Each : {A : Type 0} → (A → Type 0) → List A → Type 0
@@ -11,6 +13,11 @@ Each P (x ∷ xs) = P x × Each P xs
 abbrev pub Some : {A : Type 0} → (A → Type 0) → List A → Type 0
 Some P [] = ⊥
 Some P (x ∷ xs) = P x ⊎ Some P xs
+
+-- a list of low to high elements: the one rule for lengths, cited wherever a length is asked
+pub record Sized {A : Type 0} (low high : ℕ) (l : List A) : Type 0 where
+  pub least : low ≤ length l
+  pub most : length l ≤ high
 
 -- the lists are of one length, and each element stands so to the other list's element at its place
 abbrev pub Pairwise : {A B : Type 0} → (A → B → Type 0) → List A → List B → Type 0
