@@ -8,6 +8,11 @@ module _ {A : Type 0} (P : A → Type 0) where
   each-append [] b h k = k
   each-append (x ∷ a) b h k = (h .0, each-append a b (h .1) k)
 
+  -- of each, so of the one at a place
+  pub each-at : (a : List A) (x : A) (c : List A) → Each P (a ++ x ∷ c) → P x
+  each-at [] x c h = h .0
+  each-at (y ∷ a) x c h = each-at a x c (h .1)
+
   pub some-left : (a b : List A) → Some P a → Some P (a ++ b)
   some-left [] b h = absurd h
   some-left (x ∷ a) b (inl h) = inl h
