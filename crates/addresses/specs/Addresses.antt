@@ -7,7 +7,7 @@ use lib.Dec.{eqb, leb, ltb}
 use lib.ListN.{length, getD, replicate}
 use Rattle.text.specs.Bytes.{between, isDigit}
 use Rattle.text.specs.Parts.{all, empty, pieces}
-use Rattle.text.specs.Options.{andThen, only, sized, plain, each}
+use Rattle.text.specs.Options.{isSome, andThen, only, sized, plain, each}
 use Rattle.addresses.specs.declared.Separator.{Separator}
 use Rattle.addresses.specs.declared.Separator.the-variants.{Spaces, Comma}
 use Rattle.addresses.specs.declared.Number.{Number}
@@ -41,7 +41,7 @@ address s = sized 4 4 (each octet (pieces 46 s))
 
 -- "inside, an IPv4 address is four bytes, the first written first"
 abbrev pub isAddress : List ℕ → Bool
-isAddress a = eqb (length a) 4 && all (between 0 255) a
+isAddress a = isSome (sized 4 4 (some a)) && all (between 0 255) a
 
 abbrev pub areAddresses : List (List ℕ) → Bool
 areAddresses [] = true

@@ -1,27 +1,33 @@
 -- What is read: a number within its bound, addresses of four bytes, one to four of them in a list.
-use mathlib.Core.Path.{_≡_, refl}
+use mathlib.Core.Path.{_≡_, refl, ap, _∙_}
 use mathlib.Core.Bool.{Bool, true, false, cond}
 use mathlib.Core.List.{List, [], _∷_}
-use mathlib.Core.Option.{Option, none, some}
+use mathlib.Core.Option.{Option, none, some, Option·some-injective}
 use Prim.Native.Nat.{ℕ, _≤_, _<_}
 use native.Mathlib.Omega.{arith}
-use borrow.Author.Tests.{eq-eqb, eqb-true, leb-true}
+use borrow.Author.Tests.{leb-true}
 use lib.Dec.{eqb, leb}
 use lib.ListN.{length, take}
 use lib.Seq.{take-append-seam}
 use Rattle.text.specs.Bytes.{between}
 use Rattle.text.specs.Parts.{all, empty, pieces}
-use Rattle.text.specs.Options.{andThen, prepend, only, sized, plain, each}
-use Rattle.text.specs.Laws.{and-true, all-cons, inside, between-low, between-high}
+use Rattle.text.specs.Options.{isSome, andThen, prepend, only, sized, plain, each}
+use Rattle.text.specs.Laws.{and-true, all-cons, inside, between-high}
 use Rattle.addresses.specs.declared.Separator.{Separator}
 use Rattle.addresses.specs.Addresses.{value, upTo, number, octet, address, isAddress, fields, addresses, areAddresses, rows}
-use Rattle.text.specs.OptionLaws.{Holds, holds-some, holds-map, sized-holds}
+use Rattle.text.specs.OptionLaws.{some-is, sized-is, Holds, holds-some, holds-map, sized-holds}
 
 -- ---- addresses of four bytes
 
+pub address-length : (a : List ℕ) → isAddress a ≡ true → length a ≡ 4
+address-length a e =
+    let k = some-is (sized 4 4 (some a)) (and-true (isSome (sized 4 4 (some a))) _ e .0) in
+    let s = sized-is 4 4 (some a) (k .1) in
+    ap length (Option·some-injective a (k .0) (s .1)) ∙ omega (arith, s .0)
+
 -- what holds of each four bytes holds of an address
 pub address-elim : (P : List ℕ → Type 0) → ((x y z w : ℕ) → x < 256 → y < 256 → z < 256 → w < 256 → P (x ∷ y ∷ z ∷ w ∷ [])) → (a : List ℕ) → isAddress a ≡ true → P a
-address-elim P f a e = go a (eqb-true _ _ (and-true (eqb (length a) 4) _ e .0)) (and-true (eqb (length a) 4) _ e .1)
+address-elim P f a e = go a (address-length a e) (and-true (isSome (sized 4 4 (some a))) _ e .1)
   where
     small : (x : ℕ) → between 0 255 x ≡ true → x < 256
     small x h = omega (arith, between-high {x = x} 0 255 h)
@@ -37,9 +43,6 @@ address-elim P f a e = go a (eqb-true _ _ (and-true (eqb (length a) 4) _ e .0)) 
         let c = all-cons (between 0 255) y (z ∷ w ∷ []) (b .1) in
         let d = all-cons (between 0 255) z (w ∷ []) (c .1) in
         f x y z w (small x (b .0)) (small y (c .0)) (small z (d .0)) (small w (all-cons (between 0 255) w [] (d .1) .0))
-
-pub address-length : (a : List ℕ) → isAddress a ≡ true → length a ≡ 4
-address-length a e = eqb-true _ _ (and-true (eqb (length a) 4) _ e .0)
 
 pub are-cons : (a : List ℕ) (l : List (List ℕ)) → areAddresses (a ∷ l) ≡ true → (isAddress a ≡ true) × (areAddresses l ≡ true)
 are-cons a l h = and-true (isAddress a) (areAddresses l) h
@@ -84,7 +87,7 @@ address-is s =
     more v l h k = rw (inside {x = v} 0 255 (omega arith) h) k
 
     both : (a : List ℕ) → (between 4 4 (length a) ≡ true) × (all (between 0 255) a ≡ true) → isAddress a ≡ true
-    both a h = rw (eq-eqb (length a) 4 (omega (arith, between-low {x = length a} 4 4 (h .0), between-high {x = length a} 4 4 (h .0)))) (h .1)
+    both a h = rw (h .0) (h .1)
 
 -- what is read as an address is four bytes
 pub address-bytes : (s : List ℕ) {a : List ℕ} → address s ≡ some a → isAddress a ≡ true

@@ -1,6 +1,10 @@
 pub mod Addresses
+pub mod AddressRules
 pub mod Fields
 pub mod Laws
 pub mod Sizes
 pub mod Written
+pub mod SplitLaws
+pub mod AddressRuleLaws
+pub mod MaskRuleLaws
 pub mod Cases

@@ -104,10 +104,14 @@ pub mask-address : (k : ℕ) → k ≤ 32 → isAddress (maskBytes k) ≡ true
 unfolding bytes-right
 mask-address k h = below-at bytes-right 33 each-bytes k (omega arith)
 
+pub mask-length : (k : ℕ) → 1 ≤ k → k ≤ 32 → maskLength (asNumber (maskBytes k)) ≡ some k
+unfolding length-right
+mask-length zero h g = absurd (omega arith)
+mask-length (suc k) h g = is-some _ (suc k) (below-at length-right 32 each-length k (omega arith))
+
 pub netmask-dotted : (k : ℕ) → 1 ≤ k → k ≤ 32 → netmask (dotted (maskBytes k)) ≡ some k
-unfolding length-right netmask
-netmask-dotted zero h g = absurd (omega arith)
-netmask-dotted (suc k) h g = rw (address-dotted (maskBytes (suc k)) (mask-address (suc k) g)) (is-some _ (suc k) (below-at length-right 32 each-length k (omega arith)))
+unfolding netmask
+netmask-dotted k h g = rw (address-dotted (maskBytes k) (mask-address k g)) (mask-length k h g)
 
 -- ---- a list of addresses
 

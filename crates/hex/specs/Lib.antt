@@ -1,2 +1,4 @@
 pub mod Hex
 pub mod Laws
+pub mod HexRules
+pub mod HexRuleLaws

@@ -1,6 +1,6 @@
 -- Entries one by one: what the loop keeps, a turn, and its ends.
 use mathlib.Core.Path.{_≡_, refl, ap, ap₂, sym, _∙_}
-use mathlib.Core.Bool.{Bool, true, false, not, _&&_, false≢true}
+use mathlib.Core.Bool.{Bool, true, false, not, false≢true}
 use mathlib.Core.List.{List, [], _∷_, _++_, append-assoc}
 use mathlib.Core.Option.{Option, none, some}
 use Prim.Native.Nat.{ℕ, zero, suc, _+_, _-_, _≤_, _<_}
@@ -9,10 +9,12 @@ use borrow.Author.Tests.{eqb-true, eqb-false, not-true, not-false}
 use lib.Dec.{eqb}
 use lib.ListN.{length, take, drop, set, replicate, length-append, length-drop}
 use lib.Seq.{length-take-le}
-use Rattle.text.specs.Bytes.{between, other, isEntryByte}
+use Rattle.text.specs.Bytes.{other, isEntryByte}
 use Rattle.text.specs.Parts.{all, part, pieces, padded}
 use Rattle.text.specs.Options.{isSome, prepend, only, sized, each}
-use Rattle.text.specs.Laws.{inside, under, over, padded-set, pieces-some}
+use Rattle.text.specs.Laws.{inside, over, padded-set, pieces-some}
+use Rattle.text.specs.Relations.{Sized}
+use Rattle.text.specs.OptionLaws.{some-is, only-some, sized-is, is-sized, unsized}
 use Rattle.text.specs.Scans.{Stop, stop-low, pieces-end, pieces-at}
 use Rattle.put.specs.Gathering.{ahead, ahead-none, each-append, sized-each}
 use Rattle.kinds.specs.Kinds.{entry, entries}
@@ -48,25 +50,31 @@ ends-long a (e ∷ es) = ap suc (ends-long (a + length e + 1) es)
 -- ---- one entry
 
 module _ (p : List ℕ) where
+  entry-other : (Sized 1 253 p → ⊥) → false ≡ isSome (entry p)
+  entry-other h = go (all isEntryByte p)
+    where
+      go : (t : Bool) → false ≡ isSome (sized 1 253 (only t (some p)))
+      go true = rw (unsized 1 253 p h)
+      go false = refl
+
   pub entry-short : length p < 1 → false ≡ isSome (entry p)
-  entry-short h = rw (under {x = length p} 1 253 h)
+  entry-short h = entry-other (λ z. omega (arith, z, h))
 
   pub entry-long : 253 < length p → false ≡ isSome (entry p)
-  entry-long h = rw (over {x = length p} 1 253 h)
+  entry-long h = entry-other (λ z. omega (arith, z, h))
 
   pub entry-bytes : 1 ≤ length p → length p ≤ 253 → {x : Bool} → x ≡ all isEntryByte p → x ≡ isSome (entry p)
-  entry-bytes h g e = rw (inside {x = length p} 1 253 h g) (e ∙ go (all isEntryByte p))
+  entry-bytes h g e = e ∙ go (all isEntryByte p)
     where
-      go : (t : Bool) → t ≡ isSome (only t (some p))
-      go true = refl
+      go : (t : Bool) → t ≡ isSome (sized 1 253 (only t (some p)))
+      go true = rw (is-sized 1 253 (some p) (record { least = h; most = g }) refl)
       go false = refl
 
 entry-is : (p : List ℕ) {x : Bool} → x ≡ isSome (entry p) → not x ≡ false → entry p ≡ some p
-entry-is p {x} e k = go (between 1 253 (length p) && all isEntryByte p) (sym e ∙ not-false x k)
-  where
-    go : (t : Bool) → isSome (only t (some p)) ≡ true → only t (some p) ≡ some p
-    go true h = refl
-    go false h = absurd (false≢true h)
+entry-is p {x} e k =
+    let a = some-is (entry p) (sym e ∙ not-false x k) in
+    let s = sized-is 1 253 (only (all isEntryByte p) (some p)) (a .1) in
+    a .1 ∙ sym (only-some (all isEntryByte p) (some p) (s .1) .1)
 
 entry-none : (p : List ℕ) {x : Bool} → x ≡ isSome (entry p) → not x ≡ true → entry p ≡ none
 entry-none p {x} e k = go (entry p) (sym e ∙ not-true x k)

@@ -93,7 +93,7 @@ module _ (d : Dialect) (v : List ℕ) (p : Place) {k : Kind} {r : Judgement} whe
   unfolding kindJudged typed
   mask-kind q e h = rw q (h ∙ ap maskJudgement e ∙ go (A.netmask v))
     where
-      go : (o : Option ℕ) → maskJudgement (A.netmaskAnswer o) ≡ judgementAt p (byKind (mapped T.length o))
+      go : (o : Option ℕ) → maskJudgement (A.netmaskAnswer o) ≡ judgementAt p (byKind (mapped T.maskLength o))
       go none = refl
       go (some b) = refl
 

@@ -6,65 +6,92 @@ use mathlib.Core.Option.{Option, none, some}
 use Prim.Native.Nat.{ℕ, zero, suc, _+_, _-_, _*_, _/_, _≤_, _<_}
 use native.Mathlib.Numerals.{add-one}
 use native.Mathlib.Omega.{arith}
-use borrow.Author.Tests.{eq-eqb, ne-eqb, lt-ltb, le-ltb, eqb-true}
+use borrow.Author.Tests.{eq-eqb, ne-eqb, lt-ltb, le-ltb}
 use lib.Dec.{eqb, ltb}
 use lib.ListN.{length, take, drop, set, getD, replicate, drop-of-length-le, length-set}
 use lib.Seq.{drop-cons, take-suc-set, take-all}
-use Rattle.text.specs.Bytes.{between}
 use Rattle.text.specs.Parts.{padded}
-use Rattle.text.specs.Options.{isSome, andThen, only, prepend, plain, Fits}
-use Rattle.text.specs.Laws.{between-low, between-high}
+use Rattle.text.specs.Options.{isSome, andThen, only, sized, prepend, plain, Fits}
+use Rattle.text.specs.Relations.{Sized}
+use Rattle.text.specs.OptionLaws.{some-is, is-sized, unsized, sized-then}
 use Rattle.put.specs.Filling.{glue, glue-prepend, glue-nil}
 use Rattle.hex.specs.Hex.{nibble, unhex}
 use Rattle.hex.specs.Laws.{unhex-length}
 use Rattle.kinds.specs.Kinds.{pair, colonPairs, pairs, mac, key, ssid}
 use Rattle.kinds.specs.Answers.{macAnswer, keyAnswer, ssidAnswer}
 
--- ---- hex that is read only where a test holds
+-- ---- hex of low to high digits
 
-pub record Given (t : Bool) (s : List ℕ) : Type 0 where
-  pub test : t ≡ true
+pub record Given (low high : ℕ) (s : List ℕ) : Type 0 where
+  pub size : Sized low high s
   pub text : List ℕ
-  pub is : unhex s ≡ some text
-  pub size : length s ≡ 2 * length text
+  pub digits : unhex s ≡ some text
+  pub is : andThen (sized low high (some s)) unhex ≡ some text
+  pub double : length s ≡ 2 * length text
 
-given : (t : Bool) (s : List ℕ) → isSome (only t (unhex s)) ≡ true → Given t s
-given false s e = absurd (false≢true e)
-given true s e = go (unhex s) refl e
-  where
-    go : (o : Option (List ℕ)) → unhex s ≡ o → isSome o ≡ true → Given true s
-    go none q k = absurd (false≢true k)
-    go (some t) q k = record { test = refl; text = t; is = q; size = unhex-length s q }
+given : (low high : ℕ) (s : List ℕ) → isSome (andThen (sized low high (some s)) unhex) ≡ true → Given low high s
+given low high s e =
+    let k = some-is (andThen (sized low high (some s)) unhex) e in
+    let h = sized-then low high unhex s (k .1) in
+    record { size = h .0; text = k .0; digits = h .1; is = k .1; double = unhex-length s (h .1) }
+
+-- a text of another length gives nothing; one of a right length what its digits give
+size-other : (low high : ℕ) (s : List ℕ) → (Sized low high s → ⊥) → false ≡ isSome (andThen (sized low high (some s)) unhex)
+size-other low high s h = rw (unsized low high s h)
+
+size-right : (low high : ℕ) (s : List ℕ) {x : Bool} → Sized low high s → x ≡ isSome (unhex s) → x ≡ isSome (andThen (sized low high (some s)) unhex)
+size-right low high s h e = rw (is-sized low high (some s) h refl) e
 
 absent : {A : Type 0} (o : Option A) → isSome o ≡ false → o ≡ none
 absent none e = refl
 absent (some a) e = absurd (false≢true (sym e))
 
+module _ (s : List ℕ) where
+  pub key-other : (length s ≡ 64 → ⊥) → false ≡ isSome (key s)
+  unfolding key
+  key-other h = size-other 64 64 s (λ z. h (omega (arith, z)))
+
+  pub key-digits : length s ≡ 64 → {x : Bool} → x ≡ isSome (unhex s) → x ≡ isSome (key s)
+  unfolding key
+  key-digits h e = size-right 64 64 s (record { least = omega arith; most = omega arith }) e
+
+  pub ssid-short : length s < 2 → false ≡ isSome (ssid s)
+  unfolding ssid
+  ssid-short h = size-other 2 64 s (λ z. omega (arith, z, h))
+
+  pub ssid-long : 64 < length s → false ≡ isSome (ssid s)
+  unfolding ssid
+  ssid-long h = size-other 2 64 s (λ z. omega (arith, z, h))
+
+  pub ssid-digits : 2 ≤ length s → length s ≤ 64 → {x : Bool} → x ≡ isSome (unhex s) → x ≡ isSome (ssid s)
+  unfolding ssid
+  ssid-digits h g e = size-right 2 64 s (record { least = h; most = g }) e
+
 module _ (s : List ℕ) {x : Bool} where
   pub key-fits : x ≡ isSome (key s) → x ≡ true → Fits 32 (unhex s)
   unfolding key
-  key-fits p q = let g = given (eqb (length s) 64) s (sym p ∙ q) in rw (g .is) (omega (arith, g .size, eqb-true (length s) 64 (g .test)))
+  key-fits p q = let g = given 64 64 s (sym p ∙ q) in rw (g .digits) (omega (arith, g .double, g .size))
 
   pub key-good : x ≡ isSome (key s) → x ≡ true → {a : List ℕ} → a ≡ padded 32 (plain (unhex s)) → record { ok = true; bytes = a } ≡ keyAnswer (key s)
   unfolding key
   key-good p q w =
-      let g = given (eqb (length s) 64) s (sym p ∙ q) in
-      let z : 32 - length (g .text) ≡ 0 = omega (arith, g .size, eqb-true (length s) 64 (g .test)) in
-      rw (w, g .test, g .is, z, append-nil (g .text))
+      let g = given 64 64 s (sym p ∙ q) in
+      let z : 32 - length (g .text) ≡ 0 = omega (arith, g .double, g .size) in
+      rw (w, g .is, g .digits, z, append-nil (g .text))
 
   pub key-bad : x ≡ isSome (key s) → x ≡ false → record { ok = false; bytes = replicate 32 0 } ≡ keyAnswer (key s)
   key-bad p q = rw (absent (key s) (sym p ∙ q))
 
   pub ssid-fits : x ≡ isSome (ssid s) → x ≡ true → Fits 32 (unhex s)
   unfolding ssid
-  ssid-fits p q = let g = given (between 2 64 (length s)) s (sym p ∙ q) in rw (g .is) (omega (arith, g .size, between-high {x = length s} 2 64 (g .test)))
+  ssid-fits p q = let g = given 2 64 s (sym p ∙ q) in rw (g .digits) (omega (arith, g .double, g .size))
 
   pub ssid-good : x ≡ isSome (ssid s) → x ≡ true → {a : List ℕ} → a ≡ padded 32 (plain (unhex s)) → record { ok = true; length = length s / 2; bytes = a } ≡ ssidAnswer (ssid s)
   unfolding ssid
   ssid-good p q w =
-      let g = given (between 2 64 (length s)) s (sym p ∙ q) in
-      let n : length s / 2 ≡ length (g .text) = omega (arith, g .size) in
-      rw (w, g .test, g .is, n)
+      let g = given 2 64 s (sym p ∙ q) in
+      let n : length s / 2 ≡ length (g .text) = omega (arith, g .double) in
+      rw (w, g .is, g .digits, n)
 
   pub ssid-bad : x ≡ isSome (ssid s) → x ≡ false → record { ok = false; length = 0; bytes = replicate 32 0 } ≡ ssidAnswer (ssid s)
   ssid-bad p q = rw (absent (ssid s) (sym p ∙ q))
@@ -90,12 +117,12 @@ pair-second a b h = rw (le-ltb (nibble b) 16 (omega arith), and-false (ltb (nibb
 
 pub mac-short : (s : List ℕ) → (length s ≡ 17 → ⊥) → mac s ≡ none
 unfolding mac
-mac-short s h = rw (ne-eqb (length s) 17 h)
+mac-short s h = rw (unsized 17 17 s (λ z. h (omega (arith, z))))
 
 module _ (s : List ℕ) (l : length s ≡ 17) where
   first : mac s ≡ andThen (pair (getD s 0 0) (getD s 1 0)) (λ x. prepend x (colonPairs (drop 2 s)))
   unfolding mac
-  first = rw (eq-eqb (length s) 17 l) (go s (omega (arith, l)))
+  first = rw (is-sized 17 17 (some s) (record { least = omega arith; most = omega arith }) refl) (go s (omega (arith, l)))
     where
       go : (s : List ℕ) → 2 ≤ length s → pairs s ≡ andThen (pair (getD s 0 0) (getD s 1 0)) (λ x. prepend x (colonPairs (drop 2 s)))
       go [] h = absurd (omega arith)

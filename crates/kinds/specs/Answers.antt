@@ -71,7 +71,7 @@ ssidAnswer (some b) = record { ok = true; length = length b; bytes = padded 32 b
 -- the value enum: "yes/no, mask length, named word, or place of a text; no array inside"
 abbrev pub valueAt : Place → Typed → Value
 valueAt p (T.flag b) = Flag b
-valueAt p (T.length n) = Mask n
+valueAt p (T.maskLength n) = Mask n
 valueAt p (T.word w) = WordValue w
 valueAt p (T.address a) = Text p
 valueAt p (T.addresses l) = Text p

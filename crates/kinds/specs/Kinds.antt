@@ -4,8 +4,7 @@ use mathlib.Core.Bool.{Bool, true, false, cond, _&&_}
 use mathlib.Core.List.{List, [], _∷_}
 use mathlib.Core.Option.{Option, none, some}
 use lib.Dec.{eqb, ltb}
-use lib.ListN.{length}
-use Rattle.text.specs.Bytes.{between, isEntryByte}
+use Rattle.text.specs.Bytes.{isEntryByte}
 use Rattle.text.specs.Parts.{all, pieces}
 use Rattle.text.specs.Words.{word, same, named}
 use Rattle.text.specs.Options.{andThen, orElse, only, sized, prepend, each}
@@ -69,7 +68,7 @@ ipv4 s = cond (same s (word "off")) (some off) (cond (same s (word "dhcp")) (som
 
 -- "entries of 1 to 253 bytes without comma, space or tab"
 abbrev pub entry : List ℕ → Option (List ℕ)
-entry p = only (between 1 253 (length p) && all isEntryByte p) (some p)
+entry p = sized 1 253 (only (all isEntryByte p) (some p))
 
 -- "SearchDomains and Timeservers (1 to 4 entries .., one comma between)"
 unfoldable pub entries : List ℕ → Option (List (List ℕ))
@@ -95,15 +94,15 @@ pairs (a ∷ b ∷ s) = andThen (pair a b) (λ x. prepend x (colonPairs s))
 
 -- "A MAC is 17 bytes, six pairs of hex digits with colons."
 unfoldable pub mac : List ℕ → Option (List ℕ)
-mac s = only (eqb (length s) 17) (pairs s)
+mac s = andThen (sized 17 17 (some s)) pairs
 
 -- "PreSharedKey (64 hex digits)"
 unfoldable pub key : List ℕ → Option (List ℕ)
-key s = only (eqb (length s) 64) (unhex s)
+key s = andThen (sized 64 64 (some s)) unhex
 
 -- "SSID (2 to 64 hex digits, an even count)"
 unfoldable pub ssid : List ℕ → Option (List ℕ)
-ssid s = only (between 2 64 (length s)) (unhex s)
+ssid s = andThen (sized 2 64 (some s)) unhex
 
 -- ---- strings
 

@@ -1,7 +1,12 @@
 pub mod Kinds
 pub mod Typed
+pub mod ValueRules
 pub mod Answers
 pub mod Judging
 pub mod Cases
 pub mod Values
 pub mod Written
+pub mod WordRuleLaws
+pub mod Ipv4RuleLaws
+pub mod HexValueLaws
+pub mod ValueRuleLaws

@@ -17,7 +17,7 @@ use Rattle.kinds.specs.declared.Kind.the-variants.{Flag, Named, Address,
 -- a typed value
 pub data Typed : Type 0 where
   flag : Bool → Typed
-  length : ℕ → Typed
+  maskLength : ℕ → Typed
   word : Word → Typed
   address : List ℕ → Typed
   addresses : List (List ℕ) → Typed
@@ -30,7 +30,7 @@ unfoldable pub typed : Dialect → Kind → List ℕ → Option Typed
 typed d Flag v = mapped flag (K.flag d v)
 typed d (Named w) v = mapped word (K.wordOf w v)
 typed d Address v = mapped address (A.address v)
-typed d Netmask v = mapped length (A.netmask v)
+typed d Netmask v = mapped maskLength (A.netmask v)
 typed d Ipv4 v = mapped ipv4 (K.ipv4 v)
 typed d (Addresses sep) v = mapped addresses (A.addresses sep v)
 typed d Entries v = mapped entries (K.entries v)

@@ -12,7 +12,7 @@ use Rattle.text.specs.Bytes.{between, other}
 use Rattle.text.specs.Parts.{all, empty, pieces}
 use Rattle.text.specs.Words.{word, same}
 use Rattle.text.specs.Options.{andThen, orElse, only, prepend}
-use Rattle.text.specs.OptionLaws.{Holds, only-some, then-some, sized-some}
+use Rattle.text.specs.OptionLaws.{Holds, only-some, then-some, sized-some, sized-then, prepend-some}
 use Rattle.text.specs.Laws.{and-true, all-cons, all-weaken, over, between-low, between-high}
 use Rattle.text.specs.declared.Dialect.{Dialect}
 use Rattle.text.specs.declared.Dialect.the-variants.{Iwd, ConnMan}
@@ -39,17 +39,14 @@ string-size d low high v {t} e =
 pub key-size : (v : List ℕ) {k : List ℕ} → key v ≡ some k → (length k ≡ 32) × (all isByte k ≡ true)
 unfolding key
 key-size v {k} e =
-    let h = only-some (eqb (length v) 64) (unhex v) e in
-    (omega (arith, eqb-true (length v) 64 (h .0), unhex-length v (h .1)), unhex-bytes v (h .1))
+    let h = sized-then 64 64 unhex v e in
+    (omega (arith, h .0, unhex-length v (h .1)), unhex-bytes v (h .1))
 
 pub ssid-size : (v : List ℕ) {s : List ℕ} → ssid v ≡ some s → (1 ≤ length s) × (length s ≤ 32) × (all isByte s ≡ true)
 unfolding ssid
 ssid-size v {s} e =
-    let h = only-some (between 2 64 (length v)) (unhex v) e in
-    let n = unhex-length v (h .1) in
-    let low = between-low {x = length v} 2 64 (h .0) in
-    let high = between-high {x = length v} 2 64 (h .0) in
-    (omega (arith, n, low), omega (arith, n, high), unhex-bytes v (h .1))
+    let h = sized-then 2 64 unhex v e in
+    (omega (arith, h .0, unhex-length v (h .1)), omega (arith, h .0, unhex-length v (h .1)), unhex-bytes v (h .1))
 
 -- ---- addresses and mask lengths
 
@@ -231,10 +228,6 @@ unfolding text
 connman-text v e =
     let h = and-true (all (textByte true) v) (utf8 v) e in
     rw (all-weaken (textByte true) (textByte false) value-byte v (h .0)) (h .1)
-
-prepend-some : (x : ℕ) (o : Option (List ℕ)) {t : List ℕ} → prepend x o ≡ some t → (u : List ℕ) × (o ≡ some u) × (x ∷ u ≡ t)
-prepend-some x none {t} e = absurd (Option·none-ne-some t e)
-prepend-some x (some u) {t} e = (u, refl, Option·some-injective (x ∷ u) t e)
 
 -- an escape's letter, and what it stands for, are ASCII
 letter-ascii : (c : ℕ) → eqb (meant c) 0 ≡ false → (c ≤ 127) × (meant c ≤ 127)

@@ -5,12 +5,13 @@ use mathlib.Core.Path.{_≡_, refl, _∙_}
 use mathlib.Core.Bool.{Bool, true, false, _||_, true≢false}
 use mathlib.Core.List.{List, [], _∷_, _++_}
 use mathlib.Core.Option.{some}
-use borrow.Author.Tests.{eq-eqb, eqb-true}
+use borrow.Author.Tests.{eqb-true}
 use lib.Dec.{eqb}
 use lib.ListN.{length}
 use Rattle.text.specs.Bytes.{between, inLine, isBlank, isDigit, isLowerHex}
 use Rattle.text.specs.Parts.{all, after, empty}
 use Rattle.text.specs.Laws.{inside, between-low, between-high, pass-other, all-cons, all-weaken, all-other}
+use Rattle.text.specs.OptionLaws.{is-sized}
 use Rattle.text.specs.declared.Dialect.the-variants.{Iwd}
 use Rattle.utf8.specs.Utf8.{text, valueText, recordText}
 use Rattle.utf8.specs.Laws.{isPrintable, text-printable}
@@ -74,7 +75,9 @@ hex-stands t b =
 
 pub key-hex : (k : List ℕ) → length k ≡ 32 → all isByte k ≡ true → key (hex k) ≡ some k
 unfolding key
-key-hex k n b = rw (eq-eqb (length (hex k)) 64 (omega (arith, hex-length k, n)), unhex-hex k b)
+key-hex k n b =
+    let l = hex-length k in
+    rw (is-sized 64 64 (some (hex k)) (record { least = omega arith; most = omega arith }) refl, unhex-hex k b)
 
 -- ---- addresses and lists of them
 

@@ -26,7 +26,7 @@ header-render d n w = rw (extends-append d n (93 ∷ []) (w .some), w .plain, fr
 -- ---- a setting
 
 -- bytes that are in no key
-no-key : (d : Dialect) → (isKeyByte d 32 ≡ false) × (isKeyByte d 9 ≡ false) × (isKeyByte d 35 ≡ false) × (isKeyByte d 91 ≡ false) × (isKeyByte d 61 ≡ false) × (isKeyByte d 10 ≡ false)
+pub no-key : (d : Dialect) → (isKeyByte d 32 ≡ false) × (isKeyByte d 9 ≡ false) × (isKeyByte d 35 ≡ false) × (isKeyByte d 91 ≡ false) × (isKeyByte d 61 ≡ false) × (isKeyByte d 10 ≡ false)
 unfolding isKeyByte
 no-key Iwd = (refl, refl, refl, refl, refl, refl)
 no-key ConnMan = (refl, refl, refl, refl, refl, refl)

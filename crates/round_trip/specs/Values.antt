@@ -84,7 +84,7 @@ gateway-row a h = row-good (record { long = refl; bytes = refl; listed = refl })
 
 pub netmask-row : (n : ℕ) → 1 ≤ n → n ≤ 32 → GoodRow Iwd Ipv4 (word "Netmask", dotted (maskBytes n))
 unfolding keysOf isKeyByte typed
-netmask-row n h g = row-good (record { long = refl; bytes = refl; listed = refl }) (dotted-stands (maskBytes n) (mask-address n g)) refl (ap (mapped T.length) (netmask-dotted n h g))
+netmask-row n h g = row-good (record { long = refl; bytes = refl; listed = refl }) (dotted-stands (maskBytes n) (mask-address n g)) refl (ap (mapped T.maskLength) (netmask-dotted n h g))
 
 pub servers-listed : (a : List ℕ) (l : List (List ℕ)) → GoodServers (a ∷ l) → addresses Spaces (listed Spaces (a ∷ l)) ≡ some (a ∷ l)
 servers-listed a l w = addresses-listed Spaces (a ∷ l) (inside {x = length (a ∷ l)} 1 4 (omega arith) (w .high)) (w .addresses)

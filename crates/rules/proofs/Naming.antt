@@ -20,13 +20,15 @@ use Rattle.rules.specs.declared.KindAt.the-variants as K
 use Rattle.rules.specs.declared.Listed.the-variants as L
 
 module _ (n : List ℕ) where
-  pub service-short : length n < 9 → false ≡ isService n
+  outside : between 1 32 (length (drop 8 n)) ≡ false → false ≡ isService n
   unfolding isService
-  service-short h = sym (ap (λ (t : Bool). same (take 8 n) (word "service_") && (t && all isIdentifier (drop 8 n))) (under {x = length (drop 8 n)} 1 32 (simp length-drop (omega arith))) ∙ and-false (same (take 8 n) (word "service_")))
+  outside e = rw (e, and-false (same (take 8 n) (word "service_")))
+
+  pub service-short : length n < 9 → false ≡ isService n
+  service-short h = outside (under {x = length (drop 8 n)} 1 32 (simp length-drop (omega arith)))
 
   pub service-long : 40 < length n → false ≡ isService n
-  unfolding isService
-  service-long h = sym (ap (λ (t : Bool). same (take 8 n) (word "service_") && (t && all isIdentifier (drop 8 n))) (over {x = length (drop 8 n)} 1 32 (simp length-drop (omega arith))) ∙ and-false (same (take 8 n) (word "service_")))
+  service-long h = outside (over {x = length (drop 8 n)} 1 32 (simp length-drop (omega arith)))
 
   module _ {x : Bool} (p : x ≡ same (take 8 n) (word "service_")) where
     pub service-other : x ≡ false → false ≡ isService n

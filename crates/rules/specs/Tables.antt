@@ -3,11 +3,11 @@ use Prim.Native.Nat.{ℕ}
 use mathlib.Core.Bool.{Bool, cond, _&&_}
 use mathlib.Core.List.{List, [], _∷_}
 use mathlib.Core.Option.{Option, none, some}
-use lib.ListN.{length, take, drop}
-use Rattle.text.specs.Bytes.{between, isIdentifier}
+use lib.ListN.{take, drop}
+use Rattle.text.specs.Bytes.{isIdentifier}
 use Rattle.text.specs.Parts.{all}
 use Rattle.text.specs.Words.{word, same, named}
-use Rattle.text.specs.Options.{only}
+use Rattle.text.specs.Options.{isSome, only, sized}
 use Rattle.text.specs.declared.Dialect.{Dialect}
 use Rattle.text.specs.declared.Dialect.the-variants.{Iwd, ConnMan}
 use Rattle.addresses.specs.declared.Separator.the-variants.{Spaces, Comma}
@@ -23,7 +23,7 @@ iwdGroups = (word "Settings", Settings) ∷ (word "Security", Security) ∷ (wor
 
 -- "`service_` and 1 to 32 letters, digits or `_`"
 unfoldable pub isService : List ℕ → Bool
-isService n = same (take 8 n) (word "service_") && (between 1 32 (length (drop 8 n)) && all isIdentifier (drop 8 n))
+isService n = same (take 8 n) (word "service_") && (isSome (sized 1 32 (some (drop 8 n))) && all isIdentifier (drop 8 n))
 
 -- "ConnMan groups: `global`: .. `service_` ..": the group that a name names
 unfoldable pub groupOf : Dialect → List ℕ → Option Group

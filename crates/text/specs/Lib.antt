@@ -2,6 +2,14 @@ pub mod Bytes
 pub mod Parts
 pub mod Words
 pub mod Options
+pub mod Relations
+pub mod Occurrences
+pub mod Pieces
 pub mod Scans
 pub mod Laws
 pub mod OptionLaws
+pub mod RelationLaws
+pub mod OccurrenceLaws
+pub mod PieceLaws
+pub mod RunLaws
+pub mod Tells

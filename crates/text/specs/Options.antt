@@ -35,7 +35,7 @@ abbrev pub only : {A : Type 0} → Bool → Option A → Option A
 only true o = o
 only false o = none
 
--- a list of low to high elements: the one rule for lengths, cited by every kind
+-- a list of low to high elements: the one rule for lengths, cited wherever a length is asked
 abbrev pub sized : {A : Type 0} → ℕ → ℕ → Option (List A) → Option (List A)
 sized low high none = none
 sized low high (some t) = cond (between low high (length t)) (some t) none

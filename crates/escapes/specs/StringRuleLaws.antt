@@ -1,0 +1,91 @@
+-- What `unescape` and `stringOf` read is what the text stands for.
+use Prim.Native.Nat.{ℕ}
+use mathlib.Core.Path.{_≡_, refl, ap, subst}
+use mathlib.Core.Bool.{Bool, true, false, cond, true≢false}
+use mathlib.Core.List.{List, [], _∷_}
+use mathlib.Core.Option.{none, some, Option·some-injective, Option·none-ne-some}
+use borrow.Author.Tests.{eqb-true, eqb-false, ne-eqb}
+use lib.Dec.{eqb}
+use Rattle.text.specs.Options.{prepend}
+use Rattle.text.specs.OptionLaws.{prepend-some}
+use Rattle.text.specs.declared.Dialect.{Dialect}
+use Rattle.text.specs.declared.Dialect.the-variants.{Iwd, ConnMan}
+use Rattle.escapes.specs.Escapes.{meant, reading, unescape}
+use Rattle.escapes.specs.Strings.{stringOf}
+use Rattle.escapes.specs.StringRules.{Escape, space, tab, return, newline, backslash, Unescaped, no-more, as-it-stands, escaped, StringIs}
+
+-- ---- one escape
+
+escape-meant : {c byte : ℕ} → Escape c byte → (eqb (meant c) 0 ≡ false) × (meant c ≡ byte)
+escape-meant space = (refl, refl)
+escape-meant tab = (refl, refl)
+escape-meant return = (refl, refl)
+escape-meant newline = (refl, refl)
+escape-meant backslash = (refl, refl)
+
+meant-escape : (c : ℕ) → eqb (meant c) 0 ≡ false → Escape c (meant c)
+meant-escape c = go (eqb c 115) refl (eqb c 116) refl (eqb c 114) refl (eqb c 110) refl (eqb c 92) refl
+  where
+    Meant : (s t r n b : Bool) → Type 0
+    Meant s t r n b = let m : ℕ = cond s 32 (cond t 9 (cond r 13 (cond n 10 (cond b 92 0)))) in eqb m 0 ≡ false → Escape c m
+
+    go : (s : Bool) → eqb c 115 ≡ s → (t : Bool) → eqb c 116 ≡ t → (r : Bool) → eqb c 114 ≡ r → (n : Bool) → eqb c 110 ≡ n → (b : Bool) → eqb c 92 ≡ b → Meant s t r n b
+    go true p t q r u n w b x h = rw (eqb-true c 115 p) space
+    go false p true q r u n w b x h = rw (eqb-true c 116 q) tab
+    go false p false q true u n w b x h = rw (eqb-true c 114 u) return
+    go false p false q false u true w b x h = rw (eqb-true c 110 w) newline
+    go false p false q false u false w true x h = rw (eqb-true c 92 x) backslash
+    go false p false q false u false w false x h = absurd (true≢false h)
+
+-- ---- a text
+
+-- what is read, where a backslash stands before the text or not
+abbrev Reads : Bool → List ℕ → Type 0
+Reads false s = (t : List ℕ) → reading false s ≡ some t → Unescaped s t
+Reads true s = (t : List ℕ) → reading true s ≡ some t → Unescaped (92 ∷ s) t
+
+first-reads : (c : ℕ) (s : List ℕ) → Reads true s → Reads false s → Reads false (c ∷ s)
+unfolding reading
+first-reads c s x y t e = go (eqb c 92) refl e
+  where
+    go : (b : Bool) → eqb c 92 ≡ b → cond b (reading true s) (prepend c (reading false s)) ≡ some t → Unescaped (c ∷ s) t
+    go true q f = rw (eqb-true c 92 q) (x t f)
+    go false q f =
+        let k = prepend-some c (reading false s) f in
+        subst (Unescaped (c ∷ s)) (k .2) (as-it-stands (eqb-false c 92 q) (y (k .0) (k .1)))
+
+second-reads : (c : ℕ) (s : List ℕ) → Reads false s → Reads true (c ∷ s)
+unfolding reading
+second-reads c s y t e = go (eqb (meant c) 0) refl e
+  where
+    go : (b : Bool) → eqb (meant c) 0 ≡ b → cond b none (prepend (meant c) (reading false s)) ≡ some t → Unescaped (92 ∷ c ∷ s) t
+    go true q f = absurd (Option·none-ne-some t f)
+    go false q f =
+        let k = prepend-some (meant c) (reading false s) f in
+        subst (Unescaped (92 ∷ c ∷ s)) (k .2) (escaped (meant-escape c q) (y (k .0) (k .1)))
+
+reads : (b : Bool) (s : List ℕ) → Reads b s
+unfolding reading
+reads false [] = λ t e. subst (Unescaped []) (Option·some-injective [] t e) no-more
+reads true [] = λ t e. absurd (Option·none-ne-some t e)
+reads false (c ∷ s) = first-reads c s (reads true s) (reads false s)
+reads true (c ∷ s) = second-reads c s (reads false s)
+
+pub unescape-is : (v : List ℕ) {t : List ℕ} → unescape v ≡ some t → Unescaped v t
+unescape-is v {t} e = reads false v t e
+
+pub is-unescape : {v t : List ℕ} → Unescaped v t → unescape v ≡ some t
+unfolding reading
+is-unescape no-more = refl
+is-unescape (as-it-stands {c} d h) = rw (ne-eqb c 92 d, is-unescape h)
+is-unescape (escaped d h) = let k = escape-meant d in rw (k .0, is-unescape h, k .1)
+
+-- ---- a string of either dialect
+
+pub string-is : (d : Dialect) (v : List ℕ) {t : List ℕ} → stringOf d v ≡ some t → StringIs d v t
+string-is Iwd v e = unescape-is v e
+string-is ConnMan v {t} e = Option·some-injective v t e
+
+pub is-string : (d : Dialect) (v : List ℕ) {t : List ℕ} → StringIs d v t → stringOf d v ≡ some t
+is-string Iwd v h = is-unescape h
+is-string ConnMan v h = ap some h

@@ -1,0 +1,181 @@
+-- A value is read by its kind exactly as the rules say, and its text is judged broken exactly where the rules say so.
+use Prim.Native.Nat.{ℕ}
+use mathlib.Core.Path.{_≡_, refl, ap, ap₂, _∙_, subst}
+use mathlib.Core.Bool.{Bool, true, false, not, true≢false}
+use mathlib.Core.List.{List, [], _∷_}
+use mathlib.Core.Option.{Option, some, Option·some-injective}
+use Rattle.text.specs.Bytes.{other, isEntryByte}
+use Rattle.text.specs.Parts.{all, pieces}
+use Rattle.text.specs.Pieces.{Pieces}
+use Rattle.text.specs.PieceLaws.{pieces-are, pieces-only}
+use Rattle.text.specs.Relations.{Each, Pairwise}
+use Rattle.text.specs.Options.{isSome, mapped, only, each}
+use Rattle.text.specs.OptionLaws.{some-is, only-some, sized-is, is-sized, mapped-some, each-pairwise, pairwise-each}
+use Rattle.text.specs.Laws.{and-true, all-cons, all-weaken}
+use Rattle.text.specs.declared.Dialect.{Dialect}
+use Rattle.utf8.specs.Utf8.{utf8, text, textByte, valueText}
+use Rattle.utf8.specs.WellFormedLaws.{utf8-formed, formed-utf8}
+use Rattle.escapes.specs.Strings.{stringOf}
+use Rattle.escapes.specs.StringRules.{StringIs}
+use Rattle.escapes.specs.StringRuleLaws.{string-is, is-string}
+use Rattle.addresses.specs.Addresses.{address, netmask, addresses}
+use Rattle.addresses.specs.AddressRuleLaws.{address-is, is-address, addresses-is, is-addresses}
+use Rattle.addresses.specs.MaskRuleLaws.{netmask-is, is-netmask}
+use Rattle.kinds.specs.Kinds as D
+use Rattle.kinds.specs.Typed as T
+use Rattle.kinds.specs.Typed.{Typed, typed, escapesBroken, stringBroken}
+use Rattle.kinds.specs.ValueRules as R
+use Rattle.kinds.specs.ValueRules.{Entry, EntriesAre, TextIs, ValueIs, IsString, WholeText}
+use Rattle.kinds.specs.WordRuleLaws.{flag-means, means-flag, word-means, means-word}
+use Rattle.kinds.specs.Ipv4RuleLaws.{ipv4-is, is-ipv4}
+use Rattle.kinds.specs.HexValueLaws.{mac-is, is-mac, key-is, is-key, ssid-is, is-ssid}
+use Rattle.kinds.specs.declared.Kind.{Kind}
+use Rattle.kinds.specs.declared.Kind.the-variants as K
+
+-- ---- lists of entries
+
+-- an entry is read as it stands
+abbrev AsItStands : List ℕ → List ℕ → Type 0
+AsItStands p e = (p ≡ e) × Entry e
+
+entry-is : (p e : List ℕ) → D.entry p ≡ some e → AsItStands p e
+entry-is p e i =
+    let s = sized-is 1 253 (only (all isEntryByte p) (some p)) i in
+    let o = only-some (all isEntryByte p) (some p) (s .1) in
+    let q : p ≡ e = Option·some-injective p e (o .1) in
+    (q, record { size = s .0; bytes = rw q at (o .0) })
+
+is-entry : (p e : List ℕ) → AsItStands p e → D.entry p ≡ some e
+is-entry p e h = is-sized 1 253 (only (all isEntryByte p) (some p)) (h .1 .size) (rw (h .0, h .1 .bytes))
+
+read-as : (ps l : List (List ℕ)) → Pairwise AsItStands ps l → (ps ≡ l) × Each Entry l
+read-as [] [] h = (refl, tt)
+read-as [] (e ∷ l) h = absurd h
+read-as (p ∷ ps) [] h = absurd h
+read-as (p ∷ ps) (e ∷ l) h = let k = read-as ps l (h .1) in (ap₂ _∷_ (h .0 .0) (k .0), (h .0 .1, k .1))
+
+as-read : (l : List (List ℕ)) → Each Entry l → Pairwise AsItStands l l
+as-read [] h = tt
+as-read (e ∷ l) h = ((refl, h .0), as-read l (h .1))
+
+entries-are : (v : List ℕ) {l : List (List ℕ)} → D.entries v ≡ some l → EntriesAre v l
+unfolding D.entries
+entries-are v {l} e =
+    let s = sized-is 1 4 (each D.entry (pieces 44 v)) e in
+    let k = read-as (pieces 44 v) l (each-pairwise D.entry AsItStands entry-is (pieces 44 v) (s .1)) in
+    record { commas = subst (Pieces 44 v) (k .0) (pieces-are 44 v); each = k .1; count = s .0 }
+
+are-entries : (v : List ℕ) {l : List (List ℕ)} → EntriesAre v l → D.entries v ≡ some l
+unfolding D.entries
+are-entries v {l} h =
+    is-sized 1 4 (each D.entry (pieces 44 v)) (h .count)
+    (ap (each D.entry) (pieces-only 44 (h .commas)) ∙ pairwise-each D.entry AsItStands is-entry l l (as-read l (h .each)))
+
+-- ---- strings
+
+text-is : (d : Dialect) (low high : ℕ) (v : List ℕ) {t : List ℕ} → D.string d low high v ≡ some t → TextIs d low high v t
+unfolding D.string
+text-is d low high v e = let s = sized-is low high (stringOf d v) e in record { is = string-is d v (s .1); size = s .0 }
+
+is-text : (d : Dialect) (low high : ℕ) (v : List ℕ) {t : List ℕ} → TextIs d low high v t → D.string d low high v ≡ some t
+unfolding D.string
+is-text d low high v h = is-sized low high (stringOf d v) (h .size) (is-string d v (h .is))
+
+-- ---- every kind
+
+module _ {A : Type 0} (d : Dialect) (k : Kind) (v : List ℕ) (f : A → Typed) (o : Option A) where
+  -- what is read of a value is its typed value
+  given : ((a : A) → o ≡ some a → ValueIs d k v (f a)) → {t : Typed} → mapped f o ≡ some t → ValueIs d k v t
+  given g e = let m = mapped-some f o e in subst (ValueIs d k v) (m .2) (g (m .0) (m .1))
+
+pub typed-value : (d : Dialect) (k : Kind) (v : List ℕ) {t : Typed} → typed d k v ≡ some t → ValueIs d k v t
+unfolding typed
+typed-value d K.Flag v e = given d K.Flag v T.flag (D.flag d v) (λ b q. R.flag (flag-means d v q)) e
+typed-value d (K.Named l) v e = given d (K.Named l) v T.word (D.wordOf l v) (λ w q. R.named (word-means l v q)) e
+typed-value d K.Address v e = given d K.Address v T.address (address v) (λ a q. R.address (address-is v q)) e
+typed-value d K.Netmask v e = given d K.Netmask v T.maskLength (netmask v) (λ n q. R.netmask (netmask-is v q)) e
+typed-value d K.Ipv4 v e = given d K.Ipv4 v T.ipv4 (D.ipv4 v) (λ i q. R.ipv4 (ipv4-is v q)) e
+typed-value d (K.Addresses sep) v e = given d (K.Addresses sep) v T.addresses (addresses sep v) (λ l q. R.addresses (addresses-is sep v q)) e
+typed-value d K.Entries v e = given d K.Entries v T.entries (D.entries v) (λ l q. R.entries (entries-are v q)) e
+typed-value d K.Mac v e = given d K.Mac v T.bytes (D.mac v) (λ b q. R.mac (mac-is v q)) e
+typed-value d K.Key v e = given d K.Key v T.bytes (D.key v) (λ b q. R.key (key-is v q)) e
+typed-value d K.Ssid v e = given d K.Ssid v T.bytes (D.ssid v) (λ b q. R.ssid (ssid-is v q)) e
+typed-value d K.Passphrase v e = given d K.Passphrase v T.bytes (D.passphrase d v) (λ b q. R.passphrase (text-is d 8 63 v q)) e
+typed-value d (K.Text low high) v e = given d (K.Text low high) v T.bytes (D.string d low high v) (λ b q. R.text (text-is d low high v q)) e
+
+pub value-typed : (d : Dialect) (k : Kind) (v : List ℕ) {t : Typed} → ValueIs d k v t → typed d k v ≡ some t
+unfolding typed
+value-typed d k v (R.flag h) = ap (mapped T.flag) (means-flag d v h)
+value-typed d k v (R.named {l} h) = ap (mapped T.word) (means-word l v h)
+value-typed d k v (R.address h) = ap (mapped T.address) (is-address v h)
+value-typed d k v (R.netmask h) = ap (mapped T.maskLength) (is-netmask v h)
+value-typed d k v (R.ipv4 h) = ap (mapped T.ipv4) (is-ipv4 v h)
+value-typed d k v (R.addresses {sep} h) = ap (mapped T.addresses) (is-addresses sep v h)
+value-typed d k v (R.entries h) = ap (mapped T.entries) (are-entries v h)
+value-typed d k v (R.mac h) = ap (mapped T.bytes) (is-mac v h)
+value-typed d k v (R.key h) = ap (mapped T.bytes) (is-key v h)
+value-typed d k v (R.ssid h) = ap (mapped T.bytes) (is-ssid v h)
+value-typed d k v (R.passphrase h) = ap (mapped T.bytes) (is-text d 8 63 v h)
+value-typed d k v (R.text {low} {high} h) = ap (mapped T.bytes) (is-text d low high v h)
+
+-- ---- whole text
+
+escapes-whole : (d : Dialect) (v : List ℕ) → escapesBroken d v ≡ false → (bytes : List ℕ) × StringIs d v bytes
+escapes-whole d v h = let k = some-is (stringOf d v) (go (isSome (stringOf d v)) h) in (k .0, string-is d v (k .1))
+  where
+    go : (b : Bool) → not b ≡ false → b ≡ true
+    go true h = refl
+    go false h = absurd (true≢false h)
+
+whole-escapes : (d : Dialect) (v : List ℕ) → ((bytes : List ℕ) × StringIs d v bytes) → escapesBroken d v ≡ false
+whole-escapes d v h = ap (λ (o : Option (List ℕ)). not (isSome o)) (is-string d v (h .1))
+
+string-whole : (d : Dialect) (k : Kind) (v : List ℕ) → stringBroken d k v ≡ false → IsString k → (bytes : List ℕ) × StringIs d v bytes
+string-whole d K.Flag v e h = absurd h
+string-whole d (K.Named l) v e h = absurd h
+string-whole d K.Address v e h = absurd h
+string-whole d K.Netmask v e h = absurd h
+string-whole d K.Ipv4 v e h = absurd h
+string-whole d (K.Addresses sep) v e h = absurd h
+string-whole d K.Entries v e h = absurd h
+string-whole d K.Mac v e h = absurd h
+string-whole d K.Key v e h = absurd h
+string-whole d K.Ssid v e h = absurd h
+string-whole d K.Passphrase v e h = escapes-whole d v e
+string-whole d (K.Text low high) v e h = escapes-whole d v e
+
+pub judged-whole : (d : Dialect) (k : Kind) (v : List ℕ) → valueText v ≡ true → stringBroken d k v ≡ false → WholeText d k v
+unfolding text
+judged-whole d k v h e =
+    let p = and-true (all (textByte true) v) (utf8 v) h in
+    record {
+      encoded = utf8-formed v (p .1);
+      no-zero = all-weaken (textByte true) (other 0) (λ x i. and-true (other 0 x) (other 13 x) i .0) v (p .0);
+      no-return = all-weaken (textByte true) (other 13) (λ x i. and-true (other 0 x) (other 13 x) i .1) v (p .0);
+      escapes = string-whole d k v e;
+    }
+
+all-both : (v : List ℕ) → all (other 0) v ≡ true → all (other 13) v ≡ true → all (textByte true) v ≡ true
+all-both [] h k = refl
+all-both (x ∷ v) h k =
+    let i = all-cons (other 0) x v h in
+    let j = all-cons (other 13) x v k in
+    rw (i .0, j .0) (all-both v (i .1) (j .1))
+
+pub whole-text : (d : Dialect) (k : Kind) (v : List ℕ) → WholeText d k v → valueText v ≡ true
+unfolding text
+whole-text d k v w = rw (all-both v (w .no-zero) (w .no-return)) (formed-utf8 (w .encoded))
+
+pub whole-unbroken : (d : Dialect) (k : Kind) (v : List ℕ) → WholeText d k v → stringBroken d k v ≡ false
+whole-unbroken d K.Flag v w = refl
+whole-unbroken d (K.Named l) v w = refl
+whole-unbroken d K.Address v w = refl
+whole-unbroken d K.Netmask v w = refl
+whole-unbroken d K.Ipv4 v w = refl
+whole-unbroken d (K.Addresses sep) v w = refl
+whole-unbroken d K.Entries v w = refl
+whole-unbroken d K.Mac v w = refl
+whole-unbroken d K.Key v w = refl
+whole-unbroken d K.Ssid v w = refl
+whole-unbroken d K.Passphrase v w = whole-escapes d v (w .escapes tt)
+whole-unbroken d (K.Text low high) v w = whole-escapes d v (w .escapes tt)

@@ -1,0 +1,148 @@
+-- What the settings of a service lack or contradict is what its lines lack or contradict.
+use Prim.Native.Nat.{ℕ}
+use Prim.Native.String.{String}
+use mathlib.Core.Path.{_≡_, refl, sym, _∙_, subst}
+use mathlib.Core.Bool.{Bool, true, false, cond, not, _&&_, false≢true}
+use mathlib.Core.List.{List, [], _∷_}
+use mathlib.Core.Logic.{_⊎_, inl, inr}
+use mathlib.Core.Option.{Option, none, some}
+use borrow.Author.Tests.{not-true}
+use Rattle.text.specs.Options.{andThen}
+use Rattle.text.specs.Words.{word, same, named}
+use Rattle.text.specs.Laws.{and-true}
+use Rattle.text.specs.Relations.{Some}
+use Rattle.text.specs.RelationLaws.{some-weaken}
+use Rattle.text.specs.Tells.{Tells, holds, fails, tells-not, tells-alike, tells-and, tells-or}
+use Rattle.kinds.specs.Kinds.{wordsOf, wordOf}
+use Rattle.kinds.specs.declared.Word.{Word}
+use Rattle.kinds.specs.declared.Word.the-variants.{Wifi, Ethernet, Psk, None}
+use Rattle.kinds.specs.declared.WordList.{WordList}
+use Rattle.kinds.specs.declared.WordList.the-variants as W
+use Rattle.lines.specs.Lines.{Line}
+use Rattle.rules.specs.Faults.{Entry, given}
+use Rattle.rules.specs.Groups.{lackOrClash, entryOf, isWord, wordIn, lacks, clashes, serviceFault}
+use Rattle.rules.specs.GroupRules.{Has, HasValue, Faulty, missing, contradicts, ServiceLacks, ServiceClashes}
+use Rattle.rules.specs.TableLaws.{same-tells}
+use Rattle.rules.specs.SectionLaws.{Pair, KeyIn, Once, entryPairs, linePairs, pairs-tell, given-tells}
+use Rattle.rules.specs.declared.Refusal.{Refusal}
+
+-- ---- a word that is spelled in one way only
+
+-- no row of the table stands for the word; only the row of the text v does
+abbrev absent : Word → List (List ℕ × Word) → Bool
+absent w [] = true
+absent w (row ∷ t) = not (isWord w (some (row .1))) && absent w t
+
+abbrev spelled : Word → List ℕ → List (List ℕ × Word) → Bool
+spelled w v [] = false
+spelled w v (row ∷ t) =
+    cond (same (row .0) v) (isWord w (some (row .1)) && absent w t) (not (isWord w (some (row .1))) && spelled w v t)
+
+absent-named : (w : Word) (u : List ℕ) (t : List (List ℕ × Word)) → absent w t ≡ true → isWord w (named u t) ≡ false
+absent-named w u [] h = refl
+absent-named w u (row ∷ t) h =
+    let p = and-true (not (isWord w (some (row .1)))) (absent w t) h in
+    go (same u (row .0)) (not-true (isWord w (some (row .1))) (p .0)) (absent-named w u t (p .1))
+  where
+    go : (b : Bool) → isWord w (some (row .1)) ≡ false → isWord w (named u t) ≡ false →
+        isWord w (cond b (some (row .1)) (named u t)) ≡ false
+    go true e f = e
+    go false e f = f
+
+spelled-tells : (w : Word) (v : List ℕ) (t : List (List ℕ × Word)) → spelled w v t ≡ true →
+    (u : List ℕ) → Tells (u ≡ v) (isWord w (named u t))
+spelled-tells w v [] h u = absurd (false≢true h)
+spelled-tells w v (row ∷ t) h u = go (same-tells (row .0) v) (same-tells u (row .0)) h (λ k. spelled-tells w v t k u)
+  where
+    go : {a b : Bool} → Tells (row .0 ≡ v) a → Tells (u ≡ row .0) b →
+        cond a (isWord w (some (row .1)) && absent w t) (not (isWord w (some (row .1))) && spelled w v t) ≡ true →
+        (spelled w v t ≡ true → Tells (u ≡ v) (isWord w (named u t))) →
+        Tells (u ≡ v) (isWord w (cond b (some (row .1)) (named u t)))
+    go (holds p) (holds q) h k =
+        let e = and-true (isWord w (some (row .1))) (absent w t) h in
+        subst (Tells (u ≡ v)) (sym (e .0)) (holds (q ∙ p))
+    go (holds p) (fails q) h k =
+        let e = and-true (isWord w (some (row .1))) (absent w t) h in
+        subst (Tells (u ≡ v)) (sym (absent-named w u t (e .1))) (fails (λ i. q (i ∙ sym p)))
+    go (fails p) (holds q) h k =
+        let e = and-true (not (isWord w (some (row .1)))) (spelled w v t) h in
+        subst (Tells (u ≡ v)) (sym (not-true (isWord w (some (row .1))) (e .0))) (fails (λ i. p (sym q ∙ i)))
+    go (fails p) (fails q) h k = k (and-true (not (isWord w (some (row .1)))) (spelled w v t) h .1)
+
+-- ---- whether a key is given a word
+
+-- one of the pairs is the key with the value
+abbrev Said : List ℕ → List ℕ → List Pair → Type 0
+Said k v ps = Some (λ p. (k ≡ p .0) × (v ≡ p .1)) ps
+
+module _ (w : Word) (t : WordList) (v : List ℕ) (f : (u : List ℕ) → Tells (u ≡ v) (isWord w (wordOf t u))) (k : List ℕ) where
+  word-tells : (es : List Entry) → Once (entryPairs es) →
+      Tells (Said k v (entryPairs es)) (isWord w (wordIn t k es))
+  word-tells [] o = fails (λ z. z)
+  word-tells (x ∷ es) o = go (same-tells k (x .key)) (word-tells es (o .1))
+    where
+      first : k ≡ x .key → Said k v (entryPairs (x ∷ es)) → x .value ≡ v
+      first e (inl h) = sym (h .1)
+      first e (inr h) =
+          absurd (o .0 (some-weaken (λ (p : Pair). (k ≡ p .0) × (v ≡ p .1)) (λ (p : Pair). x .key ≡ p .0) (λ p i. sym e ∙ i .0) (entryPairs es) h))
+
+      further : ¬ (k ≡ x .key) → Said k v (entryPairs (x ∷ es)) → Said k v (entryPairs es)
+      further n (inl h) = absurd (n (h .0))
+      further n (inr h) = h
+
+      go : {b : Bool} → Tells (k ≡ x .key) b → Tells (Said k v (entryPairs es)) (isWord w (wordIn t k es)) →
+          Tells (Said k v (entryPairs (x ∷ es))) (isWord w (andThen (cond b (some x) (entryOf k es)) (λ y. wordOf t (y .value))))
+      go (holds e) r = tells-alike (λ i. inl (e, sym i)) (first e) (f (x .value))
+      go (fails n) r = tells-alike (λ h. inr h) (further n) r
+
+-- ---- a rule over a group
+
+abbrev pub Ruled : Type 0 → Type 0 → Option Refusal → Type 0
+Ruled L C none = (¬ L) × (¬ C)
+Ruled L C (some r) = Faulty L C r
+
+pub ruled : {L C : Type 0} {a b : Bool} → Tells L a → Tells C b → Ruled L C (lackOrClash a b)
+ruled (holds l) (holds c) = missing l
+ruled (holds l) (fails c) = missing l
+ruled (fails l) (holds c) = contradicts l c
+ruled (fails l) (fails c) = (l, c)
+
+pub faulty-sound : {L C : Type 0} {r : Refusal} → Faulty L C r → (¬ L) × (¬ C) → ⊥
+faulty-sound (missing l) h = h .0 l
+faulty-sound (contradicts n c) h = h .1 c
+
+pub faulty-unique : {L C : Type 0} {r q : Refusal} → Faulty L C r → Faulty L C q → r ≡ q
+faulty-unique (missing l) (missing k) = refl
+faulty-unique (missing l) (contradicts n c) = absurd (n l)
+faulty-unique (contradicts n c) (missing l) = absurd (n l)
+faulty-unique (contradicts n c) (contradicts k e) = refl
+
+-- ---- a service
+
+module _ (es : List Entry) (ls : List Line) (q : entryPairs es ≡ linePairs ls) (o : Once (linePairs ls)) where
+  has-key : (k : String) → Tells (Has k ls) (given (word k) es)
+  has-key k = pairs-tell (λ j u. word k ≡ j) es ls q (given-tells (word k) es)
+
+  has-value : (k v : String) (w : Word) (t : WordList) → spelled w (word v) (wordsOf t) ≡ true →
+      Tells (HasValue k v ls) (isWord w (wordIn t (word k) es))
+  unfolding wordOf
+  has-value k v w t h =
+      pairs-tell (λ j u. (word k ≡ j) × (word v ≡ u)) es ls q
+      (word-tells w t (word v) (spelled-tells w (word v) (wordsOf t) h) (word k) es (rw q o))
+
+  lacks-tells : Tells (ServiceLacks ls) (lacks es)
+  lacks-tells =
+      tells-or (tells-not (has-key "Type"))
+      (tells-or (tells-and (has-value "Type" "wifi" Wifi W.ServiceType refl) (tells-not (tells-or (has-key "Name") (has-key "SSID"))))
+      (tells-and (has-value "Security" "psk" Psk W.Security refl) (tells-not (has-key "Passphrase"))))
+
+  clashes-tells : Tells (ServiceClashes ls) (clashes es)
+  clashes-tells =
+      tells-or
+      (tells-and (has-value "Type" "ethernet" Ethernet W.ServiceType refl)
+      (tells-or (has-key "Name") (tells-or (has-key "SSID") (tells-or (has-key "Passphrase") (tells-or (has-key "Security") (has-key "Hidden"))))))
+      (tells-and (has-value "Security" "none" None W.Security refl) (has-key "Passphrase"))
+
+  pub service-ruled : Ruled (ServiceLacks ls) (ServiceClashes ls) (serviceFault es)
+  unfolding serviceFault
+  service-ruled = ruled lacks-tells clashes-tells
