@@ -4,6 +4,7 @@ pub mod Faults
 pub mod Groups
 pub mod Reading
 pub mod Asking
+pub mod ListedValues
 pub mod Lookups
 pub mod Cases
 pub mod Refusals
@@ -11,3 +12,4 @@ pub mod Acceptance
 pub mod GoodEntries
 pub mod GoodValues
 pub mod GoodAnswers
+pub mod GivenValues
