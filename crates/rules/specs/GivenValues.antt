@@ -2,7 +2,7 @@
 -- not given, and is otherwise what the kind that is listed for the key gives.
 use Prim.Native.Nat.{ℕ}
 use mathlib.Core.Path.{_≡_, refl, ap, sym, _∙_, subst}
-use mathlib.Core.Bool.{Bool, true, false, cond, _||_}
+use mathlib.Core.Bool.{Bool, true, false, cond, _||_, true≢false}
 use mathlib.Core.List.{List, [], _∷_}
 use mathlib.Core.Option.{Option, none, some, Option·none-ne-some, Option·some-injective}
 use Rattle.text.specs.Options.{isSome, mapped, only}
@@ -14,11 +14,11 @@ use Rattle.kinds.specs.Typed.{Typed, typed}
 use Rattle.kinds.specs.declared.Kind.{Kind}
 use Rattle.kinds.specs.declared.Kind.the-variants as Kind
 use Rattle.rules.specs.Tables.{isService, groupOf, kindOf}
-use Rattle.rules.specs.Faults.{Entry, Section, given}
+use Rattle.rules.specs.Faults.{Entry, Section, given, serves}
 use Rattle.rules.specs.Groups.{entryOf, entriesIn, has}
 use Rattle.rules.specs.Reading.{sectionsOf, reading}
 use Rattle.rules.specs.Asking.{iwdEntry, serviceAt}
-use Rattle.rules.specs.ListedValues.{Value, valued, dialectOf, ValueOf, readBy, valueOf}
+use Rattle.rules.specs.ListedValues.{KindValue, valued, dialectOf, ValueOf, readBy, valueOf, groupName, groupValue}
 use Rattle.rules.specs.GoodEntries.{Asked, group-asked, service-asked}
 use Rattle.rules.specs.GoodValues.{GoodValue, group-value, service-value}
 use Rattle.rules.specs.declared.Group.{Group}
@@ -28,7 +28,7 @@ use Rattle.rules.specs.declared.Reading.the-variants.{Accepted}
 -- ---- the statement
 
 -- a value as the typed value that its kind gives
-abbrev pub typedAs : (k : Kind) → Value k → Typed
+abbrev pub typedAs : (k : Kind) → KindValue k → Typed
 typedAs Kind.Flag = T.flag
 typedAs (Kind.Named w) = T.word
 typedAs Kind.Address = T.address
@@ -43,9 +43,9 @@ typedAs Kind.Passphrase = T.bytes
 typedAs (Kind.Text low high) = T.bytes
 
 -- a setting and the value of its key, whose kind is k, in a file of dialect d
-pub data KindGives (d : Dialect) (k : Kind) : Option Entry → Option (Value k) → Type 0 where
+pub data KindGives (d : Dialect) (k : Kind) : Option Entry → Option (KindValue k) → Type 0 where
   absent : KindGives d k none none
-  present : {e : Entry} {x : Value k} → typed d k (e .value) ≡ some (typedAs k x) → KindGives d k (some e) (some x)
+  present : {e : Entry} {x : KindValue k} → typed d k (e .value) ≡ some (typedAs k x) → KindGives d k (some e) (some x)
 
 -- the same where a key may be listed or not; one that is not listed has neither a setting nor a value
 abbrev pub Gives : Dialect → (o : Option Kind) → Option Entry → Option (ValueOf o) → Type 0
@@ -86,12 +86,22 @@ group-dialect ConnMan n {g} e = go (same n (word "global")) (isService n) e
     go false true q = ap dialectOf (sym (Option·some-injective Service g q))
     go false false q = absurd (Option·none-ne-some g q)
 
+-- the one name of a group that is no service names it
+pub named-group : (g : Group) → serves g ≡ false → groupOf (dialectOf g) (groupName g) ≡ some g
+unfolding groupOf
+named-group Settings s = refl
+named-group Security s = refl
+named-group Ipv4 s = refl
+named-group Ipv6 s = refl
+named-group Global s = refl
+named-group Service s = absurd (true≢false s)
+
 -- ---- one key
 
 good-gives : (d : Dialect) (k : Kind) {e : Entry} → GoodValue d k (e .value) → KindGives d k (some e) (valued d k (e .value))
 good-gives d k {e} g = go (valued d k (e .value)) (typed-valued d k (e .value))
   where
-    go : (o : Option (Value k)) → typed d k (e .value) ≡ mapped (typedAs k) o → KindGives d k (some e) o
+    go : (o : Option (KindValue k)) → typed d k (e .value) ≡ mapped (typedAs k) o → KindGives d k (some e) o
     go none q = absurd (Option·none-ne-some (g .value) (sym q ∙ g .reads))
     go (some x) q = present q
 
@@ -112,7 +122,7 @@ serviceEntry gs w k = entryOf k (serviceAt w gs)
 pub group-gives : (d : Dialect) (name file : List ℕ) {n m : ℕ} → reading d name file ≡ Accepted n m
     → (group : List ℕ) {g : Group} → groupOf d group ≡ some g
     → (key : List ℕ)
-    → Gives d (kindOf g key) (iwdEntry (sectionsOf d file) group key) (valueOf g key (iwdEntry (sectionsOf d file) group))
+    → Gives d (kindOf g key) (iwdEntry (sectionsOf d file) group key) (valueOf g (iwdEntry (sectionsOf d file) group) key)
 group-gives d name file a group {g} q key =
     let s = iwdEntry (sectionsOf d file) group key in
     subst (λ (c : Dialect). Gives d (kindOf g key) s (readBy c (kindOf g key) s)) (sym (group-dialect d group q))
@@ -120,8 +130,15 @@ group-gives d name file a group {g} q key =
 
 -- in service w
 pub service-gives : (name file : List ℕ) {n m : ℕ} → reading ConnMan name file ≡ Accepted n m → (w : ℕ) (key : List ℕ)
-    → Gives ConnMan (kindOf Service key) (serviceEntry (sectionsOf ConnMan file) w key) (valueOf Service key (serviceEntry (sectionsOf ConnMan file) w))
+    → Gives ConnMan (kindOf Service key) (serviceEntry (sectionsOf ConnMan file) w key) (valueOf Service (serviceEntry (sectionsOf ConnMan file) w) key)
 service-gives name file a w key = key-gives ConnMan Service key (serviceEntry (sectionsOf ConnMan file) w key) (λ e t. service-asked ConnMan name file a w key t) (λ k l e t. service-value ConnMan name file a w key l t) (kindOf Service key) refl
+
+-- in the group that is no service, by its own name
+pub value-gives : (g : Group) → serves g ≡ false
+    → (name file : List ℕ) {n m : ℕ} → reading (dialectOf g) name file ≡ Accepted n m
+    → (key : List ℕ)
+    → Gives (dialectOf g) (kindOf g key) (iwdEntry (sectionsOf (dialectOf g) file) (groupName g) key) (groupValue g (iwdEntry (sectionsOf (dialectOf g) file)) key)
+value-gives g s name file a key = group-gives (dialectOf g) name file a (groupName g) (named-group g s) key
 
 -- ---- absent exactly when the key is not given
 
@@ -141,13 +158,13 @@ gives-some d (some k) e x (present q) = refl
 pub group-given : (d : Dialect) (name file : List ℕ) {n m : ℕ} → reading d name file ≡ Accepted n m
     → (group : List ℕ) {g : Group} → groupOf d group ≡ some g
     → (key : List ℕ)
-    → isSome (valueOf g key (iwdEntry (sectionsOf d file) group)) ≡ has group key (sectionsOf d file)
+    → isSome (valueOf g (iwdEntry (sectionsOf d file) group) key) ≡ has group key (sectionsOf d file)
 group-given d name file a group {g} q key =
-    gives-some d (kindOf g key) (iwdEntry (sectionsOf d file) group key) (valueOf g key (iwdEntry (sectionsOf d file) group)) (group-gives d name file a group q key)
+    gives-some d (kindOf g key) (iwdEntry (sectionsOf d file) group key) (valueOf g (iwdEntry (sectionsOf d file) group) key) (group-gives d name file a group q key)
     ∙ entry-given key (entriesIn group (sectionsOf d file))
 
 pub service-given : (name file : List ℕ) {n m : ℕ} → reading ConnMan name file ≡ Accepted n m → (w : ℕ) (key : List ℕ)
-    → isSome (valueOf Service key (serviceEntry (sectionsOf ConnMan file) w)) ≡ given key (serviceAt w (sectionsOf ConnMan file))
+    → isSome (valueOf Service (serviceEntry (sectionsOf ConnMan file) w) key) ≡ given key (serviceAt w (sectionsOf ConnMan file))
 service-given name file a w key =
-    gives-some ConnMan (kindOf Service key) (serviceEntry (sectionsOf ConnMan file) w key) (valueOf Service key (serviceEntry (sectionsOf ConnMan file) w)) (service-gives name file a w key)
+    gives-some ConnMan (kindOf Service key) (serviceEntry (sectionsOf ConnMan file) w key) (valueOf Service (serviceEntry (sectionsOf ConnMan file) w) key) (service-gives name file a w key)
     ∙ entry-given key (serviceAt w (sectionsOf ConnMan file))

@@ -2,3 +2,4 @@ pub mod Values
 pub mod Settings
 pub mod Rows
 pub mod Asked
+pub mod Absent
