@@ -5,4 +5,5 @@ pub mod Cases
 pub mod Joining
 pub mod Saturday
 pub mod SaturdayHolds
+pub mod Security
 pub mod Answered
