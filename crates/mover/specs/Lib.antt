@@ -3,6 +3,7 @@ pub mod Demand
 pub mod Earliest
 pub mod Theorem
 pub mod Order
+pub mod GoodMoves
 pub mod Sizes
 pub mod Places
 pub mod Cases
