@@ -4,6 +4,7 @@ pub mod Earliest
 pub mod Theorem
 pub mod Order
 pub mod GoodMoves
+pub mod Saturday
 pub mod Sizes
 pub mod Places
 pub mod Cases
