@@ -1,11 +1,12 @@
--- Demand 2's values, of every key of every group at once: in an accepted file a key's value is absent exactly when the key is
--- not given, and is otherwise what the kind that is listed for the key gives.
+-- Demand 2's values, of every key of every group at once: in an accepted file a key's value is absent exactly when the
+-- key is not given, and is otherwise what the kind that is listed for the key gives.
 use Prim.Native.Nat.{ℕ}
 use mathlib.Core.Path.{_≡_, refl, ap, sym, _∙_, subst}
 use mathlib.Core.Bool.{Bool, true, false, cond, _||_, true≢false}
 use mathlib.Core.List.{List, [], _∷_}
 use mathlib.Core.Option.{Option, none, some, Option·none-ne-some, Option·some-injective}
 use Rattle.text.specs.Options.{isSome, mapped, only}
+use Rattle.text.specs.OptionLaws.{Holds}
 use Rattle.text.specs.Words.{word, same}
 use Rattle.text.specs.declared.Dialect.{Dialect}
 use Rattle.text.specs.declared.Dialect.the-variants.{Iwd, ConnMan}
@@ -17,7 +18,7 @@ use Rattle.rules.specs.Tables.{isService, groupOf, kindOf}
 use Rattle.rules.specs.Faults.{Entry, Section, given, serves}
 use Rattle.rules.specs.Groups.{entryOf, entriesIn, has}
 use Rattle.rules.specs.Reading.{sectionsOf, reading}
-use Rattle.rules.specs.Asking.{iwdEntry, serviceAt}
+use Rattle.rules.specs.Asking.{iwdEntry, serviceAt, readAs}
 use Rattle.rules.specs.ListedValues.{KindValue, valued, dialectOf, ValueOf, readBy, valueOf, groupName, groupValue}
 use Rattle.rules.specs.GoodEntries.{Asked, group-asked, service-asked}
 use Rattle.rules.specs.GoodValues.{GoodValue, group-value, service-value}
@@ -97,6 +98,15 @@ named-group Global s = refl
 named-group Service s = absurd (true≢false s)
 
 -- ---- one key
+
+-- what is read from a setting has a property that its kind gives to all it reads
+pub read-holds : {A : Type 0} (P : A → Type 0) (f : List ℕ → Option A) (o : Option Entry) → ((e : Entry) → o ≡ some e → (a : A) → f (e .value) ≡ some a → P a) → Holds P (readAs f o)
+read-holds P f none h = tt
+read-holds {A} P f (some e) h = go (f (e .value)) refl
+  where
+    go : (o : Option A) → f (e .value) ≡ o → Holds P o
+    go none q = tt
+    go (some a) q = h e refl a q
 
 good-gives : (d : Dialect) (k : Kind) {e : Entry} → GoodValue d k (e .value) → KindGives d k (some e) (valued d k (e .value))
 good-gives d k {e} g = go (valued d k (e .value)) (typed-valued d k (e .value))

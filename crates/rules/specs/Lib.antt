@@ -13,3 +13,4 @@ pub mod GoodEntries
 pub mod GoodValues
 pub mod GoodAnswers
 pub mod GivenValues
+pub mod EntryLines

@@ -1,5 +1,6 @@
--- The value of a setting: what the kind that is listed for its key, in its group, reads from it. Which kind that is stands in
--- the table of keys alone, and which dialect's, in the group: whoever asks for a value names a group and a key and no kind.
+-- The value of a setting: what the kind that is listed for its key, in its group, reads from it. Which kind that is
+-- stands in the table of keys alone, and which dialect's it is follows from the group: whoever asks for a value names a
+-- group and a key, and no kind.
 use Prim.Native.Nat.{ℕ}
 use mathlib.Core.Bool.{Bool}
 use mathlib.Core.List.{List, []}
@@ -19,7 +20,7 @@ use Rattle.rules.specs.Asking.{readAs}
 use Rattle.rules.specs.declared.Group.{Group}
 use Rattle.rules.specs.declared.Group.the-variants.{Settings, Security, Ipv4, Ipv6, Global, Service}
 
--- what a value of each kind is: a yes/no, a word, a mask's length, an address, a list, the numbers of a network, or bytes
+-- what a value of each kind is: a yes/no, a word, a mask's length, an address, a list, numbers of a network, or bytes
 abbrev pub KindValue : Kind → Type 0
 KindValue Kind.Flag = Bool
 KindValue (Kind.Named w) = Word
@@ -81,5 +82,6 @@ groupName Global = word "global"
 groupName Service = []
 
 -- the value of key k in group g, at giving the settings of a file by their groups' names and their keys
-abbrev pub groupValue : (g : Group) → (List ℕ → List ℕ → Option Entry) → (k : List ℕ) → Option (ValueOf (kindOf g k))
+abbrev pub groupValue : (g : Group) → (List ℕ → List ℕ → Option Entry) → (k : List ℕ)
+    → Option (ValueOf (kindOf g k))
 groupValue g at k = valueOf g (at (groupName g)) k

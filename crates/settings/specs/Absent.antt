@@ -1,4 +1,4 @@
--- The settings that a refusal gives: zeros, by name and number, of which `Asked` says only that every setting is absent.
+-- The settings that a refusal gives are zeros: `Asked` says that every setting is absent, and this what that comes to.
 use mathlib.Core.Path.{_≡_, refl}
 use mathlib.Core.Bool.{false}
 use mathlib.Core.Option.{none}

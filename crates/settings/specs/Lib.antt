@@ -3,3 +3,5 @@ pub mod Settings
 pub mod Rows
 pub mod Asked
 pub mod Absent
+pub mod Given
+pub mod GivenHolds

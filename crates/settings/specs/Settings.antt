@@ -1,5 +1,5 @@
--- The typed settings, as document 01 lists them under "Settings and their kinds": every key with its value, or absent. A value is
--- asked for by its group and key; which kind reads it stands in the table of keys.
+-- The typed settings, as document 01 lists them under "Settings and their kinds": every key with its value, or absent. A
+-- value is asked for by its group and key; which kind reads it stands in the table of keys.
 use Prim.Native.Nat.{ℕ}
 use mathlib.Core.List.{List}
 use mathlib.Core.Option.{Option}
@@ -46,7 +46,8 @@ securityOf at =
       «pre_shared_key» = keyAnswer (value (word "PreSharedKey"));
     }
 
--- "IPv4: Address, Gateway, Broadcast (address), Netmask (mask), DNS (1 to 4 addresses ..), DomainName (string ..), SendHostname (bool)"
+-- "IPv4: Address, Gateway, Broadcast (address), Netmask (mask), DNS (1 to 4 addresses ..), DomainName (string ..),
+-- SendHostname (bool)"
 abbrev pub ipv4Of : (List ℕ → Option Entry) → Ipv4Settings
 unfolding keysOf
 ipv4Of at =
@@ -78,7 +79,8 @@ iwdServers at = rows (groupValue Ipv4 at (word "DNS"))
 
 -- ---- a ConnMan service: at gives the setting with a key
 
--- "Type (wifi, ethernet)", "Name (string, 1 to 32), SSID (2 to 64 hex digits ..), Passphrase (string, 8 to 63), Security (psk, ieee8021x, none, wep), Hidden (bool)"
+-- "Type (wifi, ethernet)", "Name (string, 1 to 32), SSID (2 to 64 hex digits ..), Passphrase (string, 8 to 63),
+-- Security (psk, ieee8021x, none, wep), Hidden (bool)"
 abbrev pub networkSettingsOf : (List ℕ → Option Entry) → NetworkSettings
 unfolding keysOf
 networkSettingsOf at =
@@ -92,7 +94,8 @@ networkSettingsOf at =
       hidden = choice (value (word "Hidden"));
     }
 
--- "IPv4, IPv6 (off, auto), IPv6.Privacy (..), MAC, Nameservers (1 to 4 addresses ..), SearchDomains and Timeservers (1 to 4 entries ..), Domain (string, 1 to 253)"
+-- "IPv4, IPv6 (off, auto), IPv6.Privacy (..), MAC, Nameservers (1 to 4 addresses ..), SearchDomains and Timeservers (1
+-- to 4 entries ..), Domain (string, 1 to 253)"
 abbrev pub addressSettingsOf : (List ℕ → Option Entry) → AddressSettings
 unfolding keysOf
 addressSettingsOf at =
