@@ -6,7 +6,7 @@ use mathlib.Core.Bool.{Bool, true, false, cond, not, _&&_, _||_, true≢false}
 use mathlib.Core.List.{List, [], _∷_}
 use mathlib.Core.Option.{Option, none, some, Option·none-ne-some, Option·some-injective}
 use Rattle.text.specs.Words.{word, same}
-use Rattle.text.specs.Options.{andThen, mapped, orElse, only, plain}
+use Rattle.text.specs.Options.{isSome, andThen, mapped, orElse, only, plain}
 use Rattle.text.specs.OptionLaws.{Holds, only-some, sized-some}
 use Rattle.text.specs.declared.Dialect.{Dialect}
 use Rattle.text.specs.declared.Dialect.the-variants as D
@@ -35,13 +35,14 @@ use Rattle.rules.specs.Asking.{iwdEntry, firstOr, serviceAt, readAs, lineIn, as
 use Rattle.rules.specs.Acceptance.{obeys-accepted, accepted-obeys}
 use Rattle.rules.specs.GoodAnswers.{asked-reading, asked-service}
 use Rattle.rules.specs.GoodValues.{GoodValue, group-value, service-value}
+use Rattle.rules.specs.GivenValues.{entry-given}
 use Rattle.rules.specs.declared.Reading.the-variants.{Accepted}
 use Rattle.rules.specs.declared.Refusal.{Refusal}
 use Rattle.rules.specs.declared.Refusal.the-variants.{Missing}
 use Rattle.records.specs.Record.{Join}
 use Rattle.records.specs.Formed.{GoodPassphrase, GoodKey, GoodSecret, GoodIpv4, GoodServers, GoodDomain, WellFormed}
-use Rattle.joins.specs.Joins.{joined, secretFrom, staticOrDhcp, ipv4OrDhcp, nameFrom, iwdJoin, serviceJoin, wired, foreignSecurity, noRecord, networkName, iwdJoined, settingOf, serviceJoined}
-use Rattle.joins.specs.Saturday.{joined-good}
+use Rattle.joins.specs.Joins.{joined, secretFrom, staticOrDhcp, ipv4OrDhcp, nameFrom, iwdJoin, serviceJoin, wired, foreign, noRecord, networkName, iwdJoined, settingOf, serviceJoined}
+use Rattle.joins.specs.Joining.{or-false, joined-good, service-joining}
 
 -- ---- what is read from a setting
 
@@ -125,6 +126,7 @@ iwd-ipv4-formed at =
     (address-formed (at (word "Gateway")))
 
 pub iwd-formed : (name file : List ℕ) {j : Join} → iwdJoined name file ≡ joined j → WellFormed j
+unfolding keysOf
 iwd-formed name file a =
     let h = joined-good (asked (reading D.Iwd name file)) none (iwdJoin (networkName (networkOf name)) (iwdEntry (sectionsOf D.Iwd file))) a in
     let r = asked-reading (reading D.Iwd name file) (h .0) .1 .1 in
@@ -140,51 +142,13 @@ iwd-formed name file a =
 
 -- ---- a service of a ConnMan file: what its group has
 
-module _ {A : Type 0} where
-  or-none : (x y : Option A) → orElse x y ≡ none → (x ≡ none) × (y ≡ none)
-  or-none none y e = (refl, e)
-  or-none (some a) y e = absurd (Option·none-ne-some a (sym e))
-
-  mapped-some : {B : Type 0} (f : A → B) (o : Option A) {b : B} → mapped f o ≡ some b → (a : A) × (o ≡ some a)
-  mapped-some f none {b} e = absurd (Option·none-ne-some b e)
-  mapped-some f (some a) e = (a, refl)
-
-or-false : (a b : Bool) → a || b ≡ false → (a ≡ false) × (b ≡ false)
-or-false true b e = absurd (true≢false e)
-or-false false b e = (refl, e)
-
-faultless : (l : ℕ) (o : Option Refusal) → faultAt l o ≡ none → o ≡ none
-faultless l none e = refl
-faultless l (some r) e = absurd (Option·none-ne-some (record { refusal = r; line = l }) (sym e))
-
--- "each service": service w among them
-service-faultless : (w : ℕ) (gs : List Section) → servicesFault gs ≡ none → 1 ≤ w → w ≤ services gs → serviceFault (serviceAt w gs) ≡ none
-service-faultless zero gs f l h = absurd (omega (arith, l))
-service-faultless (suc n) [] f l h = absurd (omega (arith, h))
-service-faultless (suc n) (g ∷ gs) f l h = go (serves (g .group)) n (λ p q r. service-faultless n gs p q r) (λ p q r. service-faultless (suc n) gs p q r) f h
-  where
-    go : (b : Bool) (n : ℕ) → (servicesFault gs ≡ none → 1 ≤ n → n ≤ services gs → serviceFault (serviceAt n gs) ≡ none) → (servicesFault gs ≡ none → 1 ≤ suc n → suc n ≤ services gs → serviceFault (serviceAt (suc n) gs) ≡ none) → orElse (cond b (faultAt (g .line) (serviceFault (g .entries))) none) (servicesFault gs) ≡ none → suc n ≤ cond b (suc (services gs)) (services gs) → serviceFault (cond b (firstOr n (g .entries) (serviceAt n gs)) (serviceAt (suc n) gs)) ≡ none
-    go true zero i k f h = faultless (g .line) (serviceFault (g .entries)) (or-none (faultAt (g .line) (serviceFault (g .entries))) (servicesFault gs) f .0)
-    go true (suc n) i k f h = i (or-none (faultAt (g .line) (serviceFault (g .entries))) (servicesFault gs) f .1) (omega arith) (omega (arith, h))
-    go false n i k f h = k f (omega arith) h
-
--- it lacks nothing
-whole : (es : List Entry) → serviceFault es ≡ none → lacks es ≡ false
-unfolding serviceFault
-whole es e = go (lacks es) e
-  where
-    go : (b : Bool) → lackOrClash b (clashes es) ≡ none → b ≡ false
-    go true e = absurd (Option·none-ne-some Missing (sym e))
-    go false e = refl
+mapped-some : {A B : Type 0} (f : A → B) (o : Option A) {b : B} → mapped f o ≡ some b → (a : A) × (o ≡ some a)
+mapped-some f none {b} e = absurd (Option·none-ne-some b e)
+mapped-some f (some a) e = (a, refl)
 
 -- a key without a setting is not given
 not-given : (k : List ℕ) (es : List Entry) → entryOf k es ≡ none → given k es ≡ false
-not-given k [] e = refl
-not-given k (x ∷ es) e = go (same k (x .key)) (λ f. not-given k es f) e
-  where
-    go : (b : Bool) → (entryOf k es ≡ none → given k es ≡ false) → cond b (some x) (entryOf k es) ≡ none → b || given k es ≡ false
-    go true f e = absurd (Option·none-ne-some x (sym e))
-    go false f e = f e
+not-given k es e = sym (entry-given k es) ∙ ap isSome e
 
 -- a service that is not ethernet is wifi
 wifi-word : (v : List ℕ) {w : Word} → wordOf L.ServiceType v ≡ some w → isWord W.Ethernet (some w) ≡ false → isWord W.Wifi (some w) ≡ true
@@ -198,6 +162,7 @@ wifi-word v {w} e h = go (same v (word "wifi")) (same v (word "ethernet")) e
 
 -- so it has a name: of a group that lacks nothing, with a Type that is read
 has-name : (es : List Entry) → lacks es ≡ false → ((e : Entry) → entryOf (word "Type") es ≡ some e → (w : Word) × (wordOf L.ServiceType (e .value) ≡ some w)) → wired (λ k. entryOf k es) ≡ false → entryOf (word "SSID") es ≡ none → entryOf (word "Name") es ≡ none → ⊥
+unfolding keysOf
 has-name es h t r s n = go (entryOf (word "Type") es) refl
   where
     parts : (not (given (word "Type") es) ≡ false) × ((typeIs W.Wifi es && not (given (word "Name") es || given (word "SSID") es)) || (securityIs W.Psk es && not (given (word "Passphrase") es)) ≡ false)
@@ -285,39 +250,24 @@ module _ (name file : List ℕ) (w : ℕ) {n m : ℕ} (a : reading D.ConnMan nam
 
 -- ---- the service that is asked for
 
--- the count of an accepted file is that of its services
-counted : (name file : List ℕ) {n m : ℕ} → reading D.ConnMan name file ≡ Accepted n m → services (sectionsOf D.ConnMan file) ≡ m
-counted name file {n} {m} a =
-    let q : Accepted (settings (sectionsOf D.ConnMan file)) (services (sectionsOf D.ConnMan file)) ≡ Accepted n m = sym (obeys-accepted D.ConnMan name file (accepted-obeys D.ConnMan name file a)) ∙ a in
-    cc
-
-connman-kind : (name : List ℕ) (k : Name) → nameIn D.ConnMan name ≡ some k → connmanFile ≡ k
-connman-kind name k e = Option·some-injective connmanFile k (only-some (connmanName name) (some connmanFile) e .1)
-
-accepted-services : (name file : List ℕ) {n m : ℕ} → reading D.ConnMan name file ≡ Accepted n m → servicesFault (sectionsOf D.ConnMan file) ≡ none
-accepted-services name file a =
-    let o = accepted-obeys D.ConnMan name file a in
-    subst (λ (k : Name). groupsFault k (sectionsOf D.ConnMan file) ≡ none) (sym (connman-kind name (o .kind) (o .named))) (o .groups)
-
 -- "Asking the record of an ethernet .. service is 16"
 record-unwired : (at : List ℕ → Option Entry) → noRecord at ≡ none → wired at ≡ false
 record-unwired at e = go (wired at) e
   where
-    go : (b : Bool) → orElse (only b (some (lineIn (at (word "Type"))))) (only (foreignSecurity (readAs (wordOf L.Security) (at (word "Security")))) (some (lineIn (at (word "Security"))))) ≡ none → b ≡ false
+    go : (b : Bool) → orElse (only b (some (lineIn (at (word "Type"))))) (only (foreign at) (some (lineIn (at (word "Security"))))) ≡ none → b ≡ false
     go true e = absurd (Option·none-ne-some (lineIn (at (word "Type"))) (sym e))
     go false e = refl
 
 pub service-formed : (name file : List ℕ) (w : ℕ) {j : Join} → serviceJoined name file w ≡ joined j → WellFormed j
+unfolding keysOf
 service-formed name file w a =
-    let h = joined-good (askedOf w (reading D.ConnMan name file)) (noRecord (settingOf w file)) (serviceJoin (settingOf w file)) a in
-    let s = asked-service w (reading D.ConnMan name file) (h .0) in
-    let f = service-faultless w (sectionsOf D.ConnMan file) (accepted-services name file (s .is)) (s .low) (omega (arith, s .high, counted name file (s .is))) in
-    subst WellFormed (h .1) (
+    let h = service-joining name file w a in
+    subst WellFormed (h .is) (
     record {
-      name = service-name-formed name file w (s .is) (whole (serviceAt w (sectionsOf D.ConnMan file)) f) (record-unwired (settingOf w file) (h .2));
-      credential = service-secret-formed name file w (s .is);
+      name = service-name-formed name file w (h .accepted) (h .obeys .lacking) (record-unwired (settingOf w file) (h .record-given));
+      credential = service-secret-formed name file w (h .accepted);
       ipv4 = service-ipv4-formed (settingOf w file (word "IPv4"));
       servers = good-servers Comma (settingOf w file (word "Nameservers"));
-      domain = service-domain-formed name file w (s .is);
+      domain = service-domain-formed name file w (h .accepted);
     }
     )

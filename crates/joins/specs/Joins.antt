@@ -1,4 +1,5 @@
--- The join record of an iwd file and of a ConnMan service, as document 01 says it under "The join record". Every value is read by its kind.
+-- The join record of an iwd file and of a ConnMan service, as document 01 says it under "The join record". A value is asked for
+-- by its group and key; which kind reads it stands in the table of keys.
 use Prim.Native.Nat.{ℕ}
 use mathlib.Core.Bool.{Bool, true, false, cond, _||_}
 use mathlib.Core.List.{List, []}
@@ -7,18 +8,18 @@ use lib.ListN.{replicate}
 use Rattle.text.specs.Words.{word}
 use Rattle.text.specs.Options.{only, orElse, plain}
 use Rattle.text.specs.declared.Dialect.the-variants as D
-use Rattle.addresses.specs.Addresses.{address, netmask, addresses, noAddress}
-use Rattle.addresses.specs.declared.Separator.the-variants.{Spaces, Comma}
-use Rattle.kinds.specs.Kinds as K
-use Rattle.kinds.specs.Kinds.{IPv4, dhcp, static, flag, wordOf, ipv4, ssid, string}
+use Rattle.addresses.specs.Addresses.{noAddress}
+use Rattle.kinds.specs.Kinds.{IPv4, dhcp, static}
 use Rattle.kinds.specs.declared.Method.the-variants as M
 use Rattle.kinds.specs.declared.Word.{Word}
 use Rattle.kinds.specs.declared.Word.the-variants as W
-use Rattle.kinds.specs.declared.WordList.the-variants as L
 use Rattle.names.specs.Names.{Network, networkOf}
+use Rattle.rules.specs.Tables.{keysOf}
 use Rattle.rules.specs.Faults.{Entry}
 use Rattle.rules.specs.Groups.{entryOf, isWord}
-use Rattle.rules.specs.Asking.{iwdEntry, serviceAt, readAs, lineIn, asked, askedOf}
+use Rattle.rules.specs.Asking.{iwdEntry, serviceAt, lineIn, asked, askedOf}
+use Rattle.rules.specs.ListedValues.{valueOf, groupValue}
+use Rattle.rules.specs.declared.Group.the-variants as G
 use Rattle.rules.specs.Reading.{sectionsOf, reading}
 use Rattle.rules.specs.declared.Refusal.{Refusal}
 use Rattle.rules.specs.declared.Refusal.the-variants.{NoPlace}
@@ -77,57 +78,64 @@ nameFrom none n = plain n
 -- ---- the record of an iwd file, at giving the setting with a key in the group with a name
 
 abbrev pub iwdSecret : (List ℕ → Option Entry) → Secret
-iwdSecret at = secretFrom (readAs (K.passphrase D.Iwd) (at (word "Passphrase"))) (readAs K.key (at (word "PreSharedKey")))
+unfolding keysOf
+iwdSecret at = let value = valueOf G.Security at in secretFrom (value (word "Passphrase")) (value (word "PreSharedKey"))
 
 abbrev pub iwdIpv4 : (List ℕ → Option Entry) → IPv4
-iwdIpv4 at = staticOrDhcp (readAs address (at (word "Address"))) (readAs netmask (at (word "Netmask"))) (readAs address (at (word "Gateway")))
+unfolding keysOf
+iwdIpv4 at =
+    let value = valueOf G.Ipv4 at in
+    staticOrDhcp (value (word "Address")) (value (word "Netmask")) (value (word "Gateway"))
 
 -- "iwd: the name from the file name; a Passphrase wins over a PreSharedKey; Netmask absent means 24; no Address means dhcp;
 -- Enabled absent or true means auto (house); Hidden absent means false."
 abbrev pub iwdJoin : List ℕ → (List ℕ → List ℕ → Option Entry) → Join
+unfolding keysOf
 iwdJoin name at =
     record {
       name = name;
       credential = iwdSecret (at (word "Security"));
-      hidden = orFalse (readAs (flag D.Iwd) (at (word "Settings") (word "Hidden")));
+      hidden = orFalse (groupValue G.Settings at (word "Hidden"));
       ipv4 = iwdIpv4 (at (word "IPv4"));
-      servers = plain (readAs (addresses Spaces) (at (word "IPv4") (word "DNS")));
-      domain = plain (readAs (string D.Iwd 1 253) (at (word "IPv4") (word "DomainName")));
-      ipv6 = enabledIpv6 (readAs (flag D.Iwd) (at (word "IPv6") (word "Enabled")));
+      servers = plain (groupValue G.Ipv4 at (word "DNS"));
+      domain = plain (groupValue G.Ipv4 at (word "DomainName"));
+      ipv6 = enabledIpv6 (groupValue G.Ipv6 at (word "Enabled"));
     }
 
 -- ---- the record of a ConnMan service, at giving the setting with a key
 
--- "Security absent means psk with a Passphrase, none without": the credential is the Passphrase, if there is one. Security psk
--- has one (14), Security none has none (15), and the other two have no record.
-abbrev pub serviceSecret : (List ℕ → Option Entry) → Secret
-serviceSecret at = secretFrom (readAs (K.passphrase D.ConnMan) (at (word "Passphrase"))) none
-
 -- "ConnMan: SSID, if present, is the name and Name is ignored, though its line is still judged; Security absent means psk with
--- a Passphrase, none without; IPv4 absent is dhcp, IPv6 absent auto, Hidden absent false."
+-- a Passphrase, none without; IPv4 absent is dhcp, IPv6 absent auto, Hidden absent false.": the credential is the Passphrase, if
+-- there is one. Security psk has one (14), Security none has none (15), and the other two have no record.
 abbrev pub serviceJoin : (List ℕ → Option Entry) → Join
+unfolding keysOf
 serviceJoin at =
+    let value = valueOf G.Service at in
     record {
-      name = nameFrom (readAs ssid (at (word "SSID"))) (readAs (string D.ConnMan 1 32) (at (word "Name")));
-      credential = serviceSecret at;
-      hidden = orFalse (readAs (flag D.ConnMan) (at (word "Hidden")));
-      ipv4 = ipv4OrDhcp (readAs ipv4 (at (word "IPv4")));
-      servers = plain (readAs (addresses Comma) (at (word "Nameservers")));
-      domain = plain (readAs (string D.ConnMan 1 253) (at (word "Domain")));
-      ipv6 = wordIpv6 (readAs (wordOf L.Ipv6Method) (at (word "IPv6")));
+      name = nameFrom (value (word "SSID")) (value (word "Name"));
+      credential = secretFrom (value (word "Passphrase")) none;
+      hidden = orFalse (value (word "Hidden"));
+      ipv4 = ipv4OrDhcp (value (word "IPv4"));
+      servers = plain (value (word "Nameservers"));
+      domain = plain (value (word "Domain"));
+      ipv6 = wordIpv6 (value (word "IPv6"));
     }
 
 -- "Asking the record of an ethernet, wep or ieee8021x service is 16": the Type or Security line that causes it
 abbrev pub wired : (List ℕ → Option Entry) → Bool
-wired at = isWord W.Ethernet (readAs (wordOf L.ServiceType) (at (word "Type")))
+unfolding keysOf
+wired at = isWord W.Ethernet (valueOf G.Service at (word "Type"))
 
 abbrev pub foreignSecurity : Option Word → Bool
 foreignSecurity o = isWord W.Wep o || isWord W.Ieee8021x o
 
+abbrev pub foreign : (List ℕ → Option Entry) → Bool
+unfolding keysOf
+foreign at = foreignSecurity (valueOf G.Service at (word "Security"))
+
 abbrev pub noRecord : (List ℕ → Option Entry) → Option ℕ
 noRecord at =
-    orElse (only (wired at) (some (lineIn (at (word "Type")))))
-    (only (foreignSecurity (readAs (wordOf L.Security) (at (word "Security")))) (some (lineIn (at (word "Security")))))
+    orElse (only (wired at) (some (lineIn (at (word "Type"))))) (only (foreign at) (some (lineIn (at (word "Security")))))
 
 -- "A service needs a key when its credential is not none."
 abbrev pub secretGiven : Secret → Bool

@@ -21,7 +21,7 @@ use Rattle.reader.specs.History.{base, foundBase, latest, numbered}
 use Rattle.reader.specs.Holds.{Kept, Row}
 use Rattle.reader.proofs.Rows.{keys-few}
 use Rattle.reader.proofs.SettingLine.{number-few}
-use Rattle.reader.proofs.PlainHeading.{groupName}
+use Rattle.rules.specs.ListedValues.{groupName}
 use Rattle.reader.proofs.Backwards.{entries-reverse}
 use Rattle.reader.proofs.FileFault.{entries-latest}
 use Rattle.reader.proofs.Values.{numbered-service}

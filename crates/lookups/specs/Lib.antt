@@ -1,3 +1,4 @@
 pub mod Lookups
 pub mod Keeping
 pub mod Cases
+pub mod Refused

@@ -28,7 +28,7 @@ use Rattle.reader.specs.Closing.{numberIs}
 use Rattle.settings.specs.Values.{bytesAt}
 use Rattle.settings.proofs.Rowwise.{word-none, ipv4-none, row-read}
 use Rattle.written.specs.Written.{hasPlace}
-use Rattle.joins.specs.Joins.{ipv4OrDhcp, wired, foreignSecurity}
+use Rattle.joins.specs.Joins.{ipv4OrDhcp, wired, foreignSecurity, foreign, serviceJoin}
 use Rattle.reader.proofs.RowRule.{number-word}
 use Rattle.mover.specs.Moves.{lineIf, lineGiven, unplaced, earliest}
 use Rattle.mover.specs.Places.{lineOf, first, Earlier, GivenLine, LineIs}
@@ -110,7 +110,7 @@ abbrev OfType : List ℕ → List ℕ → ℕ → Type 0
 OfType file x r = LineIs file x (λ at. earliest (lineIf (wired at) (at (word "Type")))) r
 
 abbrev OfSecurity : List ℕ → List ℕ → ℕ → Type 0
-OfSecurity file x r = LineIs file x (λ at. earliest (lineIf (foreignBy (at (word "Security"))) (at (word "Security")))) r
+OfSecurity file x r = LineIs file x (λ at. earliest (lineIf (foreign at) (at (word "Security")))) r
 
 module _ {file x : List ℕ} {b : Bool} (q : b ≡ numberIs 2 (namedWord (wordOf L.ServiceType (bytesAt file (slot 97 x))))) where
   pub type-unplaced : b ≡ true → {r : ℕ} → r ≡ slot 97 x .line → OfType file x r
@@ -155,7 +155,7 @@ abbrev unroutedBy : Option Entry → Bool
 unroutedBy o = not (hasPlace (ipv4OrDhcp (readAs ipv4 o)))
 
 abbrev OfIpv4 : List ℕ → List ℕ → ℕ → Type 0
-OfIpv4 file x r = LineIs file x (λ at. earliest (lineIf (unroutedBy (at (word "IPv4"))) (at (word "IPv4")))) r
+OfIpv4 file x r = LineIs file x (λ at. earliest (lineIf (not (hasPlace (serviceJoin at .ipv4))) (at (word "IPv4")))) r
 
 module _ {file x : List ℕ} {i : Ipv4} (q : i ≡ ipv4Answer (ipv4 (bytesAt file (slot 98 x)))) where
   row-unrouted : (es : List Entry) → Row file x 96 (keyNames G.Service) es → unroutedBy (entryOf (word "IPv4") es) ≡ unrouted (i .method) (i .«has_gateway»)
@@ -198,13 +198,13 @@ abbrev othersOf : (List ℕ → Option Entry) → List ℕ
 othersOf at = lineGiven (at (word "MAC")) ++ (lineGiven (at (word "IPv6.Privacy")) ++ (lineGiven (at (word "SearchDomains")) ++ lineGiven (at (word "Timeservers"))))
 
 abbrev numbersOf : (List ℕ → Option Entry) → List ℕ
-numbersOf at = lineIf (unroutedBy (at (word "IPv4"))) (at (word "IPv4")) ++ othersOf at
+numbersOf at = lineIf (not (hasPlace (serviceJoin at .ipv4))) (at (word "IPv4")) ++ othersOf at
 
 abbrev securityOf : (List ℕ → Option Entry) → List ℕ
-securityOf at = lineIf (foreignBy (at (word "Security"))) (at (word "Security")) ++ numbersOf at
+securityOf at = lineIf (foreign at) (at (word "Security")) ++ numbersOf at
 
 unplaced-nested : (at : List ℕ → Option Entry) → lineIf (wired at) (at (word "Type")) ++ securityOf at ≡ unplaced at
-unplaced-nested at = sym (nested (lineIf (wired at) (at (word "Type"))) (lineIf (foreignBy (at (word "Security"))) (at (word "Security"))) (lineIf (unroutedBy (at (word "IPv4"))) (at (word "IPv4"))) (lineGiven (at (word "MAC"))) (lineGiven (at (word "IPv6.Privacy"))) (lineGiven (at (word "SearchDomains"))) (lineGiven (at (word "Timeservers"))))
+unplaced-nested at = sym (nested (lineIf (wired at) (at (word "Type"))) (lineIf (foreign at) (at (word "Security"))) (lineIf (not (hasPlace (serviceJoin at .ipv4))) (at (word "IPv4"))) (lineGiven (at (word "MAC"))) (lineGiven (at (word "IPv6.Privacy"))) (lineGiven (at (word "SearchDomains"))) (lineGiven (at (word "Timeservers"))))
 
 module _ {file x : List ℕ} {es : List Entry} (h : Row file x 96 (keyNames G.Service) es) where
   row-others : {g : ℕ} → GivenLine x g → lineOf g ≡ earliest (othersOf (λ k. entryOf k es))
@@ -216,13 +216,13 @@ module _ {file x : List ℕ} {es : List Entry} (h : Row file x 96 (keyNames G.Se
       ∙ sym (given-front (entryOf (word "MAC") es) (lineGiven (entryOf (word "IPv6.Privacy") es) ++ late))
 
   row-numbers : {g i m : ℕ} → GivenLine x g → OfIpv4 file x i → Earlier i g m → lineOf m ≡ earliest (numbersOf (λ k. entryOf k es))
-  row-numbers a b p = then-first p (b .is es h) (row-others a) ∙ sym (front-line (unroutedBy (entryOf (word "IPv4") es)) (entryOf (word "IPv4") es) (othersOf (λ k. entryOf k es)))
+  row-numbers a b p = then-first p (b .is es h) (row-others a) ∙ sym (front-line (not (hasPlace (serviceJoin (λ k. entryOf k es) .ipv4))) (entryOf (word "IPv4") es) (othersOf (λ k. entryOf k es)))
 
   row-security : {m s n : ℕ} → lineOf m ≡ earliest (numbersOf (λ k. entryOf k es)) → OfSecurity file x s → Earlier s m n → lineOf n ≡ earliest (securityOf (λ k. entryOf k es))
-  row-security a c q = then-first q (c .is es h) a ∙ sym (front-line (foreignBy (entryOf (word "Security") es)) (entryOf (word "Security") es) (numbersOf (λ k. entryOf k es)))
+  row-security a c q = then-first q (c .is es h) a ∙ sym (front-line (foreign (λ k. entryOf k es)) (entryOf (word "Security") es) (numbersOf (λ k. entryOf k es)))
 
   row-unplaced : {n t r : ℕ} → lineOf n ≡ earliest (securityOf (λ k. entryOf k es)) → OfType file x t → Earlier t n r → lineOf r ≡ earliest (unplaced (λ k. entryOf k es))
-  row-unplaced a d e = then-first e (d .is es h) a ∙ sym (front-line (wiredBy (entryOf (word "Type") es)) (entryOf (word "Type") es) (securityOf (λ k. entryOf k es))) ∙ ap earliest (unplaced-nested (λ k. entryOf k es))
+  row-unplaced a d e = then-first e (d .is es h) a ∙ sym (front-line (wired (λ k. entryOf k es)) (entryOf (word "Type") es) (securityOf (λ k. entryOf k es))) ∙ ap earliest (unplaced-nested (λ k. entryOf k es))
 
 pub all-lines : {file x : List ℕ} {g i m s n t r : ℕ} → GivenLine x g → OfIpv4 file x i → Earlier i g m → OfSecurity file x s → Earlier s m n → OfType file x t → Earlier t n r → LineIs file x (λ at. earliest (unplaced at)) r
 all-lines a b p c q d e = record { is = λ es h. row-unplaced h (row-security h (row-numbers h a b p) c q) d e }

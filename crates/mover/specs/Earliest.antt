@@ -8,12 +8,9 @@ use mathlib.Core.List.{List, [], _∷_, _++_}
 use mathlib.Core.Option.{Option, none, some, Option·none-ne-some, Option·some-injective}
 use lib.Dec.{leb}
 use Rattle.text.specs.Words.{word}
-use Rattle.kinds.specs.Kinds.{ipv4, wordOf}
-use Rattle.kinds.specs.declared.WordList.the-variants as L
 use Rattle.rules.specs.Faults.{Entry}
-use Rattle.rules.specs.Asking.{readAs}
 use Rattle.written.specs.Written.{hasPlace}
-use Rattle.joins.specs.Joins.{ipv4OrDhcp, wired, foreignSecurity}
+use Rattle.joins.specs.Joins.{wired, foreign, serviceJoin}
 use Rattle.mover.specs.Moves.{lineIf, lineGiven, unplaced, least, earliest}
 
 -- ---- the earliest of some lines
@@ -82,8 +79,8 @@ earliest-is (x ∷ xs) {l} e = go (earliest xs) refl (λ (m : ℕ) q. earliest-i
 
 pub record Placed (at : List ℕ → Option Entry) : Type 0 where
   pub wifi : wired at ≡ false
-  pub security : foreignSecurity (readAs (wordOf L.Security) (at (word "Security"))) ≡ false
-  pub numbers : hasPlace (ipv4OrDhcp (readAs ipv4 (at (word "IPv4")))) ≡ true
+  pub security : foreign at ≡ false
+  pub numbers : hasPlace (serviceJoin at .ipv4) ≡ true
   pub mac : at (word "MAC") ≡ none
   pub privacy : at (word "IPv6.Privacy") ≡ none
   pub domains : at (word "SearchDomains") ≡ none
@@ -105,6 +102,6 @@ no-lines false false false t s i none none none none e = (refl, refl, refl, refl
 
 pub unplaced-none : (at : List ℕ → Option Entry) → unplaced at ≡ [] → Placed at
 unplaced-none at e =
-    let n = hasPlace (ipv4OrDhcp (readAs ipv4 (at (word "IPv4")))) in
-    let h = no-lines (wired at) (foreignSecurity (readAs (wordOf L.Security) (at (word "Security")))) (not n) (at (word "Type")) (at (word "Security")) (at (word "IPv4")) (at (word "MAC")) (at (word "IPv6.Privacy")) (at (word "SearchDomains")) (at (word "Timeservers")) e in
+    let n = hasPlace (serviceJoin at .ipv4) in
+    let h = no-lines (wired at) (foreign at) (not n) (at (word "Type")) (at (word "Security")) (at (word "IPv4")) (at (word "MAC")) (at (word "IPv6.Privacy")) (at (word "SearchDomains")) (at (word "Timeservers")) e in
     record { wifi = h .0; security = h .1; numbers = not-false n (h .2); mac = h .3; privacy = h .4; domains = h .5; clocks = h .6 }

@@ -3,6 +3,8 @@ pub mod Demand
 pub mod Earliest
 pub mod Theorem
 pub mod Order
+pub mod GoodMoves
+pub mod Saturday
 pub mod Sizes
 pub mod Places
 pub mod Cases

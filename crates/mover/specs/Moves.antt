@@ -7,17 +7,15 @@ use lib.Dec.{leb}
 use Rattle.text.specs.Words.{word}
 use Rattle.text.specs.Options.{isSome}
 use Rattle.text.specs.declared.Dialect.the-variants as D
-use Rattle.kinds.specs.Kinds.{ipv4, wordOf}
-use Rattle.kinds.specs.declared.WordList.the-variants as L
 use Rattle.rules.specs.Faults.{Entry}
-use Rattle.rules.specs.Asking.{readAs, lineIn, askedOf}
+use Rattle.rules.specs.Asking.{lineIn, askedOf}
 use Rattle.rules.specs.Reading.{reading}
 use Rattle.rules.specs.declared.Refusal.the-variants.{NoPlace}
 use Rattle.rules.specs.declared.Answer.{Answer}
 use Rattle.rules.specs.declared.Answer.the-variants.{Good, Refused}
 use Rattle.writer.specs.Writing.{Writing, refuses, writingOf}
 use Rattle.written.specs.Written.{hasPlace}
-use Rattle.joins.specs.Joins.{ipv4OrDhcp, wired, foreignSecurity, serviceJoin, settingOf}
+use Rattle.joins.specs.Joins.{wired, foreign, serviceJoin, settingOf}
 
 -- ---- what iwd has no place for; at gives the service's setting with a key
 
@@ -35,8 +33,8 @@ lineGiven e = lineIf (isSome e) e
 abbrev pub unplaced : (List ℕ → Option Entry) → List ℕ
 unplaced at =
     lineIf (wired at) (at (word "Type"))
-    ++ lineIf (foreignSecurity (readAs (wordOf L.Security) (at (word "Security")))) (at (word "Security"))
-    ++ lineIf (not (hasPlace (ipv4OrDhcp (readAs ipv4 (at (word "IPv4")))))) (at (word "IPv4"))
+    ++ lineIf (foreign at) (at (word "Security"))
+    ++ lineIf (not (hasPlace (serviceJoin at .ipv4))) (at (word "IPv4"))
     ++ lineGiven (at (word "MAC"))
     ++ lineGiven (at (word "IPv6.Privacy"))
     ++ lineGiven (at (word "SearchDomains"))

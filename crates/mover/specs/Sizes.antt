@@ -13,6 +13,7 @@ use Rattle.addresses.specs.declared.Separator.the-variants.{Comma}
 use Rattle.kinds.specs.Kinds as K
 use Rattle.kinds.specs.Kinds.{IPv4, dhcp, off, static, ipv4, ssid, string}
 use Rattle.kinds.specs.Values.{string-size, ssid-size, addresses-good, Ipv4Good, ipv4-good}
+use Rattle.rules.specs.Tables.{keysOf}
 use Rattle.rules.specs.Faults.{Entry}
 use Rattle.rules.specs.Asking.{readAs}
 use Rattle.records.specs.Record.{passphraseOf, lengthOf, laid}
@@ -50,6 +51,7 @@ numbers-short (some e) = go (ipv4 (e .value)) refl
     go (some i) q = good i (ipv4-good (e .value) q)
 
 pub join-within : (at : List ℕ → Option Entry) → Within (laid (serviceJoin at))
+unfolding keysOf
 join-within at =
     record {
       name = name-short (readAs ssid (at (word "SSID"))) (readAs (string D.ConnMan 1 32) (at (word "Name"))) (read-short ssid 32 (λ v t e. ssid-size v e .1) (at (word "SSID"))) (read-short (string D.ConnMan 1 32) 32 (λ v t e. string-size D.ConnMan 1 32 v e .1) (at (word "Name")));

@@ -4,11 +4,9 @@ ghost use mathlib.Core.Path.{_≡_};
 ghost use mathlib.Core.Bool.{not};
 ghost use lib.ListN.{length};
 ghost use Rattle.text.specs.Words.{word};
-ghost use Rattle.kinds.specs.Kinds.{ipv4, wordOf};
-ghost use Rattle.rules.specs.Asking.{readAs};
 ghost use Rattle.settings.specs.Rows.{RowOf};
 ghost use Rattle.written.specs.Written.{hasPlace};
-ghost use Rattle.joins.specs.Joins.{ipv4OrDhcp, wired, foreignSecurity};
+ghost use Rattle.joins.specs.Joins.{wired, foreign, serviceJoin};
 ghost use Rattle.mover.specs.Moves.{lineIf, unplaced, earliest};
 ghost use Rattle.mover.specs.Places.{Earlier, GivenLine, LineIs};
 use joins::parts::word_is;
@@ -47,7 +45,7 @@ fn type_line(file: &[u8], x: &[u16; 384]) -> usize
 // Security wep or ieee8021x.
 fn security_line(file: &[u8], x: &[u16; 384]) -> usize
     requires { ⌜ RowOf (now file) (now x) 96 Group.Service ⌝ }
-    ensures { λ r. ⌜ LineIs (now (file .entry)) (now (x .entry)) (λ at. earliest (lineIf (foreignSecurity (readAs (wordOf WordList.Security) (at (word "Security")))) (at (word "Security")))) r ⌝ }
+    ensures { λ r. ⌜ LineIs (now (file .entry)) (now (x .entry)) (λ at. earliest (lineIf (foreign at) (at (word "Security")))) r ⌝ }
 {
     if word_is(WordList::Security, file, x, 109, 11) {
         return values::line_at(x, 109);
@@ -61,7 +59,7 @@ fn security_line(file: &[u8], x: &[u16; 384]) -> usize
 // IPv4 off, or static without gateway.
 fn ipv4_line(file: &[u8], x: &[u16; 384]) -> usize
     requires { ⌜ RowOf (now file) (now x) 96 Group.Service ⌝ }
-    ensures { λ r. ⌜ LineIs (now (file .entry)) (now (x .entry)) (λ at. earliest (lineIf (not (hasPlace (ipv4OrDhcp (readAs ipv4 (at (word "IPv4")))))) (at (word "IPv4")))) r ⌝ }
+    ensures { λ r. ⌜ LineIs (now (file .entry)) (now (x .entry)) (λ at. earliest (lineIf (not (hasPlace (serviceJoin at .ipv4))) (at (word "IPv4")))) r ⌝ }
 {
     let numbers = values::ipv4_at(file, x, 98);
     let method = numbers.method;

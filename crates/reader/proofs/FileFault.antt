@@ -22,7 +22,8 @@ use Rattle.reader.specs.FileRule.{slotsFile}
 use Rattle.reader.specs.declared.State.{State}
 use Rattle.reader.proofs.Growing.{same-group}
 use Rattle.reader.proofs.RowRule.{taken-given}
-use Rattle.reader.proofs.PlainHeading.{groupName, one-name, other-name}
+use Rattle.reader.proofs.PlainHeading.{one-name, other-name}
+use Rattle.rules.specs.ListedValues.{groupName}
 use Rattle.reader.proofs.Backwards.{entries-reverse}
 
 -- the settings of the group with a name are those of the latest such group

@@ -15,6 +15,7 @@ use Rattle.text.specs.Laws.{same-eq, same-refl}
 use Rattle.text.specs.declared.Dialect.{Dialect}
 use Rattle.text.specs.declared.Dialect.the-variants.{Iwd, ConnMan}
 use Rattle.rules.specs.Tables.{isService, groupOf}
+use Rattle.rules.specs.ListedValues.{groupName}
 use Rattle.rules.specs.Lookups.{keyNames}
 use Rattle.rules.specs.Faults.{Entry, Section, nameGiven, serves, services}
 use Rattle.rules.specs.declared.Group.{Group}
@@ -30,14 +31,6 @@ use Rattle.reader.proofs.SettingLine.{number-few}
 use Rattle.reader.proofs.Growing.{same-group, among-kept, spans-kept}
 
 -- ---- a group that is no service has one name
-
-abbrev pub groupName : Group → List ℕ
-groupName Settings = word "Settings"
-groupName Security = word "Security"
-groupName Ipv4 = word "IPv4"
-groupName Ipv6 = word "IPv6"
-groupName Global = word "global"
-groupName Service = []
 
 iwd-named : (n : List ℕ) {g : Group} → groupOf Iwd n ≡ some g → n ≡ groupName g
 unfolding groupOf

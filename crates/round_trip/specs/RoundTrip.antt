@@ -14,6 +14,7 @@ use Rattle.kinds.specs.Kinds as K
 use Rattle.kinds.specs.Kinds.{flag, string}
 use Rattle.names.specs.Names.{networkOf}
 use Rattle.names.specs.Laws.{network-file-name}
+use Rattle.rules.specs.Tables.{keysOf}
 use Rattle.rules.specs.Faults.{Section}
 use Rattle.rules.specs.Groups.{has}
 use Rattle.rules.specs.Reading.{iwdName, sectionsOf, reading}
@@ -65,12 +66,14 @@ module _ (j : Join) (w : WellFormed j) where
 
   -- each part of the record
   secret-read : iwdSecret (iwdEntry (groupsOf j) (word "Security")) ≡ j .credential
+  unfolding keysOf
   secret-read = ap₂ secretFrom (reads (word "Security") (word "Passphrase") (K.passphrase Iwd)) (reads (word "Security") (word "PreSharedKey") K.key) ∙ secret-back (j .credential) (w .credential)
 
   hidden-read : orFalse (readAs (flag Iwd) (iwdEntry (groupsOf j) (word "Settings") (word "Hidden"))) ≡ j .hidden
   hidden-read = ap orFalse (reads (word "Settings") (word "Hidden") (flag Iwd)) ∙ hidden-back (j .hidden)
 
   ipv4-read : hasPlace (j .ipv4) ≡ true → iwdIpv4 (iwdEntry (groupsOf j) (word "IPv4")) ≡ j .ipv4
+  unfolding keysOf
   ipv4-read p = rw (number-reads (word "Address") refl refl address, number-reads (word "Netmask") refl refl netmask, number-reads (word "Gateway") refl refl address) (ipv4-back (j .ipv4) (w .ipv4) p)
 
   servers-read : plain (readAs (addresses Spaces) (iwdEntry (groupsOf j) (word "IPv4") (word "DNS"))) ≡ j .servers
@@ -83,6 +86,7 @@ module _ (j : Join) (w : WellFormed j) where
   ipv6-read = ap enabledIpv6 (reads (word "IPv6") (word "Enabled") (flag Iwd)) ∙ ipv6-back (j .ipv6)
 
   join-read : hasPlace (j .ipv4) ≡ true → iwdJoin (networkName (networkOf (nameText j))) (iwdEntry (groupsOf j)) ≡ j
+  unfolding keysOf
   join-read p = rw (name-network, secret-read, hidden-read, ipv4-read p, servers-read, domain-read, ipv6-read)
 
 -- ---- the theorem

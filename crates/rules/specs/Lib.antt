@@ -18,9 +18,12 @@ pub mod GroupVerdicts
 pub mod FileVerdicts
 pub mod Exactly
 pub mod Asking
+pub mod ListedValues
 pub mod Lookups
 pub mod Cases
 pub mod Refusals
 pub mod Acceptance
 pub mod GoodValues
 pub mod GoodAnswers
+pub mod GivenValues
+pub mod EntryLines

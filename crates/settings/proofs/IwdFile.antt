@@ -29,7 +29,7 @@ use Rattle.reader.specs.Holds.{Row}
 use Rattle.reader.specs.Closing.{SlotIn}
 use Rattle.reader.proofs.Backwards.{entries-reverse}
 use Rattle.reader.proofs.FileFault.{entries-latest}
-use Rattle.reader.proofs.PlainHeading.{groupName}
+use Rattle.rules.specs.ListedValues.{groupName}
 use Rattle.reader.proofs.Rows.{keys-few}
 use Rattle.pass.specs.Pass.{Found, Reads}
 use Rattle.pass.proofs.Walking.{empty-row}

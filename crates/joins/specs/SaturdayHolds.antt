@@ -1,0 +1,152 @@
+-- What `Saturday` says holds: a file with a faulty Passphrase line is refused, by every entry point alike; and an iwd file or a
+-- service with a Passphrase line has that passphrase as its credential.
+use Prim.Native.Nat.{ℕ, suc, _+_, _≤_}
+use native.Mathlib.Omega.{arith}
+use mathlib.Core.Path.{_≡_, refl, ap, sym, _∙_, subst}
+use mathlib.Core.Bool.{Bool, true, false, cond}
+use mathlib.Core.List.{List, [], _∷_, _++_}
+use mathlib.Core.Option.{Option, none, some, Option·none-ne-some, Option·some-injective}
+use lib.Dec.{leb}
+use lib.ListN.{length}
+use Rattle.text.specs.Parts.{lines}
+use Rattle.text.specs.Words.{word}
+use Rattle.text.specs.Options.{mapped}
+use Rattle.text.specs.declared.Dialect.{Dialect}
+use Rattle.text.specs.declared.Dialect.the-variants as D
+use Rattle.utf8.specs.Utf8.{valueText}
+use Rattle.lines.specs.Lines.{setting, lineOf}
+use Rattle.kinds.specs.Kinds as K
+use Rattle.kinds.specs.Typed.{bytes, brokenText, byKind, typed, stringBroken, kindJudged, judged}
+use Rattle.kinds.specs.declared.Kind.{Kind}
+use Rattle.kinds.specs.declared.Kind.the-variants as Kind
+use Rattle.names.specs.Names.{networkOf}
+use Rattle.rules.specs.Tables.{groupOf, keysOf, kindOf}
+use Rattle.rules.specs.Faults.{Entry, Section, given, keyFault, valueFault, fault}
+use Rattle.rules.specs.Groups.{Fault}
+use Rattle.rules.specs.Reading.{Name, nameIn, afterLine, lineFault, sectionsOf, reading}
+use Rattle.rules.specs.Asking.{iwdEntry, readAs, asked, askedOf}
+use Rattle.rules.specs.GoodAnswers.{asked-reading}
+use Rattle.rules.specs.GoodValues.{GoodValue, group-value, service-value}
+use Rattle.rules.specs.declared.Answer.{Answer}
+use Rattle.rules.specs.declared.Answer.the-variants as A
+use Rattle.rules.specs.declared.Group.{Group}
+use Rattle.rules.specs.declared.Group.the-variants.{Settings, Security, Ipv4, Ipv6, Global, Service}
+use Rattle.rules.specs.declared.Reading.the-variants.{Refused}
+use Rattle.rules.specs.declared.Refusal.{Refusal}
+use Rattle.rules.specs.declared.Refusal.the-variants.{Size, FileName, NoGroup, UnknownKey, RepeatedKey, ValueText, ValueKind}
+use Rattle.settings.specs.Absent.{iwd-absent-zero, service-absent-zero}
+use Rattle.records.specs.Record.{Join, passphrase}
+use Rattle.joins.specs.Joins.{Joined, joined, secretFrom, secretGiven, networkName, iwdJoin, iwdJoined, serviceJoin, noRecord, orNoPlace, orRefused, settingOf, serviceJoined, iwdRecord, iwdRecordServers, serviceRecord, serviceRecordServers}
+use Rattle.joins.specs.Joining.{joined-good, service-joining}
+use Rattle.joins.specs.Saturday.{NoPassphrase, broken-text, no-string, LineAt, FaultyPassphrase, RefusedBy, IwdRefuses, ServiceRefuses, Read, Kept}
+
+-- ---- such a value is faulty, wherever the key is listed
+
+-- its kind is that of passphrases
+passphrase-kind : (g : Group) {k : Kind} → kindOf g (word "Passphrase") ≡ some k → k ≡ Kind.Passphrase
+unfolding keysOf
+passphrase-kind Settings {k} e = absurd (Option·none-ne-some k e)
+passphrase-kind Security {k} e = sym (Option·some-injective Kind.Passphrase k e)
+passphrase-kind Ipv4 {k} e = absurd (Option·none-ne-some k e)
+passphrase-kind Ipv6 {k} e = absurd (Option·none-ne-some k e)
+passphrase-kind Global {k} e = absurd (Option·none-ne-some k e)
+passphrase-kind Service {k} e = sym (Option·some-injective Kind.Passphrase k e)
+
+value-faulty : (d : Dialect) (v : List ℕ) → NoPassphrase d v → valueFault (judged d Kind.Passphrase v) ≡ none → ⊥
+unfolding judged kindJudged typed
+value-faulty d v (broken-text q) = rw q (λ e. Option·none-ne-some ValueText (sym e))
+value-faulty d v (no-string q) = go (valueText v) (stringBroken d Kind.Passphrase v) (K.passphrase d v) q
+  where
+    go : (a b : Bool) (o : Option (List ℕ)) → o ≡ none → valueFault (cond a (cond b brokenText (byKind (mapped bytes o))) brokenText) ≡ none → ⊥
+    go true true o q e = Option·none-ne-some ValueText (sym e)
+    go true false none q e = Option·none-ne-some ValueKind (sym e)
+    go true false (some p) q e = Option·none-ne-some p (sym q)
+    go false b o q e = Option·none-ne-some ValueText (sym e)
+
+key-faulty : (d : Dialect) (v : List ℕ) → NoPassphrase d v → (g : Group) (o : Option Kind) (es : List Entry) → kindOf g (word "Passphrase") ≡ o → keyFault d (word "Passphrase") v o es ≡ none → ⊥
+key-faulty d v h g none es q e = Option·none-ne-some UnknownKey (sym e)
+key-faulty d v h g (some k) es q e = go (given (word "Passphrase") es) e
+  where
+    go : (b : Bool) → cond b (some RepeatedKey) (valueFault (judged d k v)) ≡ none → ⊥
+    go true e = Option·none-ne-some RepeatedKey (sym e)
+    go false e = value-faulty d v h (ap (λ (x : Kind). valueFault (judged d x v)) (sym (passphrase-kind g q)) ∙ e)
+
+setting-faulty : (d : Dialect) (v : List ℕ) → NoPassphrase d v → (gs : List Section) → fault d gs (setting (word "Passphrase") v) ≡ none → ⊥
+unfolding fault
+setting-faulty d v h [] e = Option·none-ne-some NoGroup (sym e)
+setting-faulty d v h (g ∷ gs) e = key-faulty d v h (g .group) (kindOf (g .group) (word "Passphrase")) (g .entries) refl e
+
+-- ---- so the first faulty line is that line, or one before it
+
+record FaultBy (d : Dialect) (n s : ℕ) (gs : List Section) (ls : List (List ℕ)) (m : ℕ) : Type 0 where
+  first : Fault
+  is : lineFault d n s gs ls ≡ some first
+  early : first .line ≤ m
+
+fault-early : (d : Dialect) (n s : ℕ) (gs : List Section) (before : List (List ℕ)) (l : List ℕ) (rest : List (List ℕ)) {v : List ℕ} → lineOf d l ≡ setting (word "Passphrase") v → NoPassphrase d v → FaultBy d n s gs (before ++ l ∷ rest) (n + length before)
+unfolding lineFault
+fault-early d n s gs [] l rest {v} q h = go (fault d gs (lineOf d l)) refl
+  where
+    go : (o : Option Refusal) → fault d gs (lineOf d l) ≡ o → FaultBy d n s gs (l ∷ rest) (n + 0)
+    go none e = absurd (setting-faulty d v h gs (ap (fault d gs) (sym q) ∙ e))
+    go (some r) e = record { first = record { refusal = r; line = n }; is = rw e; early = omega arith }
+fault-early d n s gs (b ∷ before) l rest q h = go (fault d gs (lineOf d b)) refl (fault-early d (suc n) (s + length b + 1) (afterLine d n s b gs) before l rest q h)
+  where
+    go : (o : Option Refusal) → fault d gs (lineOf d b) ≡ o → FaultBy d (suc n) (s + length b + 1) (afterLine d n s b gs) (before ++ l ∷ rest) (suc n + length before) → FaultBy d n s gs (b ∷ before ++ l ∷ rest) (n + suc (length before))
+    go none e k = record { first = k .first; is = rw e (k .is); early = omega (arith, k .early) }
+    go (some r) e k = record { first = record { refusal = r; line = n }; is = rw e; early = omega arith }
+
+pub faulty-refused : (d : Dialect) (name file : List ℕ) {n : ℕ} → FaultyPassphrase d file n → RefusedBy d name file n
+unfolding reading
+faulty-refused d name file {n} p = go (leb (length file) 16384) refl (nameIn d name) refl
+  where
+    k : FaultBy d 1 0 [] (lines file) (1 + length (p .stands .before))
+    k = subst (λ (ls : List (List ℕ)). FaultBy d 1 0 [] ls (1 + length (p .stands .before))) (sym (p .stands .is)) (fault-early d 1 0 [] (p .stands .before) (p .line) (p .stands .rest) (p .reads) (p .faulty))
+
+    go : (b : Bool) → leb (length file) 16384 ≡ b → (o : Option Name) → nameIn d name ≡ o → RefusedBy d name file n
+    go false e o q = record { refusal = Size; line = 0; is = rw e; early = omega arith }
+    go true e none q = record { refusal = FileName; line = 0; is = rw (e, q); early = omega arith }
+    go true e (some x) q = record { refusal = k .first .refusal; line = k .first .line; is = rw (e, q, k .is); early = omega (arith, k .early, p .stands .number) }
+
+-- ---- a refused file is refused by every entry point, with the same number and line
+
+pub refused-iwd : (name file : List ℕ) {r : Refusal} {l : ℕ} → reading D.Iwd name file ≡ Refused r l → IwdRefuses name file r l
+unfolding iwdRecord iwdRecordServers
+refused-iwd name file e = record { settings = rw (e, ← iwd-absent-zero); servers = λ old. rw e; join-record = rw e; record-servers = λ old. rw e }
+
+pub refused-service : (name file : List ℕ) {r : Refusal} {l : ℕ} → reading D.ConnMan name file ≡ Refused r l → (w : ℕ) → ServiceRefuses name file w r l
+unfolding serviceRecord serviceRecordServers
+refused-service name file e w = record { settings = rw (e, ← service-absent-zero); servers = λ old. rw e; join-record = rw e; record-servers = λ old. rw e }
+
+-- ---- a good one
+
+reads-passphrase : (d : Dialect) (v : List ℕ) → GoodValue d Kind.Passphrase v → Read d v
+unfolding typed
+reads-passphrase d v g = go (K.passphrase d v) refl (g .reads)
+  where
+    go : (o : Option (List ℕ)) → K.passphrase d v ≡ o → mapped bytes o ≡ some (g .value) → Read d v
+    go none q e = absurd (Option·none-ne-some (g .value) e)
+    go (some p) q e = record { bytes = p; is = q }
+
+-- a record whose credential is read from the setting, whatever else it may be read from
+kept : (d : Dialect) {o : Option Entry} (k : Option (List ℕ)) {j : Join} → j .credential ≡ secretFrom (readAs (K.passphrase d) o) k → {e : Entry} → o ≡ some e → GoodValue d Kind.Passphrase (e .value) → Kept d e j
+kept d k {j} c {e} q g =
+    let p = reads-passphrase d (e .value) g in
+    let s : j .credential ≡ passphrase (p .bytes) = c ∙ ap (λ (o : Option Entry). secretFrom (readAs (K.passphrase d) o) k) q ∙ ap (λ (o : Option (List ℕ)). secretFrom o k) (p .is) in
+    record { read = p; is = s; needed = ap secretGiven s }
+
+-- a record that is answered, of an iwd file with a Passphrase line
+pub iwd-passphrase-kept : (name file : List ℕ) {j : Join} → iwdJoined name file ≡ joined j → {e : Entry} → iwdEntry (sectionsOf D.Iwd file) (word "Security") (word "Passphrase") ≡ some e → Kept D.Iwd e j
+unfolding groupOf keysOf
+iwd-passphrase-kept name file {j} a {e} q =
+    let at = iwdEntry (sectionsOf D.Iwd file) in
+    let h = joined-good (asked (reading D.Iwd name file)) none (iwdJoin (networkName (networkOf name)) at) a in
+    let r = asked-reading (reading D.Iwd name file) (h .0) in
+    kept D.Iwd (readAs K.key (at (word "Security") (word "PreSharedKey"))) (ap (λ (i : Join). i .credential) (sym (h .1))) q (group-value D.Iwd name file (r .1 .1) (word "Security") (word "Passphrase") refl refl q)
+
+-- a record that is answered, of a service with a Passphrase line
+pub passphrase-kept : (name file : List ℕ) (w : ℕ) {j : Join} → serviceJoined name file w ≡ joined j → {e : Entry} → settingOf w file (word "Passphrase") ≡ some e → Kept D.ConnMan e j
+unfolding keysOf
+passphrase-kept name file w {j} a {e} q =
+    let h = service-joining name file w a in
+    kept D.ConnMan none (ap (λ (i : Join). i .credential) (sym (h .is))) q (service-value D.ConnMan name file (h .accepted) w (word "Passphrase") refl q)

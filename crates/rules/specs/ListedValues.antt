@@ -1,0 +1,87 @@
+-- The value of a setting: what the kind that is listed for its key, in its group, reads from it. Which kind that is
+-- stands in the table of keys alone, and which dialect's it is follows from the group: whoever asks for a value names a
+-- group and a key, and no kind.
+use Prim.Native.Nat.{ℕ}
+use mathlib.Core.Bool.{Bool}
+use mathlib.Core.List.{List, []}
+use mathlib.Core.Option.{Option, none, some}
+use Rattle.text.specs.Words.{word}
+use Rattle.text.specs.declared.Dialect.{Dialect}
+use Rattle.text.specs.declared.Dialect.the-variants.{Iwd, ConnMan}
+use Rattle.addresses.specs.Addresses as A
+use Rattle.kinds.specs.Kinds as K
+use Rattle.kinds.specs.Kinds.{IPv4}
+use Rattle.kinds.specs.declared.Word.{Word}
+use Rattle.kinds.specs.declared.Kind.{Kind}
+use Rattle.kinds.specs.declared.Kind.the-variants as Kind
+use Rattle.rules.specs.Tables.{kindOf}
+use Rattle.rules.specs.Faults.{Entry}
+use Rattle.rules.specs.Asking.{readAs}
+use Rattle.rules.specs.declared.Group.{Group}
+use Rattle.rules.specs.declared.Group.the-variants.{Settings, Security, Ipv4, Ipv6, Global, Service}
+
+-- what a value of each kind is: a yes/no, a word, a mask's length, an address, a list, numbers of a network, or bytes
+abbrev pub KindValue : Kind → Type 0
+KindValue Kind.Flag = Bool
+KindValue (Kind.Named w) = Word
+KindValue Kind.Address = List ℕ
+KindValue Kind.Netmask = ℕ
+KindValue Kind.Ipv4 = IPv4
+KindValue (Kind.Addresses sep) = List (List ℕ)
+KindValue Kind.Entries = List (List ℕ)
+KindValue Kind.Mac = List ℕ
+KindValue Kind.Key = List ℕ
+KindValue Kind.Ssid = List ℕ
+KindValue Kind.Passphrase = List ℕ
+KindValue (Kind.Text low high) = List ℕ
+
+-- what each kind reads; none where the value breaks it
+abbrev pub valued : Dialect → (k : Kind) → List ℕ → Option (KindValue k)
+valued d Kind.Flag = K.flag d
+valued d (Kind.Named w) = K.wordOf w
+valued d Kind.Address = A.address
+valued d Kind.Netmask = A.netmask
+valued d Kind.Ipv4 = K.ipv4
+valued d (Kind.Addresses sep) = A.addresses sep
+valued d Kind.Entries = K.entries
+valued d Kind.Mac = K.mac
+valued d Kind.Key = K.key
+valued d Kind.Ssid = K.ssid
+valued d Kind.Passphrase = K.passphrase d
+valued d (Kind.Text low high) = K.string d low high
+
+-- "iwd groups: Settings .. Security .. IPv4 .. IPv6 ..", "ConnMan groups: `global` .. `service_` .."
+abbrev pub dialectOf : Group → Dialect
+dialectOf Settings = Iwd
+dialectOf Security = Iwd
+dialectOf Ipv4 = Iwd
+dialectOf Ipv6 = Iwd
+dialectOf Global = ConnMan
+dialectOf Service = ConnMan
+
+-- of a key that is not listed there is no value at all
+abbrev pub ValueOf : Option Kind → Type 0
+ValueOf none = ⊥
+ValueOf (some k) = KindValue k
+
+abbrev pub readBy : Dialect → (o : Option Kind) → Option Entry → Option (ValueOf o)
+readBy d none e = none
+readBy d (some k) e = readAs (valued d k) e
+
+-- the value of key k, at giving the settings of a group g by their keys: none where that one is absent
+abbrev pub valueOf : (g : Group) → (List ℕ → Option Entry) → (k : List ℕ) → Option (ValueOf (kindOf g k))
+valueOf g at k = readBy (dialectOf g) (kindOf g k) (at k)
+
+-- a group that is no service has one name
+abbrev pub groupName : Group → List ℕ
+groupName Settings = word "Settings"
+groupName Security = word "Security"
+groupName Ipv4 = word "IPv4"
+groupName Ipv6 = word "IPv6"
+groupName Global = word "global"
+groupName Service = []
+
+-- the value of key k in group g, at giving the settings of a file by their groups' names and their keys
+abbrev pub groupValue : (g : Group) → (List ℕ → List ℕ → Option Entry) → (k : List ℕ)
+    → Option (ValueOf (kindOf g k))
+groupValue g at k = valueOf g (at (groupName g)) k

@@ -1,0 +1,91 @@
+-- The settings that a refusal gives are zeros: `Asked` says that every setting is absent, and this what that comes to.
+use mathlib.Core.Path.{_≡_, refl}
+use mathlib.Core.Bool.{false}
+use mathlib.Core.Option.{none}
+use lib.ListN.{replicate}
+use Rattle.addresses.specs.Addresses.{noAddress}
+use Rattle.addresses.specs.declared.Address.{Address}
+use Rattle.kinds.specs.declared.Entries.{Entries}
+use Rattle.kinds.specs.declared.Mac.{Mac}
+use Rattle.kinds.specs.declared.Method.the-variants.{Dhcp}
+use Rattle.rules.specs.Tables.{keysOf}
+use Rattle.settings.specs.Settings.{iwdSettings, serviceSettings}
+use Rattle.settings.specs.declared.Choice.the-variants as Choice
+use Rattle.settings.specs.declared.Chosen.the-variants as Chosen
+use Rattle.settings.specs.declared.IwdSettings.{IwdSettings}
+use Rattle.settings.specs.declared.ServiceSettings.{ServiceSettings}
+
+abbrev zeroAddress : Address
+zeroAddress = record { ok = false; bytes = noAddress }
+
+abbrev zeroMac : Mac
+zeroMac = record { ok = false; bytes = replicate 6 0 }
+
+abbrev zeroEntries : Entries
+zeroEntries = record { count = 0; starts = replicate 4 0; ends = replicate 4 0 }
+
+-- "Every answer but 0 leaves .. all other result fields zero."
+abbrev pub zeroIwdSettings : IwdSettings
+zeroIwdSettings =
+    record {
+      general =
+          record {
+            «auto_connect» = Choice.Absent;
+            hidden = Choice.Absent;
+            «always_randomize_address» = Choice.Absent;
+            «address_override» = zeroMac;
+          };
+      security = record { passphrase = 0; «pre_shared_key» = record { ok = false; bytes = replicate 32 0 } };
+      ipv4 =
+          record {
+            address = zeroAddress;
+            gateway = zeroAddress;
+            broadcast = zeroAddress;
+            netmask = 0;
+            dns = 0;
+            «domain_name» = 0;
+            «send_hostname» = Choice.Absent;
+          };
+      enabled = Choice.Absent;
+    }
+
+abbrev pub zeroServiceSettings : ServiceSettings
+zeroServiceSettings =
+    record {
+      network =
+          record {
+            «service_type» = Chosen.Absent;
+            name = 0;
+            ssid = record { ok = false; length = 0; bytes = replicate 32 0 };
+            passphrase = 0;
+            security = Chosen.Absent;
+            hidden = Choice.Absent;
+          };
+      addresses =
+          record {
+            ipv4 =
+                record {
+                  ok = false;
+                  method = Dhcp;
+                  address = noAddress;
+                  length = 0;
+                  «has_gateway» = false;
+                  gateway = noAddress;
+                };
+            ipv6 = Chosen.Absent;
+            privacy = Chosen.Absent;
+            mac = zeroMac;
+            nameservers = 0;
+            «search_domains» = zeroEntries;
+            timeservers = zeroEntries;
+            domain = 0;
+          };
+    }
+
+pub iwd-absent-zero : iwdSettings (λ n k. none) ≡ zeroIwdSettings
+unfolding keysOf
+iwd-absent-zero = refl
+
+pub service-absent-zero : serviceSettings (λ k. none) ≡ zeroServiceSettings
+unfolding keysOf
+service-absent-zero = refl
