@@ -1,10 +1,10 @@
 -- A buffer that keeps the front of a text, with more behind the text.
-use mathlib.Core.Path.{_≡_, ap, ap₂, sym, _∙_}
-use mathlib.Core.List.{List, [], _∷_, _++_}
+use mathlib.Core.Path.{_≡_, refl, ap, ap₂, sym, _∙_}
+use mathlib.Core.List.{List, [], _∷_, _++_, append-nil}
 use Prim.Native.Nat.{ℕ, zero, suc, _+_, _-_, _≤_, _<_}
-use native.Mathlib.Nat.{sub-zero}
+use native.Mathlib.Nat.{sub-zero, add-zero}
 use native.Mathlib.Omega.{arith}
-use lib.ListN.{length, take, drop, length-append, length-take}
+use lib.ListN.{length, take, drop, length-append, length-take, take-append-drop}
 use lib.Seq.{take-all, take-nil, take-at, length-take-le}
 use Rattle.text.specs.Parts.{part}
 use Rattle.put.specs.Put.{Wrote}
@@ -18,9 +18,35 @@ take-both zero (x ∷ t) s = ap (λ (n : ℕ). take n s) (let z : 0 ≡ 0 - leng
 take-both (suc m) [] s = sym (ap (λ (n : ℕ). take n s) (sub-zero (suc m)))
 take-both (suc m) (x ∷ t) s = ap (λ (l : List ℕ). x ∷ l) (take-both m t s ∙ ap (λ (n : ℕ). take m t ++ take n s) (let z : m - length t ≡ suc m - length (x ∷ t) = omega arith in z))
 
-module _ (s : List ℕ) {o x : List ℕ} {a r : ℕ} (w : Wrote (take (length o - a) s) a o x r) where
-  front-more : a ≤ length o → (t : List ℕ) → Front o a t → Front x r (t ++ s)
-  front-more l t f = record { count = counted; text = held ∙ sym whole }
+-- ---- what is appended to a buffer: one law for each way to append it
+
+module _ (s : List ℕ) {o x : List ℕ} {a r : ℕ} where
+  pub appended-whole : length s ≤ length o - a → Wrote s a o x r → Appended s a o x r
+  appended-whole h w = record { wrote = rw (take-all (length o - a) s h) w }
+
+  pub appended-part : Wrote (part 0 (length o - a) s) a o x r → Appended s a o x r
+  appended-part w = record { wrote = rw (sub-zero (length o - a)) at w }
+
+pub appended-none : {o : List ℕ} {a : ℕ} → a ≤ length o → Appended [] a o o a
+appended-none {o} {a} l =
+    record {
+      wrote = rw (take-nil (length o - a)) (record { next = sym (add-zero a); room = l; long = refl; text = sym (split a o) });
+    }
+  where
+    split : (a : ℕ) (o : List ℕ) → take a o ++ [] ++ drop (a + 0) o ≡ o
+    split a o = ap₂ _++_ (append-nil (take a o)) (ap (λ (n : ℕ). drop n o) (add-zero a)) ∙ take-append-drop a o
+
+-- ---- the front of a buffer with s behind
+
+module _ {s o x : List ℕ} {a r : ℕ} (p : Appended s a o x r) where
+  pub appended-long : length x ≡ length o
+  appended-long = p .wrote .long
+
+  pub appended-within : r ≤ length o
+  appended-within = p .wrote .room
+
+  pub appended-front : (t : List ℕ) → Front o a t → Front x r (t ++ s)
+  appended-front t f = record { count = counted; text = held ∙ sym whole }
     where
       put : List ℕ
       put = take (length o - a) s
@@ -29,26 +55,16 @@ module _ (s : List ℕ) {o x : List ℕ} {a r : ℕ} (w : Wrote (take (length o 
       room = omega (arith, f .count, length-take (length o) t)
 
       whole : take (length x) (t ++ s) ≡ take a o ++ put
-      whole = ap (λ (m : ℕ). take m (t ++ s)) (w .long) ∙ take-both (length o) t s ∙ ap₂ (λ (p : List ℕ) (n : ℕ). p ++ take n s) (sym (f .text)) room
+      whole = ap (λ (m : ℕ). take m (t ++ s)) appended-long ∙ take-both (length o) t s ∙ ap₂ (λ (p : List ℕ) (n : ℕ). p ++ take n s) (sym (f .text)) room
 
       long : length (take a o ++ put) ≡ r
-      long = length-append (take a o) put ∙ (let z : length (take a o) + length put ≡ r = omega (arith, length-take-le a o l, w .next) in z)
+      long = length-append (take a o) put ∙ (let z : length (take a o) + length put ≡ r = omega (arith, length-take-le a o (omega (arith, p .wrote .room, p .wrote .next)), p .wrote .next) in z)
 
       held : take r x ≡ take a o ++ put
-      held = ap (take r) (w .text) ∙ take-at (take a o ++ put) (drop (a + length put) o) r long
+      held = ap (take r) (p .wrote .text) ∙ take-at (take a o ++ put) (drop (a + length put) o) r long
 
       counted : r ≡ length (take (length x) (t ++ s))
       counted = sym long ∙ ap length (sym whole)
-
-  pub appended-front : a ≤ length o → Appended s a o x r
-  appended-front l = record { long = w .long; within = w .room; front = front-more l }
-
-module _ (s : List ℕ) {o x : List ℕ} {a r : ℕ} (l : a ≤ length o) where
-  pub appended-whole : length s ≤ length o - a → Wrote s a o x r → Appended s a o x r
-  appended-whole h w = appended-front s (rw (take-all (length o - a) s h) w) l
-
-  pub appended-part : Wrote (part 0 (length o - a) s) a o x r → Appended s a o x r
-  appended-part w = appended-front s (rw (sub-zero (length o - a)) at w) l
 
 -- nothing is kept of no text
 pub front-none : (b : List ℕ) → Front b 0 []

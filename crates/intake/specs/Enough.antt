@@ -37,11 +37,11 @@ reading-name d a b file e = rw e
 
 -- ---- the lines in front
 
-front-all : (l : List ℕ) → all inLine l ≡ true → front inLine l ≡ l
+pub front-all : (l : List ℕ) → all inLine l ≡ true → front inLine l ≡ l
 front-all [] h = refl
 front-all (x ∷ l) h = rw (all-cons inLine x l h .0) (ap (λ (t : List ℕ). x ∷ t) (front-all l (all-cons inLine x l h .1)))
 
-after-all : (l : List ℕ) → all inLine l ≡ true → after inLine l ≡ []
+pub after-all : (l : List ℕ) → all inLine l ≡ true → after inLine l ≡ []
 after-all [] h = refl
 after-all (x ∷ l) h = rw (all-cons inLine x l h .0) (after-all l (all-cons inLine x l h .1))
 

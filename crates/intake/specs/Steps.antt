@@ -1,18 +1,20 @@
--- What each step of keeping does: to a buffer, to the name line, to the file.
-use Prim.Native.Nat.{ℕ, _≤_}
+-- What each step of keeping does: to a buffer, to the name line, to the file. Each says the whole of what it leaves.
+use Prim.Native.Nat.{ℕ, _-_}
 use mathlib.Core.Path.{_≡_}
-use mathlib.Core.Bool.{Bool}
-use mathlib.Core.List.{List, _++_}
-use lib.ListN.{length}
+use mathlib.Core.Bool.{Bool, true, false, not, _||_}
+use mathlib.Core.List.{List, []}
+use lib.ListN.{length, take}
+use Rattle.text.specs.Bytes.{inLine}
+use Rattle.text.specs.Parts.{all}
+use Rattle.put.specs.Put.{Wrote}
 use Rattle.intake.specs.declared.Kept.{Kept}
 use Rattle.intake.specs.Forms.{formFrom}
-use Rattle.intake.specs.Input.{Front, Keeps}
+use Rattle.intake.specs.Input.{firstLine, behind}
 
--- a buffer held o with its front up to a, and holds x with its front up to r, in which s is behind
+-- a buffer held o with its front up to a, and holds x with its front up to r: behind the old front stands as much of s as there
+-- is room for, and behind the new one the old bytes
 pub record Appended (s : List ℕ) (a : ℕ) (o x : List ℕ) (r : ℕ) : Type 0 where
-  pub long : length x ≡ length o
-  pub within : r ≤ length o
-  pub front : (t : List ℕ) → Front o a t → Front x r (t ++ s)
+  pub wrote : Wrote (take (length o - a) s) a o x r
 
 -- s is taken as a part of the name line, which has ended or not
 pub record TookName (s : List ℕ) (ended : Bool) (k : Kept) (o x : List ℕ) (r : Kept) : Type 0 where
@@ -28,10 +30,22 @@ pub record TookFile (s : List ℕ) (k : Kept) (o x : List ℕ) (r : Kept) : Type
   pub formed : r .form ≡ k .form
   pub kept : r .name ≡ k .name
 
+-- what of the next part s of the input belongs to a line that has ended or not, and what to what is behind the line
+abbrev pub linePart : Bool → List ℕ → List ℕ
+linePart true s = []
+linePart false s = firstLine s
+
+abbrev pub restPart : Bool → List ℕ → List ℕ
+restPart true s = s
+restPart false s = behind s
+
+-- whether the line has ended with s behind
+abbrev pub endedBy : Bool → List ℕ → Bool
+endedBy e s = e || not (all inLine s)
+
 -- s is taken as the next part of the input: the buffers held n and f, and hold x and y
 pub record Took (s : List ℕ) (k : Kept) (n f x y : List ℕ) (r : Kept) : Type 0 where
-  pub nameLong : length x ≡ length n
-  pub fileLong : length y ≡ length f
-  pub nameWithin : r .name ≤ length n
-  pub fileWithin : r .file ≤ length f
-  pub keeps : (i : List ℕ) → Keeps i n f k → Keeps (i ++ s) x y r
+  pub named : Appended (linePart (k .ended) s) (k .name) n x (r .name)
+  pub filed : Appended (restPart (k .ended) s) (k .file) f y (r .file)
+  pub over : r .ended ≡ endedBy (k .ended) s
+  pub formed : r .form ≡ formFrom (k .form) (linePart (k .ended) s)

@@ -1,22 +1,22 @@
 -- A line by index: one law for each return of the code.
-use mathlib.Core.Path.{_≡_, refl, ap, ap₂, sym, _∙_, subst}
+use mathlib.Core.Path.{_≡_, refl, ap, ap₂, sym, _∙_}
 use mathlib.Core.Bool.{Bool, true, false, cond, not, _&&_, and-false}
 use mathlib.Core.List.{List, [], _∷_}
 use Prim.Native.Nat.{ℕ, _+_, _-_, _≤_, _<_}
-use native.Mathlib.Nat.{le-refl}
+use native.Mathlib.Nat.{le-refl, zero-add}
 use native.Mathlib.Omega.{arith}
 use borrow.Author.Tests.{eq-eqb, ne-eqb}
 use lib.Dec.{eqb}
-use lib.ListN.{length, getD, drop, take, length-drop}
-use lib.Seq.{take-all, drop-drop}
+use lib.ListN.{length, getD, drop, length-drop}
+use lib.Seq.{take-all}
 use Rattle.text.specs.Bytes.{isBlank, isHeaderByte, isKeyByte}
-use Rattle.text.specs.Parts.{front, after, all, part, empty}
-use Rattle.text.specs.Laws.{view-end, view-more, part-none, part-some}
+use Rattle.text.specs.Parts.{lead, after, all, part, empty}
+use Rattle.text.specs.Laws.{view-end, view-more, part-none, part-some, part-long}
 use Rattle.text.specs.Scans.{Stop, Trim, stop-front, stop-after, stop-low, stop-all, stop-some}
 use Rattle.text.specs.declared.Dialect.{Dialect}
 use Rattle.text.specs.declared.Dialect.the-variants.{Iwd, ConnMan}
-use Rattle.lines.specs.Lines.{Line, blank, comment, header, setting, broken, begins, extends, closed, headerOf, bracketOf, ended, equalOf, settingOf, bodyOf, lineOf, behindEqual}
-use Rattle.lines.specs.Forms.{Forms, Begins, Ends, Starts, lineIn}
+use Rattle.lines.specs.Lines.{Line, comment, header, setting, broken, closed, headerOf, bracketOf, ended, equalOf, settingOf, bodyOf, lineOf}
+use Rattle.lines.specs.Forms.{Begins, Ends, runEnd, valueFrom, valueAt, formFrom, formAt}
 use Rattle.lines.specs.declared.Break.the-variants.{Unrecognized, Extension, BadHeader}
 use Rattle.lines.specs.declared.Form.{Form}
 use Rattle.lines.specs.declared.Form.the-variants.{Blank, Comment, Header, Setting, Broken}
@@ -36,43 +36,44 @@ module _ (d : Dialect) (l : List ℕ) (from : ℕ) where
   pub extends-never : d ≡ ConnMan → Begins d l from false
   extends-never q = record { is = rw q }
 
--- ---- a header
+-- ---- a header, whose bracket is at a place
 
-module _ {d : Dialect} {l : List ℕ} {from : ℕ} {x : Bool} (is : Begins d l from x) where
-  pub header-extension : x ≡ true → Forms d l (drop from l) (Broken Extension) (bracketOf d (drop from l))
+module _ {d : Dialect} {l : List ℕ} (at : ℕ) {x : Bool} (is : Begins d l (at + 1) x) where
+  pub header-extension : x ≡ true → Broken Extension ≡ formFrom d l at (bracketOf d (drop (at + 1) l))
   unfolding bracketOf
-  header-extension q = record { is = rw (← is .is, q); placed = tt; starts = tt }
+  header-extension q = rw (← is .is, q)
 
-  module _ (q : x ≡ false) {e : ℕ} (h : Stop isHeaderByte l from e) where
-    view : bracketOf d (drop from l) ≡ headerOf (part from e l) (drop e l)
+  module _ (q : x ≡ false) {e : ℕ} (h : Stop isHeaderByte l (at + 1) e) where
+    view : bracketOf d (drop (at + 1) l) ≡ headerOf (part (at + 1) e l) (drop e l)
     unfolding bracketOf
     view = rw (← is .is, q) (ap₂ headerOf (stop-front h) (stop-after h))
 
-    bad : {t u : Bool} → empty (part from e l) ≡ t → closed (drop e l) ≡ u → (not t && u) ≡ false → Forms d l (drop from l) (Broken BadHeader) (bracketOf d (drop from l))
-    bad a b k = record { is = sym (view ∙ rw (a, b, k)); placed = tt; starts = tt }
+    bad : {t u : Bool} → empty (part (at + 1) e l) ≡ t → closed (drop e l) ≡ u → (not t && u) ≡ false → Broken BadHeader ≡ formFrom d l at (bracketOf d (drop (at + 1) l))
+    bad a b k = let z : broken BadHeader ≡ bracketOf d (drop (at + 1) l) = sym (view ∙ rw (a, b, k)) in ap (formFrom d l at) z
 
-    pub header-open : e ≡ length l → Forms d l (drop from l) (Broken BadHeader) (bracketOf d (drop from l))
-    header-open k = bad refl (ap closed (view-end l e k)) (and-false (not (empty (part from e l))))
+    pub header-open : e ≡ length l → Broken BadHeader ≡ formFrom d l at (bracketOf d (drop (at + 1) l))
+    header-open k = bad refl (ap closed (view-end l e k)) (and-false (not (empty (part (at + 1) e l))))
 
-    pub header-empty : e ≡ from → Forms d l (drop from l) (Broken BadHeader) (bracketOf d (drop from l))
-    header-empty k = bad (ap (λ (n : ℕ). empty (part from n l)) k ∙ ap empty (part-none l from)) refl refl
+    pub header-empty : e ≡ at + 1 → Broken BadHeader ≡ formFrom d l at (bracketOf d (drop (at + 1) l))
+    header-empty k = bad (ap (λ (n : ℕ). empty (part (at + 1) n l)) k ∙ ap empty (part-none l (at + 1))) refl refl
 
     module _ (more : e ≡ length l → ⊥) where
       closing : {t : Bool} → eqb (getD l e 0) 93 ≡ t → {u : Bool} → all isBlank (drop (e + 1) l) ≡ u → closed (drop e l) ≡ (t && u)
       closing a b = rw (view-more l e (inside l e (h .within) more), a, b)
 
-      pub header-other : (getD l e 0 ≡ 93 → ⊥) → Forms d l (drop from l) (Broken BadHeader) (bracketOf d (drop from l))
-      header-other k = bad refl (closing (ne-eqb _ _ k) refl) (and-false (not (empty (part from e l))))
+      pub header-other : (getD l e 0 ≡ 93 → ⊥) → Broken BadHeader ≡ formFrom d l at (bracketOf d (drop (at + 1) l))
+      header-other k = bad refl (closing (ne-eqb _ _ k) refl) (and-false (not (empty (part (at + 1) e l))))
 
       module _ (k : getD l e 0 ≡ 93) {r : ℕ} (g : Stop isBlank l (e + 1) r) where
-        pub header-rest : (r ≡ length l → ⊥) → Forms d l (drop from l) (Broken BadHeader) (bracketOf d (drop from l))
-        header-rest n = bad refl (closing (eq-eqb _ _ k) (stop-some g n)) (and-false (not (empty (part from e l))))
+        pub header-rest : (r ≡ length l → ⊥) → Broken BadHeader ≡ formFrom d l at (bracketOf d (drop (at + 1) l))
+        header-rest n = bad refl (closing (eq-eqb _ _ k) (stop-some g n)) (and-false (not (empty (part (at + 1) e l))))
 
-        pub header-good : (e ≡ from → ⊥) → r ≡ length l → Forms d l (drop from l) (Header (record { start = from; end = e })) (bracketOf d (drop from l))
+        pub header-good : (e ≡ at + 1 → ⊥) → r ≡ length l → Header (record { start = at + 1; end = e }) ≡ formFrom d l at (bracketOf d (drop (at + 1) l))
         header-good n j =
-            let m : (e ≡ from → ⊥) = n in
-            let s : empty (part from e l) ≡ false = part-some l from e (omega (arith, stop-low h, m)) (h .within) in
-            record { is = sym (view ∙ rw (s, closing (eq-eqb _ _ k) (stop-all g j))); placed = record { low = stop-low h; high = h .within }; starts = tt }
+            let m : (e ≡ at + 1 → ⊥) = n in
+            let s : empty (part (at + 1) e l) ≡ false = part-some l (at + 1) e (omega (arith, stop-low h, m)) (h .within) in
+            let z : header (part (at + 1) e l) ≡ bracketOf d (drop (at + 1) l) = sym (view ∙ rw (s, closing (eq-eqb _ _ k) (stop-all g j))) in
+            ap (λ (i : ℕ). Header (record { start = at + 1; end = i })) (h .is) ∙ ap (formFrom d l at) z
 
 -- ---- a setting
 
@@ -82,67 +83,60 @@ ends-iwd d l from h q = rw q (record { low = h; within = le-refl (length l); is 
 pub ends-connman : (d : Dialect) {l : List ℕ} {from e : ℕ} → Trim l from e → d ≡ ConnMan → Ends d l from e
 ends-connman d t q = rw q (record { low = t .low; within = t .within; is = t .is })
 
+ends-at : {d : Dialect} {l : List ℕ} {v e : ℕ} → Ends d l v e → record { start = v; end = e } ≡ valueAt d l v
+ends-at {d} {l} {v} {e} t =
+    let long : length (part v e l) ≡ e - v = part-long l v e (t .low) (t .within) in
+    ap (λ (i : ℕ). record { start = v; end = i }) (let z : e ≡ v + length (ended d (drop v l)) = omega (arith, long, t .low, ap length (t .is)) in z)
+
 module _ (d : Dialect) {l : List ℕ} {at k e : ℕ} (h : Stop (isKeyByte d) l at k) (g : Stop isBlank l k e) where
   sight : settingOf d (drop at l) ≡ equalOf d (part at k l) (drop e l)
   unfolding settingOf
   sight = ap₂ (equalOf d) (stop-front h) (ap (after isBlank) (stop-after h) ∙ stop-after g)
 
-  pub setting-end : e ≡ length l → Forms d l (drop at l) (Broken Unrecognized) (settingOf d (drop at l))
-  setting-end q = record { is = sym (sight ∙ ap (equalOf d (part at k l)) (view-end l e q)); placed = tt; starts = tt }
+  pub setting-end : e ≡ length l → Broken Unrecognized ≡ formFrom d l at (settingOf d (drop at l))
+  setting-end q = ap (formFrom d l at) (sym (sight ∙ ap (equalOf d (part at k l)) (view-end l e q)))
 
   module _ (more : e ≡ length l → ⊥) where
     setting-is : {a b : Bool} → empty (part at k l) ≡ a → eqb (getD l e 0) 61 ≡ b → cond (not a && b) (setting (part at k l) (ended d (after isBlank (drop (e + 1) l)))) (broken Unrecognized) ≡ settingOf d (drop at l)
     setting-is p r = sym (sight ∙ ap (equalOf d (part at k l)) (view-more l e (inside l e (g .within) more)) ∙ rw (p, r))
 
-    pub setting-empty : k ≡ at → Forms d l (drop at l) (Broken Unrecognized) (settingOf d (drop at l))
-    setting-empty q = record { is = setting-is (ap (λ (n : ℕ). empty (part at n l)) q ∙ ap empty (part-none l at)) refl; placed = tt; starts = tt }
+    pub setting-empty : k ≡ at → Broken Unrecognized ≡ formFrom d l at (settingOf d (drop at l))
+    setting-empty q = ap (formFrom d l at) (setting-is (ap (λ (n : ℕ). empty (part at n l)) q ∙ ap empty (part-none l at)) refl)
 
     module _ (some : k ≡ at → ⊥) where
       keyed : empty (part at k l) ≡ false
       keyed = let m : (k ≡ at → ⊥) = some in part-some l at k (omega (arith, stop-low h, m)) (h .within)
 
-      pub setting-open : (getD l e 0 ≡ 61 → ⊥) → Forms d l (drop at l) (Broken Unrecognized) (settingOf d (drop at l))
-      setting-open q = record { is = setting-is keyed (ne-eqb _ _ q); placed = tt; starts = tt }
+      pub setting-open : (getD l e 0 ≡ 61 → ⊥) → Broken Unrecognized ≡ formFrom d l at (settingOf d (drop at l))
+      setting-open q = ap (formFrom d l at) (setting-is keyed (ne-eqb _ _ q))
 
-      place-behind : {v : ℕ} → Stop isBlank l (e + 1) v → v ≡ length l - length (behindEqual d (drop at l))
-      place-behind {v} s =
-          let w : behindEqual d (drop at l) ≡ drop v l = ap (λ (r : List ℕ). after isBlank (drop 1 (after isBlank r))) (stop-after h) ∙ ap (λ (r : List ℕ). after isBlank (drop 1 r)) (stop-after g) ∙ ap (after isBlank) (drop-drop 1 e l) ∙ stop-after s in
-          rw w (simp length-drop (omega (arith, s .within)))
+      value-from : {v : ℕ} → Stop isBlank l (e + 1) v → v ≡ valueFrom l k
+      value-from s = s .is ∙ ap (λ (i : ℕ). runEnd isBlank l (i + 1)) (g .is)
 
-      pub setting-good : getD l e 0 ≡ 61 → {v f : ℕ} → Stop isBlank l (e + 1) v → Ends d l v f → Forms d l (drop at l) (Setting (record { start = at; end = k }) (record { start = v; end = f })) (settingOf d (drop at l))
+      pub setting-good : getD l e 0 ≡ 61 → {v f : ℕ} → Stop isBlank l (e + 1) v → Ends d l v f → Setting (record { start = at; end = k }) (record { start = v; end = f }) ≡ formFrom d l at (settingOf d (drop at l))
       setting-good q s t =
-          record {
-            is = ap (setting (part at k l)) (t .is ∙ ap (ended d) (sym (stop-after s))) ∙ setting-is keyed (eq-eqb _ _ q);
-            placed = (record { low = stop-low h; high = h .within }, record { low = t .low; high = t .within });
-            starts = place-behind s;
-          }
+          ap (Setting (record { start = at; end = k })) (ends-at t)
+          ∙ ap (λ (i : ℕ). Setting (record { start = at; end = k }) (valueAt d l i)) (value-from s)
+          ∙ ap (λ (i : ℕ). Setting (record { start = at; end = i }) (valueAt d l (valueFrom l i))) (h .is)
+          ∙ ap (formFrom d l at) (setting-is keyed (eq-eqb _ _ q))
 
 -- ---- a line
 
--- a line that starts with a bracket has no value
-bracket-is : (d : Dialect) (s : List ℕ) (k v : List ℕ) → setting k v ≡ bracketOf d s → ⊥
-unfolding bracketOf
-bracket-is d s k v e = go (extends d s) (not (empty (front isHeaderByte s)) && closed (after isHeaderByte s)) e
-  where
-    go : (a b : Bool) → setting k v ≡ cond a (broken Extension) (cond b (header (front isHeaderByte s)) (broken BadHeader)) → ⊥
-    go true b q = let z : _≡_ {A = ℕ} 0 1 = cc in omega arith
-    go false true q = let z : _≡_ {A = ℕ} 0 1 = cc in omega arith
-    go false false q = let z : _≡_ {A = ℕ} 0 1 = cc in omega arith
-
-no-value : (d : Dialect) (l s t : List ℕ) (r : Form) → lineIn l r ≡ bracketOf d s → Starts d l t r
-no-value d l s t Blank e = tt
-no-value d l s t Comment e = tt
-no-value d l s t (Header p) e = tt
-no-value d l s t (Setting k v) e = absurd (bracket-is d s _ _ e)
-no-value d l s t (Broken b) e = tt
-
 module _ (d : Dialect) {l : List ℕ} {at : ℕ} (h : Stop isBlank l 0 at) where
+  first : at ≡ lead isBlank l
+  first = h .is ∙ zero-add (lead isBlank l)
+
   body : lineOf d l ≡ bodyOf d (drop at l)
   unfolding lineOf
   body = ap (bodyOf d) (stop-after h)
 
-  pub line-blank : at ≡ length l → Forms d l (after isBlank l) Blank (lineOf d l)
-  line-blank e = record { is = sym (body ∙ ap (bodyOf d) (view-end l at e)); placed = tt; starts = tt }
+  -- the form of what the line is, and where its text starts
+  formed : {x : Line} → lineOf d l ≡ x → formFrom d l at x ≡ formAt d l
+  unfolding formAt
+  formed e = ap₂ (formFrom d l) first (sym e)
+
+  pub line-blank : at ≡ length l → Blank ≡ formAt d l
+  line-blank e = formed (body ∙ ap (bodyOf d) (view-end l at e))
 
   module _ (more : at ≡ length l → ⊥) where
     line-first : {a b : Bool} → eqb (getD l at 0) 35 ≡ a → eqb (getD l at 0) 91 ≡ b → lineOf d l ≡ cond a comment (cond b (bracketOf d (drop (at + 1) l)) (settingOf d (drop at l)))
@@ -150,12 +144,12 @@ module _ (d : Dialect) {l : List ℕ} {at : ℕ} (h : Stop isBlank l 0 at) where
         let v : drop at l ≡ getD l at 0 ∷ drop (at + 1) l = view-more l at (inside l at (h .within) more) in
         body ∙ ap (bodyOf d) v ∙ rw (p, q, v)
 
-    pub line-comment : getD l at 0 ≡ 35 → Forms d l (after isBlank l) Comment (lineOf d l)
-    line-comment e = record { is = sym (line-first (eq-eqb _ _ e) refl); placed = tt; starts = tt }
+    pub line-comment : getD l at 0 ≡ 35 → Comment ≡ formAt d l
+    line-comment e = formed (line-first (eq-eqb _ _ e) refl)
 
     module _ (n : getD l at 0 ≡ 35 → ⊥) {r : Form} where
-      pub line-bracket : getD l at 0 ≡ 91 → Forms d l (drop (at + 1) l) r (bracketOf d (drop (at + 1) l)) → Forms d l (after isBlank l) r (lineOf d l)
-      line-bracket e f = record { is = f .is ∙ sym (line-first (ne-eqb _ _ n) (eq-eqb _ _ e)); placed = f .placed; starts = no-value d l (drop (at + 1) l) (after isBlank l) r (f .is) }
+      pub line-bracket : getD l at 0 ≡ 91 → r ≡ formFrom d l at (bracketOf d (drop (at + 1) l)) → r ≡ formAt d l
+      line-bracket e f = f ∙ formed (line-first (ne-eqb _ _ n) (eq-eqb _ _ e))
 
-      pub line-setting : (getD l at 0 ≡ 91 → ⊥) → Forms d l (drop at l) r (settingOf d (drop at l)) → Forms d l (after isBlank l) r (lineOf d l)
-      line-setting e f = record { is = f .is ∙ sym (line-first (ne-eqb _ _ n) (ne-eqb _ _ e)); placed = f .placed; starts = subst (λ (s : List ℕ). Starts d l s r) (sym (stop-after h)) (f .starts) }
+      pub line-setting : (getD l at 0 ≡ 91 → ⊥) → r ≡ formFrom d l at (settingOf d (drop at l)) → r ≡ formAt d l
+      line-setting e f = f ∙ formed (line-first (ne-eqb _ _ n) (ne-eqb _ _ e))

@@ -1,14 +1,47 @@
--- The code's answers: a line by places, and what they say of the line l.
-use Prim.Native.Nat.{ℕ, _-_, _≤_}
+-- A line by the places in it: which form the code answers, as a definition, and what each of its private steps answers.
+use Prim.Native.Nat.{ℕ, _+_, _≤_}
 use mathlib.Core.Path.{_≡_}
 use mathlib.Core.Bool.{Bool}
 use mathlib.Core.List.{List}
 use lib.ListN.{length, drop}
-use Rattle.text.specs.Parts.{part, partAt, Inside}
+use Rattle.text.specs.Bytes.{isBlank, isHeaderByte, isKeyByte}
+use Rattle.text.specs.Parts.{lead, part, partAt, Inside}
 use Rattle.text.specs.declared.Dialect.{Dialect}
-use Rattle.lines.specs.Lines.{Line, blank, comment, header, setting, broken, extends, ended, behindEqual}
+use Rattle.text.specs.declared.Place.{Place}
+use Rattle.lines.specs.Lines.{Line, blank, comment, header, setting, broken, extends, ended, lineOf, valueStart}
 use Rattle.lines.specs.declared.Form.{Form}
 use Rattle.lines.specs.declared.Form.the-variants.{Blank, Comment, Header, Setting, Broken}
+
+-- where the run of bytes p that starts at i ends, and its place
+abbrev pub runEnd : (ℕ → Bool) → List ℕ → ℕ → ℕ
+runEnd p l i = i + lead p (drop i l)
+
+abbrev pub runAt : (ℕ → Bool) → List ℕ → ℕ → Place
+runAt p l i = record { start = i; end = runEnd p l i }
+
+-- "optional whitespace, `=`, optional whitespace, and the value", behind a key that ends at k
+abbrev pub valueFrom : List ℕ → ℕ → ℕ
+valueFrom l k = runEnd isBlank l (runEnd isBlank l k + 1)
+
+-- the place of the value that starts at v
+abbrev pub valueAt : Dialect → List ℕ → ℕ → Place
+valueAt d l v = record { start = v; end = v + length (ended d (drop v l)) }
+
+-- what a line is, by places in l, where its first byte that is no blank is at i: a header's name stands behind its `[`, a
+-- setting's key at i, and its value behind the `=` and its whitespace
+abbrev pub formFrom : Dialect → List ℕ → ℕ → Line → Form
+formFrom d l i blank = Blank
+formFrom d l i comment = Comment
+formFrom d l i (header name) = Header (runAt isHeaderByte l (i + 1))
+formFrom d l i (setting key value) =
+    Setting (runAt (isKeyByte d) l i) (valueAt d l (valueFrom l (runEnd (isKeyByte d) l i)))
+formFrom d l i (broken b) = Broken b
+
+-- the form of the line l
+unfoldable pub formAt : Dialect → List ℕ → Form
+formAt d l = formFrom d l (lead isBlank l) (lineOf d l)
+
+-- ---- what a form says of its line: shown of `formAt` in proofs/Places
 
 -- the line that a form with places in l stands for
 abbrev pub lineIn : List ℕ → Form → Line
@@ -18,6 +51,7 @@ lineIn l (Header p) = header (partAt l p)
 lineIn l (Setting k v) = setting (partAt l k) (partAt l v)
 lineIn l (Broken b) = broken b
 
+-- the places lie in n bytes
 abbrev pub Placed : ℕ → Form → Type 0
 Placed n Blank = Unit
 Placed n Comment = Unit
@@ -25,19 +59,21 @@ Placed n (Header p) = Inside n p
 Placed n (Setting k v) = Inside n k × Inside n v
 Placed n (Broken b) = Unit
 
--- a value starts behind the `=` and its whitespace, which stand in s, the end of the line l
-abbrev pub Starts : Dialect → List ℕ → List ℕ → Form → Type 0
-Starts d l s Blank = Unit
-Starts d l s Comment = Unit
-Starts d l s (Header p) = Unit
-Starts d l s (Setting k v) = v .start ≡ length l - length (behindEqual d s)
-Starts d l s (Broken b) = Unit
+-- a value starts where `valueStart` says
+abbrev pub Starts : Dialect → List ℕ → Form → Type 0
+Starts d l Blank = Unit
+Starts d l Comment = Unit
+Starts d l (Header p) = Unit
+Starts d l (Setting k v) = v .start ≡ valueStart d l
+Starts d l (Broken b) = Unit
 
--- the form r is the line x, and its places lie in l
-pub record Forms (d : Dialect) (l s : List ℕ) (r : Form) (x : Line) : Type 0 where
-  pub is : lineIn l r ≡ x
+-- the form r is the line l, and its places lie in l
+pub record Forms (d : Dialect) (l : List ℕ) (r : Form) : Type 0 where
+  pub is : lineIn l r ≡ lineOf d l
   pub placed : Placed (length l) r
-  pub starts : Starts d l s r
+  pub starts : Starts d l r
+
+-- ---- the answers of the steps
 
 -- whether what stands behind a bracket, from from on, begins an extension
 pub record Begins (d : Dialect) (l : List ℕ) (from : ℕ) (r : Bool) : Type 0 where

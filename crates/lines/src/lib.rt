@@ -2,12 +2,11 @@
 //
 // This is document 01's "Lines, alike in both": one grammar for both dialects, which differ in the bytes of a key, in
 // where a value ends, and in `[@`. What a value means is not asked here.
-ghost use Prim.Native.Nat.{_≤_};
+ghost use mathlib.Core.Path.{_≡_};
+ghost use Prim.Native.Nat.{_+_, _≤_, _<_};
 ghost use lib.ListN.{length, drop};
-ghost use Rattle.text.specs.Bytes.{isBlank};
-ghost use Rattle.text.specs.Parts.{after};
-ghost use Rattle.lines.specs.Lines.{bracketOf, settingOf, lineOf};
-ghost use Rattle.lines.specs.Forms.{Begins, Ends, Forms};
+ghost use Rattle.lines.specs.Lines.{bracketOf, settingOf};
+ghost use Rattle.lines.specs.Forms.{Begins, Ends, formFrom, formAt};
 use text::Class;
 use text::Dialect;
 use text::Place;
@@ -44,11 +43,12 @@ fn is_extension(d: Dialect, line: &[u8], from: usize) -> bool
     }
 }
 
-// The line from behind its bracket on.
-fn header_form(d: Dialect, line: &[u8], from: usize) -> Form
-    requires { ⌜ from ≤ length (now line) ⌝ }
-    ensures { λ r. ⌜ Forms d (now (line .entry)) (drop from (now (line .entry))) r (bracketOf d (drop from (now (line .entry)))) ⌝ }
+// The line whose bracket is at a place.
+fn header_form(d: Dialect, line: &[u8], at: usize) -> Form
+    requires { ⌜ at < length (now line) ⌝ }
+    ensures { λ r. ⌜ r ≡ formFrom d (now (line .entry)) at (bracketOf d (drop (at + 1) (now (line .entry)))) ⌝ }
 {
+    let from = at + 1;
     if is_extension(d, line, from) {
         return Form::Broken(Break::Extension);
     }
@@ -83,7 +83,7 @@ fn value_end(d: Dialect, line: &[u8], from: usize) -> usize
 // The line from its first byte that is no blank on, which is neither `#` nor `[`.
 fn setting_form(d: Dialect, line: &[u8], at: usize) -> Form
     requires { ⌜ at ≤ length (now line) ⌝ }
-    ensures { λ r. ⌜ Forms d (now (line .entry)) (drop at (now (line .entry))) r (settingOf d (drop at (now (line .entry)))) ⌝ }
+    ensures { λ r. ⌜ r ≡ formFrom d (now (line .entry)) at (settingOf d (drop at (now (line .entry)))) ⌝ }
 {
     let key_end = text::scan::key_end(d, line, at);
     let equal = text::scan::blank_end(line, key_end);
@@ -109,7 +109,7 @@ fn setting_form(d: Dialect, line: &[u8], at: usize) -> Form
 
 // What the line is. The line is a part of the file without its byte 10, and the places are counted from its start.
 pub fn form_of(d: Dialect, line: &[u8]) -> Form
-    ensures { λ r. ⌜ Forms d (now (line .entry)) (after isBlank (now (line .entry))) r (lineOf d (now (line .entry))) ⌝ }
+    ensures { λ r. ⌜ r ≡ formAt d (now (line .entry)) ⌝ }
 {
     let at = text::scan::blank_end(line, 0);
     if at == line.len() {
@@ -120,7 +120,7 @@ pub fn form_of(d: Dialect, line: &[u8]) -> Form
         return Form::Comment;
     }
     if first == 91 {
-        return header_form(d, line, at + 1);
+        return header_form(d, line, at);
     }
     setting_form(d, line, at)
 }

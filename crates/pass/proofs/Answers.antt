@@ -8,7 +8,7 @@ use mathlib.Core.Option.{Option, none, some, Option·none-ne-some, Option·some-
 use borrow.Author.Tests.{le-leb, lt-leb}
 use denote.Enum.Declared.{tagOf}
 use types.Run.{OneOf, miss}
-use lib.ListN.{length}
+use lib.ListN.{length, replicate}
 use Rattle.text.specs.Options.{orElse, mapped, only}
 use Rattle.text.specs.Parts.{lines}
 use Rattle.text.specs.declared.Dialect.{Dialect}
@@ -97,11 +97,18 @@ module _ {d : Dialect} {file : List ℕ} {w : ℕ} {x : List ℕ} {r : Walked} (
 
 -- ---- any file
 
-module _ {d : Dialect} {name file : List ℕ} {w : ℕ} {y : List ℕ} where
-  pub reads-large : 16384 < length file → Reads d name file w y (Refused Size 0)
+module _ {d : Dialect} (name : List ℕ) {file : List ℕ} {w : ℕ} where
+  pub reads-large : {y : List ℕ} → 16384 < length file → y ≡ replicate 384 0 → Reads d name file w y (Refused Size 0)
   unfolding reading
-  reads-large l = record { is = rw (lt-leb (length file) 16384 l); found = λ q. refused-accepted q }
+  reads-large l e = record { is = rw (lt-leb (length file) 16384 l); found = λ q. refused-accepted q; left = λ q. e }
 
-  pub reads-small : length file ≤ 16384 → {k : FileKind} → k ≡ kindOfName (nameIn d name) → {r : Reading} → ReadsKind k d file w y r → Reads d name file w y r
-  unfolding reading
-  reads-small l e h = record { is = rw (le-leb (length file) 16384 l) (h .is name e); found = h .found }
+  module _ (l : length file ≤ 16384) {k : FileKind} (e : k ≡ kindOfName (nameIn d name)) {y : List ℕ} {r : Reading} (h : ReadsKind k d file w y r) where
+    is-reading : r ≡ reading d name file
+    unfolding reading
+    is-reading = rw (le-leb (length file) 16384 l) (h .is name e)
+
+    pub reads-accepted : {n m : ℕ} → r ≡ Accepted n m → Reads d name file w y (Accepted n m)
+    reads-accepted q = record { is = sym q ∙ is-reading; found = λ z. h .found q; left = λ z. refused-accepted (sym z) }
+
+    pub reads-refused : {f : Refusal} {i : ℕ} → r ≡ Refused f i → {z : List ℕ} → z ≡ replicate 384 0 → Reads d name file w z (Refused f i)
+    reads-refused q v = record { is = sym q ∙ is-reading; found = λ z. refused-accepted z; left = λ z. v }

@@ -3,12 +3,14 @@ use Prim.Native.Nat.{ℕ}
 use mathlib.Core.Path.{_≡_}
 use mathlib.Core.List.{List, [], reverse}
 use mathlib.Core.Option.{Option, none, some}
+use lib.ListN.{replicate}
 use Rattle.text.specs.Parts.{lines}
 use Rattle.text.specs.declared.Dialect.{Dialect}
 use Rattle.rules.specs.Faults.{Section}
 use Rattle.rules.specs.Reading.{Name, lineFault, grown, sectionsOf, nameIn, readingOf, reading}
 use Rattle.rules.specs.declared.Reading.{Reading}
-use Rattle.rules.specs.declared.Reading.the-variants.{Accepted}
+use Rattle.rules.specs.declared.Reading.the-variants.{Accepted, Refused}
+use Rattle.rules.specs.declared.Refusal.{Refusal}
 use Rattle.reader.specs.Holds.{Holds}
 use Rattle.reader.specs.Ending.{kindOfName, Kept}
 use Rattle.reader.specs.declared.FileKind.{FileKind}
@@ -34,6 +36,8 @@ pub record ReadsKind (k : FileKind) (d : Dialect) (file : List ℕ) (w : ℕ) (y
   pub is : (name : List ℕ) → k ≡ kindOfName (nameIn d name) → r ≡ readingOf d (nameIn d name) file
   pub found : {n m : ℕ} → r ≡ Accepted n m → Found d file w y
 
+-- of any file; the table was empty before, and "Every answer but 0 leaves all lent buffers unchanged"
 pub record Reads (d : Dialect) (name file : List ℕ) (w : ℕ) (y : List ℕ) (r : Reading) : Type 0 where
   pub is : r ≡ reading d name file
   pub found : {n m : ℕ} → r ≡ Accepted n m → Found d file w y
+  pub left : {f : Refusal} {l : ℕ} → r ≡ Refused f l → y ≡ replicate 384 0

@@ -1,17 +1,18 @@
 -- The parts of the moving program's input with more behind it, and what is kept of them.
-use mathlib.Core.Path.{_≡_, refl, ap, sym, _∙_}
-use mathlib.Core.Bool.{Bool, true, false}
+use mathlib.Core.Path.{_≡_, refl}
+use mathlib.Core.Bool.{true, false}
 use mathlib.Core.List.{List, [], _++_}
-use Prim.Native.Nat.{ℕ, suc, _+_, _-_, _≤_}
+use Prim.Native.Nat.{ℕ, _+_, _-_}
 use native.Mathlib.Omega.{arith}
 use lib.ListN.{length, take, drop, length-take}
 use Rattle.text.specs.Bytes.{inLine}
-use Rattle.text.specs.Parts.{lead, part}
-use Rattle.text.specs.Scans.{Stop, stop-all}
+use Rattle.text.specs.Parts.{all, part}
+use Rattle.text.specs.Scans.{Stop, stop-all, stop-some}
 use Rattle.intake.specs.declared.Kept.{Kept}
 use Rattle.intake.specs.Input as I
 use Rattle.intake.specs.Steps as S
-use Rattle.intake.proofs.Fronts.{front-none}
+use Rattle.intake.specs.Enough.{front-all, after-all}
+use Rattle.intake.proofs.Fronts.{front-none, appended-none, appended-front}
 use Rattle.intake.proofs.Parts as P
 use Rattle.qewaris_move.specs.declared.Numbered.{Numbered}
 use Rattle.qewaris_move.specs.Input.{Keeps, Held, Within, Took}
@@ -25,51 +26,30 @@ keeps-none h number name file = record {
   kept = h name file;
 }
 
-module _ {m n f : List ℕ} {k : Numbered} {s : List ℕ} where
+-- what is taken is kept behind what was kept
+pub took-keeps : {s m n f w x y : List ℕ} {k r : Numbered} → Took s k m n f w x y r → (i : List ℕ) → Keeps i m n f k → Keeps (i ++ s) w x y r
+took-keeps {s} {k = k} t i h = record {
+  line = h .line ++ S.linePart (k .ended) s;
+  rest = h .rest ++ S.restPart (k .ended) s;
+  parted = rw (t .over) (P.parted-more (k .ended) (h .parted) s);
+  numbered = appended-front (t .numbered) (h .line) (h .numbered);
+  kept = P.took-keeps (t .rest) (h .rest) (h .kept);
+}
+
+module _ {m n f : List ℕ} {k : Numbered} (l : Within m n f k) {s : List ℕ} where
   -- all of s is behind the number line
   pub took-rest : {x y : List ℕ} {q : Kept} → k .ended ≡ true → S.Took s (k .rest) n f x y q → Took s k m n f m x y (record { ended = true; number = k .number; rest = q })
-  took-rest e t = record {
-    numberLong = refl;
-    nameLong = t .nameLong;
-    fileLong = t .fileLong;
-    keeps = λ i h. record {
-      line = h .line;
-      rest = h .rest ++ s;
-      parted = P.parted-file (h .parted) s e (sym e);
-      numbered = h .numbered;
-      kept = t .keeps (h .rest) (h .kept);
-    };
-  }
+  took-rest e t = record { numbered = rw e (appended-none (l .inNumber)); rest = rw e t; over = rw e }
 
   -- all of s is in the number line
   pub took-line : {w : List ℕ} {e d : ℕ} → k .ended ≡ false → Stop inLine s 0 e → e ≡ length s → S.Appended s (k .number) m w d → Took s k m n f w n f (record { ended = false; number = d; rest = k .rest })
-  took-line e p l a = record {
-    numberLong = a .long;
-    nameLong = refl;
-    fileLong = refl;
-    keeps = λ i h. record {
-      line = h .line ++ s;
-      rest = h .rest;
-      parted = P.parted-line (h .parted) s e refl (stop-all p l);
-      numbered = a .front (h .line) (h .numbered);
-      kept = h .kept;
-    };
-  }
+  took-line e p j a =
+      let g : all inLine s ≡ true = stop-all p j in
+      record { numbered = rw (e, front-all s g) a; rest = rw (e, after-all s g) (P.took-none (l .inName) (l .inFile)); over = rw (e, g) }
 
   -- the number line ends in s
   pub took-end : {w x y : List ℕ} {e d : ℕ} {q : Kept} → k .ended ≡ false → Stop inLine s 0 e → (e ≡ length s → ⊥) → S.Appended (part 0 e s) (k .number) m w d → S.Took (take (length s - (e + 1)) (drop (e + 1) s)) (k .rest) n f x y q → Took s k m n f w x y (record { ended = true; number = d; rest = q })
-  took-end e p l a t = record {
-    numberLong = a .long;
-    nameLong = t .nameLong;
-    fileLong = t .fileLong;
-    keeps = λ i h. record {
-      line = h .line ++ take (lead inLine s) s;
-      rest = h .rest ++ drop (suc (lead inLine s)) s;
-      parted = P.parted-end (h .parted) s e refl (P.cut-here p l);
-      numbered = rw (P.front-here p) at (a .front (h .line) (h .numbered));
-      kept = rw (P.rest-here p) at (t .keeps (h .rest) (h .kept));
-    };
-  }
+  took-end e p j a t = record { numbered = rw (e, ← P.first-here p) a; rest = rw (e, ← P.behind-here p) t; over = rw (e, stop-some p j) }
 
 -- ---- what is kept lies in the buffers, and goes on with the input
 
@@ -85,7 +65,7 @@ module _ {number name file : List ℕ} {k : Numbered} (h : Held number name file
   }
 
   pub held-more : {s w x y : List ℕ} {r : Numbered} → Took s k number name file w x y r → Held w x y r
-  held-more {s} t = record { input = h .input ++ s; keeps = t .keeps (h .input) (h .keeps) }
+  held-more {s} t = record { input = h .input ++ s; keeps = took-keeps t (h .input) (h .keeps) }
 
 pub held-none : {number name file : List ℕ} {k : Numbered} → ((m : List ℕ) (n : List ℕ) (f : List ℕ) → Keeps [] m n f k) → Held number name file k
 held-none {number} {name} {file} h = record { input = []; keeps = h number name file }

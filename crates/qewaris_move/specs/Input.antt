@@ -1,9 +1,10 @@
 -- What is kept of the input: a number line, and behind it a name line and a file.
 use Prim.Native.Nat.{ℕ, _≤_}
 use mathlib.Core.Path.{_≡_}
-use mathlib.Core.List.{List, _++_}
+use mathlib.Core.List.{List}
 use lib.ListN.{length}
 use Rattle.intake.specs.Input as I
+use Rattle.intake.specs.Steps as S
 use Rattle.qewaris_move.specs.declared.Numbered.{Numbered}
 
 -- of input i the buffers keep the fronts of the number line, the name line and the file, and k tells how much
@@ -27,7 +28,6 @@ pub record Within (number name file : List ℕ) (k : Numbered) : Type 0 where
 
 -- s is taken as the next part of the input: the buffers held m, n and f, and hold w, x and y
 pub record Took (s : List ℕ) (k : Numbered) (m n f w x y : List ℕ) (r : Numbered) : Type 0 where
-  pub numberLong : length w ≡ length m
-  pub nameLong : length x ≡ length n
-  pub fileLong : length y ≡ length f
-  pub keeps : (i : List ℕ) → Keeps i m n f k → Keeps (i ++ s) w x y r
+  pub numbered : S.Appended (S.linePart (k .ended) s) (k .number) m w (r .number)
+  pub rest : S.Took (S.restPart (k .ended) s) (k .rest) n f x y (r .rest)
+  pub over : r .ended ≡ S.endedBy (k .ended) s

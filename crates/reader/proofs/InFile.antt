@@ -5,16 +5,16 @@ use mathlib.Core.Path.{_≡_, refl, ap, ap₂, sym, _∙_, subst}
 use mathlib.Core.List.{List}
 use mathlib.Core.Option.{none, some}
 use lib.ListN.{length}
-use Rattle.text.specs.Bytes.{isBlank}
-use Rattle.text.specs.Parts.{part, partAt, Inside, after}
+use Rattle.text.specs.Parts.{part, partAt, Inside}
 use Rattle.text.specs.Laws.{part-long, part-part}
 use Rattle.text.specs.declared.Dialect.{Dialect}
 use Rattle.text.specs.declared.Place.{Place}
 use Rattle.lines.specs.Lines.{blank, comment, header, setting, broken, lineOf, valueStart}
-use Rattle.lines.specs.Forms.{Forms, lineIn, Placed, Starts}
+use Rattle.lines.specs.Forms.{formAt, Forms, lineIn, Placed, Starts}
 use Rattle.lines.specs.declared.Break.{Break}
 use Rattle.lines.specs.declared.Form.{Form}
 use Rattle.lines.specs.declared.Form.the-variants as F
+use Rattle.lines.proofs.Places.{form-says}
 use Rattle.kinds.specs.declared.Value.{Value}
 use Rattle.rules.specs.Faults.{Section, breakOf, fault}
 use Rattle.rules.specs.declared.Refusal.{Refusal}
@@ -42,7 +42,10 @@ module _ (d : Dialect) (file : List ℕ) (s e : ℕ) (low : s ≤ e) (within : e
   part-moved : {p : Place} → Inside (length line) p → partAt line p ≡ partAt file (moved p)
   part-moved {p} i = part-part file s e (p .start) (p .end) low within (i .low) (i .high)
 
-  module _ {f : Form} (h : Forms d line (after isBlank line) f (lineOf d line)) where
+  module _ {f : Form} (at : f ≡ formAt d line) where
+    h : Forms d line f
+    h = subst (Forms d line) (sym at) (form-says d line)
+
     pub line-blank : {x : List ℕ} {c : Current} → f ≡ F.Blank → LineSays d file x c s line L.Blank
     line-blank q = record { says = λ gs e rows. sym (h .is) ∙ ap (lineIn line) q }
 
@@ -81,8 +84,7 @@ module _ (d : Dialect) (file : List ℕ) (s e : ℕ) (low : s ≤ e) (within : e
         is-setting = rw (m, n) (sym (h .is) ∙ ap (lineIn line) q ∙ ap₂ setting (part-moved (setting-inside .0)) (part-moved (setting-inside .1)))
 
         starts : b .start ≡ s + valueStart d line
-        unfolding valueStart
-        starts = ap (λ (p : Place). p .start) n ∙ ap (λ (i : ℕ). s + i) (subst (Starts d line (after isBlank line)) q (h .starts))
+        starts = ap (λ (p : Place). p .start) n ∙ ap (λ (i : ℕ). s + i) (subst (Starts d line) q (h .starts))
 
         pub line-setting : {x : List ℕ} {c : Current} {r : Line} → SettingSays d file x c a b r → LineSays d file x c s line r
         line-setting {r = r} t = record { says = λ gs e rows. go r gs (t .says gs e rows) }

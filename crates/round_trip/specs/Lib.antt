@@ -7,3 +7,4 @@ pub mod Parts
 pub mod RoundTrip
 pub mod Structs
 pub mod Same
+pub mod Back

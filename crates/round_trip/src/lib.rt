@@ -2,24 +2,24 @@
 //
 // specs/Blocks has groups of settings by names, keys and values alone, and Readings and Lookups what a reading of them gives.
 // Values, Groups and Parts are of the settings of a record. The theorem is in specs/RoundTrip, and of structs in specs/Structs.
-// `reads_back` says it of the code; records are compared by specs/Same.
+// `reads_back` says it of the code (specs/Back); records are compared by specs/Same.
 pub mod comparing;
 
 ghost use mathlib.Core.Path.{_≡_};
-ghost use mathlib.Core.Bool.{_&&_};
-ghost use lib.ListN.{replicate};
-ghost use Rattle.addresses.specs.Addresses.{noAddress};
-ghost use Rattle.records.specs.Record.{joined};
-ghost use Rattle.records.specs.Formed.{formed};
-ghost use Rattle.written.specs.Written.{hasPlace};
-ghost use Rattle.joins.specs.Joins.{iwdRecord, iwdRecordServers};
-ghost use Rattle.round_trip.specs.Same.{sameAnswer};
+ghost use Rattle.round_trip.specs.Back.{readSame, ReadsBack};
 use records::JoinRecord;
 use rules::Answer;
+use writer::Written;
+
+// What was written, and whether it reads back as the record that was written.
+pub struct Back {
+    pub written: Written,
+    pub same: bool,
+}
 
 // Whether the record of a file under its name, and its servers, are these.
 fn is_record(name: &[u8], file: &[u8], r: JoinRecord, servers: [[u8; 4]; 4]) -> bool
-    ensures { λ b. ⌜ b ≡ sameAnswer (iwdRecord (now (name .entry)) (now (file .entry))) (iwdRecordServers (now (name .entry)) (now (file .entry)) (replicate 4 noAddress)) r servers ⌝ }
+    ensures { λ b. ⌜ b ≡ readSame (now (name .entry)) (now (file .entry)) r servers ⌝ }
 {
     let mut read = [[0; 4]; 4];
     let answered = joins::iwd_record(name, file, &mut read);
@@ -33,21 +33,24 @@ fn is_record(name: &[u8], file: &[u8], r: JoinRecord, servers: [[u8; 4]; 4]) -> 
     }
 }
 
-// Writes a record's name and file, reads them back, and says whether the record that they give and its servers are those that
-// were written, in every place: they are for every well-formed record that iwd has a place for, and no other is written.
-pub fn reads_back(r: JoinRecord, servers: [[u8; 4]; 4]) -> bool
-    ensures { λ b. ⌜ b ≡ (formed r servers && hasPlace (joined r servers .ipv4)) ⌝ }
+// Writes a record's name and file into the lent buffers as `writer::write_iwd` does, reads these bytes back, and says whether the
+// record that they give and its servers are those that were written, in every place: they are whenever something is written. A
+// refusal leaves both buffers as they were, and nothing is read.
+pub fn reads_back(r: JoinRecord, servers: [[u8; 4]; 4], name: &mut [u8], file: &mut [u8]) -> Back
+    ensures { λ b. ⌜ ReadsBack r servers (now (name .entry)) (now (file .entry)) (now (name .exit)) (now (file .exit)) b ⌝ }
 {
-    let mut name = [0; 70];
-    let mut file = [0; 858];
-    let written = writer::write_iwd(r, servers, &mut name, &mut file);
+    let written = writer::write_iwd(r, servers, name, file);
     let answer = written.answer;
     match answer {
         Answer::Good => {
             let name_len = written.name_len;
             let file_len = written.file_len;
-            is_record(&name[..name_len], &file[..file_len], r, servers)
+            let same = is_record(&name[..name_len], &file[..file_len], r, servers);
+            Back { written, same }
         }
-        Answer::Refused(_, _) => false,
+        Answer::Refused(_, _) => Back {
+            written,
+            same: false,
+        },
     }
 }

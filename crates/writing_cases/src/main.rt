@@ -41,8 +41,11 @@ fn write(r: JoinRecord, servers: [[u8; 4]; 4], name: &mut [u8], file: &mut [u8])
     show::key(b"file");
     show::text(&file[..]);
     show::end();
+    let mut new_name = [0; 70];
+    let mut new_file = [0; 858];
+    let back = round_trip::reads_back(r, servers, &mut new_name, &mut new_file);
     show::key(b"reads back");
-    show::yes_no(round_trip::reads_back(r, servers));
+    show::yes_no(back.same);
     show::end();
 }
 

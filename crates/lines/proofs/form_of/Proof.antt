@@ -12,7 +12,6 @@ form-of-spec =
     (λ c. line-blank _ (c .before .blank-end .ensures) (c .if1 .taken))
     (λ c. search needs)
     (λ c. line-comment _ (c .before .before .before .blank-end .ensures) (c .before .before .if1 .left) (c .if2 .taken))
-    (λ c. search needs)
     (λ c κs. search needs)
     (λ c. line-bracket _ (c .before .before .before .before .before .blank-end .ensures) (c .before .before .before .before .if1 .left) (c .before .before .if2 .left) (c .before .if3 .taken) (c .header-form .ensures))
     (λ c κs. search needs)

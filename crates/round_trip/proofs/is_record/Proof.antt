@@ -1,5 +1,5 @@
 -- The reading is refused, or its record is compared, and then its servers.
-use Rattle.round_trip.proofs.Back.{answer-refused, record-differs, record-agrees}
+use Rattle.round_trip.proofs.ReadBack.{answer-refused, record-differs, record-agrees}
 use borrow.Author.Needs.{needs}
 use Rattle.round_trip.proofs.is_record.Statement.{statement}
 use Rattle.round_trip.proofs.is_record.Tie as tie

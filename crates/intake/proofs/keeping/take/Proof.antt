@@ -1,5 +1,5 @@
--- The input goes on in the file, in the name line, or from the one to the other: `keeps-file`, `keeps-line`, `keeps-end`.
-use Rattle.intake.proofs.Parts.{keeps-file, keeps-line, keeps-end}
+-- The input goes on in the file, in the name line, or from the one to the other: `took-file`, `took-line`, `took-end`.
+use Rattle.intake.proofs.Parts.{took-file, took-line, took-end}
 use borrow.Author.Needs.{needs}
 use Rattle.intake.proofs.keeping.take.Statement.{statement}
 use Rattle.intake.proofs.keeping.take.Tie as tie
@@ -10,20 +10,20 @@ take-spec =
     (tie.spec
     (λ c κs. search needs)
     (λ c. search needs)
-    (λ c. record { nameLong = search needs; fileLong = search needs; nameWithin = search needs; fileWithin = search needs; keeps = λ i h. keeps-file i h (c .before .before .before .before .if1 .taken) (c .before .before .take-file .ensures) })
+    (λ c. took-file (search needs) (search needs) (c .before .before .before .before .if1 .taken) (c .before .before .take-file .ensures))
     (λ c κs. search needs)
     (λ c κs. search needs)
     (λ c. search needs)
-    (λ c. record { nameLong = search needs; fileLong = search needs; nameWithin = search needs; fileWithin = search needs; keeps = λ i h. keeps-line i h (c .before .before .before .before .before .before .if1 .left) (c .before .before .before .before .before .line-end .ensures) (c .before .before .before .before .if2 .taken) (c .before .before .take-name .ensures) })
-    (λ c. search needs)
-    (λ c. search needs)
-    (λ c. search needs)
-    (λ c κs. search needs)
-    (λ c. search needs)
+    (λ c. took-line (search needs) (search needs) (c .before .before .before .before .before .before .if1 .left) (c .before .before .before .before .before .line-end .ensures) (c .before .before .before .before .if2 .taken) (c .before .before .take-name .ensures))
     (λ c. search needs)
     (λ c. search needs)
     (λ c. search needs)
     (λ c κs. search needs)
     (λ c. search needs)
     (λ c. search needs)
-    (λ c. record { nameLong = search needs; fileLong = search needs; nameWithin = search needs; fileWithin = search needs; keeps = λ i h. keeps-end i h (c .before .before .before .before .before .before .before .before .before .before .before .before .if1 .left) (c .before .before .before .before .before .before .before .before .before .before .before .line-end .ensures) (c .before .before .before .before .before .before .before .before .before .before .if2 .left) (c .before .before .before .before .before .before .before .take-name2 .ensures) (c .before .before .take-file2 .ensures) }))
+    (λ c. search needs)
+    (λ c. search needs)
+    (λ c κs. search needs)
+    (λ c. search needs)
+    (λ c. search needs)
+    (λ c. took-end (search needs) (search needs) (c .before .before .before .before .before .before .before .before .before .before .before .before .if1 .left) (c .before .before .before .before .before .before .before .before .before .before .before .line-end .ensures) (c .before .before .before .before .before .before .before .before .before .before .if2 .left) (c .before .before .before .before .before .before .before .take-name2 .ensures) (c .before .before .take-file2 .ensures)))
