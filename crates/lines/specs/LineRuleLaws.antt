@@ -15,7 +15,7 @@ use Rattle.text.specs.declared.Dialect.{Dialect}
 use Rattle.text.specs.declared.Dialect.the-variants.{Iwd, ConnMan}
 use Rattle.lines.specs.Lines.{Line, blank, comment, header, setting, broken, begins, extends, closed, bracketOf, ended, equalOf, settingOf, bodyOf, lineOf}
 use Rattle.lines.specs.Laws.{no-key}
-use Rattle.lines.specs.LineRules.{LinesOf, no-line, ended-line, last-line, Whitespace, Indented, StartsWith, CommentLine, HeaderLine, ExtensionLine, NoLeadingBlank, NoTrailingBlank, Trimmed, ValueOf, SettingLine, LineReads, FileLines}
+use Rattle.lines.specs.LineRules.{LinesOf, no-line, ended-line, last-line, Whitespace, Indented, StartsWith, CommentLine, HeaderLine, ExtensionLine, NoLeadingBlank, NoTrailingBlank, Trimmed, ValueEnds, SettingLine, LineReads, FileLines}
 use Rattle.lines.specs.declared.Break.the-variants.{Unrecognized, Extension, BadHeader}
 
 -- ---- what stands behind the leading whitespace is one text
@@ -64,7 +64,7 @@ closed-trimmed [] trail w c = white-trimmed trail w
 closed-trimmed (x ∷ v) trail w c =
     rw (closed-white x v trail c) (ap (λ (t : List ℕ). x ∷ t) (closed-trimmed v trail w (tail-closed x v c)))
 
-value-ended : (d : Dialect) (v rest : List ℕ) → ValueOf d v rest → ended d rest ≡ v
+value-ended : (d : Dialect) (v rest : List ℕ) → ValueEnds d v rest → ended d rest ≡ v
 value-ended Iwd v rest e = sym e
 value-ended ConnMan v rest e = ap trimmed (e .is) ∙ closed-trimmed v (e .trail) (e .white) (e .closed)
 
@@ -105,7 +105,7 @@ trimmed-is (x ∷ s) = go (isBlank x && all isBlank s) refl (trimmed-is s)
       closed = closed-more x s q (h .closed);
     }
 
-ended-value : (d : Dialect) (rest : List ℕ) → ValueOf d (ended d rest) rest
+ended-value : (d : Dialect) (rest : List ℕ) → ValueEnds d (ended d rest) rest
 ended-value Iwd rest = refl
 ended-value ConnMan rest = trimmed-is rest
 

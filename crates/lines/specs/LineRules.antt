@@ -67,9 +67,9 @@ pub record Trimmed (v s : List ℕ) : Type 0 where
   pub closed : NoTrailingBlank v
 
 -- "value ends": in iwd "at line end, trailing blanks kept", in ConnMan "trailing whitespace dropped"
-abbrev pub ValueOf : Dialect → List ℕ → List ℕ → Type 0
-ValueOf Iwd v rest = v ≡ rest
-ValueOf ConnMan v rest = Trimmed v rest
+abbrev pub ValueEnds : Dialect → List ℕ → List ℕ → Type 0
+ValueEnds Iwd v rest = v ≡ rest
+ValueEnds ConnMan v rest = Trimmed v rest
 
 -- "A setting is a key of one or more bytes, optional whitespace, `=`, optional whitespace, and the value."
 pub record SettingLine (d : Dialect) (key value line : List ℕ) : Type 0 where
@@ -82,7 +82,7 @@ pub record SettingLine (d : Dialect) (key value line : List ℕ) : Type 0 where
   pub next-white : Whitespace next
   pub tight : NoLeadingBlank rest
   pub is : Indented (key ++ (gap ++ (word "=" ++ (next ++ rest)))) line
-  pub ends : ValueOf d value rest
+  pub ends : ValueEnds d value rest
 
 -- which line is what: "Each good line is one of four things: blank, comment, header, or a setting"; else 3, 4 or 5
 abbrev pub LineReads : Dialect → List ℕ → Line → Type 0

@@ -12,6 +12,8 @@ use Rattle.text.specs.declared.Dialect.{Dialect}
 use Rattle.text.specs.declared.Dialect.the-variants.{Iwd, ConnMan}
 use Rattle.kinds.specs.Typed as T
 use Rattle.kinds.specs.Typed.{Typed, typed}
+use Rattle.kinds.specs.ValueRules.{ValueIs}
+use Rattle.kinds.specs.ValueRuleLaws.{typed-value}
 use Rattle.kinds.specs.declared.Kind.{Kind}
 use Rattle.kinds.specs.declared.Kind.the-variants as Kind
 use Rattle.rules.specs.Tables.{isService, groupOf, kindOf}
@@ -33,7 +35,7 @@ abbrev pub typedAs : (k : Kind) → KindValue k → Typed
 typedAs Kind.Flag = T.flag
 typedAs (Kind.Named w) = T.word
 typedAs Kind.Address = T.address
-typedAs Kind.Netmask = T.length
+typedAs Kind.Netmask = T.maskLength
 typedAs Kind.Ipv4 = T.ipv4
 typedAs (Kind.Addresses sep) = T.addresses
 typedAs Kind.Entries = T.entries
@@ -46,7 +48,7 @@ typedAs (Kind.Text low high) = T.bytes
 -- a setting and the value of its key, whose kind is k, in a file of dialect d
 pub data KindGives (d : Dialect) (k : Kind) : Option Entry → Option (KindValue k) → Type 0 where
   absent : KindGives d k none none
-  present : {e : Entry} {x : KindValue k} → typed d k (e .value) ≡ some (typedAs k x) → KindGives d k (some e) (some x)
+  present : {e : Entry} {x : KindValue k} → ValueIs d k (e .value) (typedAs k x) → KindGives d k (some e) (some x)
 
 -- the same where a key may be listed or not; one that is not listed has neither a setting nor a value
 abbrev pub Gives : Dialect → (o : Option Kind) → Option Entry → Option (ValueOf o) → Type 0
@@ -113,7 +115,7 @@ good-gives d k {e} g = go (valued d k (e .value)) (typed-valued d k (e .value))
   where
     go : (o : Option (KindValue k)) → typed d k (e .value) ≡ mapped (typedAs k) o → KindGives d k (some e) o
     go none q = absurd (Option·none-ne-some (g .value) (sym q ∙ g .reads))
-    go (some x) q = present q
+    go (some x) q = present (typed-value d k (e .value) q)
 
 -- a setting that is listed, and good for its kind, by whatever kind that is
 key-gives : (d : Dialect) (g : Group) (key : List ℕ) (s : Option Entry) → ((e : Entry) → s ≡ some e → Asked d g key e) → ((k : Kind) → kindOf g key ≡ some k → (e : Entry) → s ≡ some e → GoodValue d k (e .value)) → (o : Option Kind) → kindOf g key ≡ o → Gives d o s (readBy d o s)

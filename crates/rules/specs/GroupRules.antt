@@ -29,11 +29,11 @@ groupLines (broken b ∷ ls) = broken b ∷ groupLines ls
 abbrev pub Has : String → List Line → Type 0
 Has key ls = Some (GivesKey (word key)) ls
 
-abbrev pub Gives : List ℕ → List ℕ → Line → Type 0
-Gives key value l = SettingThat (λ k v. (key ≡ k) × (value ≡ v)) l
+abbrev pub GivesValue : List ℕ → List ℕ → Line → Type 0
+GivesValue key value l = SettingThat (λ k v. (key ≡ k) × (value ≡ v)) l
 
 abbrev pub HasValue : String → String → List Line → Type 0
-HasValue key value ls = Some (Gives (word key) (word value)) ls
+HasValue key value ls = Some (GivesValue (word key) (word value)) ls
 
 -- "14 before 15 within it"
 pub data Faulty (lacks clashes : Type 0) : Refusal → Type 0 where
