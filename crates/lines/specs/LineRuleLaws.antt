@@ -2,7 +2,7 @@
 use Prim.Native.Nat.{ℕ}
 use native.Mathlib.Omega.{arith}
 use mathlib.Core.Path.{_≡_, refl, ap, ap₂, sym, _∙_}
-use mathlib.Core.Bool.{Bool, true, false, cond, not, _&&_, true≢false, false≢true}
+use mathlib.Core.Bool.{Bool, true, false, cond, not, _&&_, and-false, true≢false, false≢true}
 use mathlib.Core.List.{List, [], _∷_, _++_, map, append-nil}
 use borrow.Author.Tests.{eqb-true, not-true}
 use lib.Dec.{eqb}
@@ -43,17 +43,13 @@ indented-line d s l b t = ap (bodyOf d) (indented-after s l b t)
 
 -- ---- the value's end
 
-and-false : (a b : Bool) → b ≡ false → a && b ≡ false
-and-false true b e = e
-and-false false b e = refl
-
 tail-closed : (x : ℕ) (v : List ℕ) → NoTrailingBlank (x ∷ v) → NoTrailingBlank v
 tail-closed x v c s z e = c (x ∷ s) z (ap (λ (t : List ℕ). x ∷ t) e)
 
 closed-white : (x : ℕ) (v r : List ℕ) → NoTrailingBlank (x ∷ v) → isBlank x && all isBlank (v ++ r) ≡ false
 closed-white x [] r c = rw (c [] x refl)
 closed-white x (y ∷ v) r c =
-    and-false (isBlank x) (isBlank y && all isBlank (v ++ r)) (closed-white y v r (tail-closed x (y ∷ v) c))
+    ap (λ (b : Bool). isBlank x && b) (closed-white y v r (tail-closed x (y ∷ v) c)) ∙ and-false (isBlank x)
 
 white-trimmed : (s : List ℕ) → Whitespace s → trimmed s ≡ []
 white-trimmed [] w = refl

@@ -1,4 +1,5 @@
--- Demand 2's acceptance, of the definitions: a file is accepted exactly when its size and name are allowed, each line has no fault after those before it, and each group has none as a whole; otherwise the number and line are those of the first fault.
+-- A step of other proofs: which of the reading's own tests a file passes, `fault` of each line and then of the groups, and
+-- at which it fails first. What the rules are, and that the reading keeps to them, is said in `FileRules` and `Exactly`.
 use Prim.Native.Nat.{ℕ, suc, _+_, _≤_, _<_}
 use native.Mathlib.Omega.{arith}
 use mathlib.Core.Path.{_≡_, refl, ap, ap₂, sym, _∙_}

@@ -1,5 +1,5 @@
--- What the reading computes of a file, its first faulty line and the first fault of its groups, is what the rules say; and
--- what the rules say is one thing.
+-- What the reading computes of a file, its first faulty line and the first fault of its groups, is what the rules say;
+-- and what the rules say is one thing.
 use Prim.Native.Nat.{ℕ, suc, _+_}
 use native.Mathlib.Omega.{arith}
 use mathlib.Core.Path.{_≡_, refl, ap₂, sym, _∙_}
@@ -9,7 +9,7 @@ use mathlib.Core.Option.{Option, none, some}
 use lib.ListN.{length, length-append}
 use Rattle.text.specs.Options.{orElse}
 use Rattle.text.specs.RunLaws.{cons-nil}
-use Rattle.text.specs.Occurrences.{FirstBad, Count}
+use Rattle.text.specs.Occurrences.{Count}
 use Rattle.text.specs.OccurrenceLaws.{first-unique, Compared, alike, later, sooner, compare, everywhere-none, first-bad-unique}
 use Rattle.text.specs.declared.Dialect.{Dialect}
 use Rattle.lines.specs.Lines.{Line, lineOf, valueStart}
@@ -35,7 +35,8 @@ abbrev Walked : Dialect → List Line → List Section → Option Fault → Type
 Walked d ls gs none = LinesAllowed d ls × SectionsStand d gs ls
 Walked d ls gs (some f) = FaultyLine d ls (f .refusal) (f .line)
 
-allowed-more : (d : Dialect) (before : List Line) (l : Line) → LinesAllowed d before → Allowed d before l → LinesAllowed d (before ++ (l ∷ []))
+allowed-more : (d : Dialect) (before : List Line) (l : Line) → LinesAllowed d before → Allowed d before l →
+    LinesAllowed d (before ++ (l ∷ []))
 allowed-more d before l h k a x c e = go (compare before l [] a x c e)
   where
     go : Compared before l [] a x c → Allowed d a x
@@ -43,6 +44,13 @@ allowed-more d before l h k a x c e = go (compare before l [] a x c e)
     go (later t i j) = h a x t i
     go (sooner [] i j) = absurd (cons-nil x c (sym j))
     go (sooner (y ∷ t) i j) = absurd (cons-nil y (t ++ x ∷ c) (sym j))
+
+-- the groups and the first fault of the lines behind a line l, which is line n and starts at s
+abbrev groupsBehind : Dialect → ℕ → ℕ → List Section → List ℕ → List (List ℕ) → List Section
+groupsBehind d n s gs l ls = grown d (suc n) (s + length l + 1) (afterLine d n s l gs) ls
+
+abbrev faultBehind : Dialect → ℕ → ℕ → List Section → List ℕ → List (List ℕ) → Option Fault
+faultBehind d n s gs l ls = lineFault d (suc n) (s + length l + 1) (afterLine d n s l gs) ls
 
 walk : (d : Dialect) (n s : ℕ) (gs : List Section) (before : List Line) (ls : List (List ℕ)) →
     n ≡ suc (length before) → LinesAllowed d before → SectionsStand d gs before →
@@ -59,8 +67,8 @@ walk d n s gs before (l ∷ ls) e h k =
 
     go : (o : Option Refusal) → fault d gs (lineOf d l) ≡ o → LineVerdict d before (lineOf d l) o →
         (Allowed d before (lineOf d l) → fault d gs (lineOf d l) ≡ none →
-        Walked d ((before ++ (lineOf d l ∷ [])) ++ map (lineOf d) ls) (grown d (suc n) (s + length l + 1) (afterLine d n s l gs) ls) (lineFault d (suc n) (s + length l + 1) (afterLine d n s l gs) ls)) →
-        Walked d (before ++ lineOf d l ∷ map (lineOf d) ls) (grown d (suc n) (s + length l + 1) (afterLine d n s l gs) ls) (orElse (faultAt n o) (lineFault d (suc n) (s + length l + 1) (afterLine d n s l gs) ls))
+        Walked d ((before ++ (lineOf d l ∷ [])) ++ map (lineOf d) ls) (groupsBehind d n s gs l ls) (faultBehind d n s gs l ls)) →
+        Walked d (before ++ lineOf d l ∷ map (lineOf d) ls) (groupsBehind d n s gs l ls) (orElse (faultAt n o) (faultBehind d n s gs l ls))
     go none q v f = rw (append-assoc before (lineOf d l ∷ []) (map (lineOf d) ls)) at (f v q)
     go (some r) q v f = record {
       before = before;
@@ -83,7 +91,8 @@ module _ (d : Dialect) (ls : List (List ℕ)) where
   pub lines-verdict : LinesVerdict d (map (lineOf d) ls) (lineFault d 1 0 [] ls)
   lines-verdict = go (lineFault d 1 0 [] ls) walked
     where
-      go : (o : Option Fault) → Walked d (map (lineOf d) ls) (grown d 1 0 [] ls) o → LinesVerdict d (map (lineOf d) ls) o
+      go : (o : Option Fault) → Walked d (map (lineOf d) ls) (grown d 1 0 [] ls) o →
+          LinesVerdict d (map (lineOf d) ls) o
       go none w = w .0
       go (some f) w = w
 
@@ -100,20 +109,24 @@ module _ (d : Dialect) (ls : List (List ℕ)) where
 fault-is : {f g : Fault} → (f .refusal ≡ g .refusal) × (f .line ≡ g .line) → some f ≡ some g
 fault-is h = ap₂ (λ (r : Refusal) (n : ℕ). some (record { refusal = r; line = n })) (h .0) (h .1)
 
-lines-apart : (d : Dialect) (a : List Line) (x : Line) (c : List Line) (r : Refusal) → Allowed d a x → FirstRow d a x r → ⊥
+lines-apart : (d : Dialect) (a : List Line) (x : Line) (c : List Line) (r : Refusal) → Allowed d a x →
+    FirstRow d a x r → ⊥
 lines-apart d a x c r h f = allowed-faultless d a x r h f
 
-pub lines-unique : (d : Dialect) (ls : List Line) (o p : Option Fault) → LinesVerdict d ls o → LinesVerdict d ls p → o ≡ p
+pub lines-unique : (d : Dialect) (ls : List Line) (o p : Option Fault) → LinesVerdict d ls o → LinesVerdict d ls p →
+    o ≡ p
 lines-unique d ls none none v w = refl
 lines-unique d ls none (some g) v w = absurd (everywhere-none (lines-apart d) v w)
 lines-unique d ls (some f) none v w = absurd (everywhere-none (lines-apart d) w v)
 lines-unique d ls (some f) (some g) v w =
     fault-is (first-bad-unique (lines-apart d) (λ a x c r q h k. first-unique (RowApplies d a x) (rowsOf x) h k) v w)
 
-services-apart : (d : Dialect) (a : List Line) (x : Line) (c : List Line) (r : Refusal) → SoundService d a x c → FaultyService d a x c r → ⊥
+services-apart : (d : Dialect) (a : List Line) (x : Line) (c : List Line) (r : Refusal) → SoundService d a x c →
+    FaultyService d a x c r → ⊥
 services-apart d a x c r h f = faulty-sound (f .1) (h (f .0))
 
-pub groups-unique : (d : Dialect) (k : Name) (ls : List Line) (o p : Option Fault) → GroupsVerdict d k ls o → GroupsVerdict d k ls p → o ≡ p
+pub groups-unique : (d : Dialect) (k : Name) (ls : List Line) (o p : Option Fault) → GroupsVerdict d k ls o →
+    GroupsVerdict d k ls p → o ≡ p
 groups-unique d k ls none none v w = refl
 groups-unique d (iwdName x) ls none (some g) v w = absurd (faulty-sound (w .0) v)
 groups-unique d (iwdName x) ls (some f) none v w = absurd (faulty-sound (v .0) w)
@@ -137,7 +150,8 @@ services-append : (a b : List Section) → services (a ++ b) ≡ services a + se
 services-append [] b = omega arith
 services-append (g ∷ a) b = rw (services-append a b) (go (serves (g .group)))
   where
-    go : (c : Bool) → cond c (suc (services a + services b)) (services a + services b) ≡ cond c (suc (services a)) (services a) + services b
+    go : (c : Bool) →
+        cond c (suc (services a + services b)) (services a + services b) ≡ cond c (suc (services a)) (services a) + services b
     go true = omega arith
     go false = omega arith
 

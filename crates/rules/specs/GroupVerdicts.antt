@@ -4,7 +4,7 @@ use Prim.Native.Nat.{ℕ}
 use Prim.Native.String.{String}
 use native.Mathlib.Omega.{arith}
 use mathlib.Core.Path.{_≡_, refl, ap, sym, _∙_}
-use mathlib.Core.Bool.{Bool, true, false, cond, not, _||_}
+use mathlib.Core.Bool.{Bool, true, false, cond, not}
 use mathlib.Core.List.{List, [], _∷_, _++_, append-assoc, append-nil, reverse, reverse-cons}
 use mathlib.Core.Logic.{_⊎_, inl, inr}
 use mathlib.Core.Option.{Option, none, some}
@@ -15,19 +15,19 @@ use Rattle.text.specs.Relations.{Each, Some}
 use Rattle.text.specs.RelationLaws.{each-at}
 use Rattle.text.specs.Occurrences.{Everywhere, FirstBad}
 use Rattle.text.specs.OccurrenceLaws.{Compared, alike, later, sooner, compare}
-use Rattle.text.specs.Tells.{Tells, holds, fails, tells-not, tells-alike, tells-and, tells-or}
+use Rattle.text.specs.Tells.{Tells, holds, fails, tells-not, tells-alike, tells-and, tells-or, same-tells}
 use Rattle.text.specs.declared.Dialect.{Dialect}
 use Rattle.lines.specs.Lines.{Line, blank, comment, header, setting, broken}
 use Rattle.names.specs.declared.Suffix.{Suffix}
 use Rattle.names.specs.declared.Suffix.the-variants as S
-use Rattle.rules.specs.Faults.{Section, serves}
+use Rattle.rules.specs.Faults.{Section}
 use Rattle.rules.specs.Groups.{Fault, faultAt, lackOrClash, serviceFault, sectionFault, servicesFault, entriesIn, has, hasSecret, isOpen, fileLacks, fileClashes, fileFault}
 use Rattle.rules.specs.Reading.{Name, iwdName, connmanFile, groupsFault}
 use Rattle.rules.specs.GroupKeys.{GroupIs}
-use Rattle.rules.specs.LineOrder.{HeaderThat, IsHeader, NamesGroup, GivesKey, ServiceHeader, LinesAllowed}
+use Rattle.rules.specs.LineOrder.{IsHeader, NamesGroup, GivesKey, LinesAllowed}
 use Rattle.rules.specs.GroupRules.{groupLines, ServiceLacks, ServiceClashes, SoundService, FaultyService, In, EitherKey, FileLacks, FileClashes, GroupsSound, FaultyGroup}
-use Rattle.rules.specs.TableLaws.{same-tells, serves-tells}
-use Rattle.rules.specs.HereLaws.{that-header, no-header}
+use Rattle.rules.specs.TableLaws.{serves-tells}
+use Rattle.rules.specs.HereLaws.{that-header}
 use Rattle.rules.specs.SectionLaws.{entryPairs, linePairs, pairs-tell, given-tells, SectionStands, SectionsStand}
 use Rattle.rules.specs.ServiceVerdicts.{Ruled, ruled, service-ruled}
 use Rattle.rules.specs.declared.Group.the-variants.{Service}
@@ -110,7 +110,9 @@ module _ (d : Dialect) where
       at = f .at;
       rest = f .rest ++ header m ∷ since;
       is = ap (λ (r : List Line). r ++ header m ∷ since) (f .is) ∙ append-assoc (f .before) (f .at ∷ f .rest) (header m ∷ since);
-      good = λ a x t i. sound-before a x t (f .at) (f .rest ++ header m ∷ since) headed (before-sound a x t (f .at) (f .rest) headed (f .good a x t i));
+      good = λ a x t i.
+          sound-before a x t (f .at) (f .rest ++ header m ∷ since) headed
+          (before-sound a x t (f .at) (f .rest) headed (f .good a x t i));
       bad = (f .bad .0, rw (group-lines-append (f .rest) (header m ∷ since) refl) (f .bad .1));
       counted = f .counted;
     }
@@ -121,7 +123,8 @@ module _ (d : Dialect) where
   section-verdict : (g : Section) (before earlier since : List Line) → SectionStands d g before earlier since →
       Everywhere (SoundService d) earlier → ServicesVerdict (earlier ++ header (g .name) ∷ since) (sectionFault g)
   section-verdict g before earlier since a h =
-      go (serves-tells d (g .name) (g .group) (a .grouped)) (serviceFault (g .entries)) (service-ruled (g .entries) since (a .entries) (a .once))
+      go (serves-tells d (g .name) (g .group) (a .grouped)) (serviceFault (g .entries))
+      (service-ruled (g .entries) since (a .entries) (a .once))
     where
       go : {b : Bool} → Tells (GroupIs d (g .name) Service) b → (o : Option Refusal) →
           Ruled (ServiceLacks since) (ServiceClashes since) o →
@@ -138,7 +141,8 @@ module _ (d : Dialect) where
         counted = a .line;
       }
 
-  faults-append : (a : List Section) (g : Section) → servicesFault (a ++ (g ∷ [])) ≡ orElse (servicesFault a) (sectionFault g)
+  faults-append : (a : List Section) (g : Section) →
+      servicesFault (a ++ (g ∷ [])) ≡ orElse (servicesFault a) (sectionFault g)
   faults-append [] g = go (sectionFault g)
     where
       go : (o : Option Fault) → orElse o none ≡ o
@@ -155,9 +159,11 @@ module _ (d : Dialect) where
       ServicesVerdict before (servicesFault (reverse gs))
   services-verdict [] before s = no-service before (s .0)
   services-verdict (g ∷ gs) before s =
-      rw (s .2 .is, reverse-cons g gs, faults-append (reverse gs) g) (go (servicesFault (reverse gs)) (services-verdict gs (s .0) (s .3)))
+      rw (s .2 .is, reverse-cons g gs, faults-append (reverse gs) g)
+      (go (servicesFault (reverse gs)) (services-verdict gs (s .0) (s .3)))
     where
-      go : (o : Option Fault) → ServicesVerdict (s .0) o → ServicesVerdict (s .0 ++ header (g .name) ∷ s .1) (orElse o (sectionFault g))
+      go : (o : Option Fault) → ServicesVerdict (s .0) o →
+          ServicesVerdict (s .0 ++ header (g .name) ∷ s .1) (orElse o (sectionFault g))
       go none v = section-verdict g before (s .0) (s .1) (s .2) v
       go (some f) v = faulty-before (s .0) (g .name) (s .1) (s .2 .latest) v
 
@@ -205,13 +211,15 @@ entries-lines d n (g ∷ gs) before s hs tail e q =
     rw (s .2 .is, reverse-cons g gs, append-assoc (reverse gs) (g ∷ []) hs, append-assoc (s .0) (header (g .name) ∷ s .1) tail)
     (entries-lines d n gs (s .0) (s .3) (g ∷ hs) (header (g .name) ∷ s .1 ++ tail) refl (go (same n (g .name))))
   where
-    go : (b : Bool) → entryPairs (cond b (g .entries) (entriesIn n hs)) ≡ linePairs (cond b (groupLines (s .1 ++ tail)) (linesIn n (s .1 ++ tail)))
+    go : (b : Bool) →
+        entryPairs (cond b (g .entries) (entriesIn n hs)) ≡ linePairs (cond b (groupLines (s .1 ++ tail)) (linesIn n (s .1 ++ tail)))
     go true = s .2 .entries ∙ ap linePairs (sym (group-lines-headless (s .1) tail (s .2 .latest) e))
     go false = q ∙ ap linePairs (sym (lines-in-headless n (s .1) tail (s .2 .latest)))
 
 module _ (g k : String) where
   in-more : (l : Line) (ls : List Line) → In g k ls → In g k (l ∷ ls)
-  in-more l ls h = record { before = l ∷ h .before; rest = h .rest; is = ap (λ (r : List Line). l ∷ r) (h .is); gives = h .gives }
+  in-more l ls h =
+      record { before = l ∷ h .before; rest = h .rest; is = ap (λ (r : List Line). l ∷ r) (h .is); gives = h .gives }
 
   lines-in : (ls : List Line) → Some (GivesKey (word k)) (linesIn (word g) ls) → In g k ls
   lines-in [] h = absurd h
@@ -275,7 +283,8 @@ module _ (d : Dialect) (gs : List Section) (ls : List Line) (s : SectionsStand d
       go (lackOrClash (fileLacks x (reverse gs)) (fileClashes x (reverse gs)))
       (ruled (lacks-tells d gs ls s a x) (clashes-tells d gs ls s a x))
     where
-      go : (o : Option Refusal) → Ruled (FileLacks x ls) (FileClashes x ls) o → GroupsVerdict d (iwdName x) ls (faultAt 0 o)
+      go : (o : Option Refusal) → Ruled (FileLacks x ls) (FileClashes x ls) o →
+          GroupsVerdict d (iwdName x) ls (faultAt 0 o)
       go none v = v
       go (some r) v = (v, refl)
 

@@ -55,7 +55,8 @@ module _ {d : Dialect} {before : List Line} where
   pub here-headed : Here d before → ¬ Each (λ l. ¬ IsHeader l) before
   here-headed x h = no-header before h (x .earlier) (x .name) (x .since) (x .is)
 
-  pub since-without : (key : List ℕ) (x y : Here d before) → ¬ Some (GivesKey key) (x .since) → ¬ Some (GivesKey key) (y .since)
+  pub since-without : (key : List ℕ) (x y : Here d before) → ¬ Some (GivesKey key) (x .since) →
+      ¬ Some (GivesKey key) (y .since)
   since-without key x y n h = n (subst (Some (GivesKey key)) (here-since y x) h)
 
   module _ {key : List ℕ} where

@@ -16,6 +16,7 @@ pub mod LineVerdicts
 pub mod ServiceVerdicts
 pub mod GroupVerdicts
 pub mod FileVerdicts
+pub mod ReadingVerdicts
 pub mod Exactly
 pub mod Asking
 pub mod ListedValues

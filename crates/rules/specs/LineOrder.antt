@@ -44,7 +44,7 @@ BrokenAs b (header name) = ⊥
 BrokenAs b (setting key value) = ⊥
 BrokenAs b (broken c) = c ≡ b
 
--- the line is a header; it names the group; it is a service's header
+-- the line is a header; it names the group; it is the header of a service
 abbrev pub IsHeader : Line → Type 0
 IsHeader l = HeaderThat (λ name. Unit) l
 
@@ -84,13 +84,13 @@ abbrev pub EightServices : Dialect → List Line → Type 0
 EightServices d before = AtLeast 8 (ServiceHeader d) before
 
 -- a header names a listed group that no line before it names; of services there are at most eight
-pub record GoodHeader (d : Dialect) (before : List Line) (name : List ℕ) : Type 0 where
+pub record AllowedHeader (d : Dialect) (before : List Line) (name : List ℕ) : Type 0 where
   pub group : Group
   pub listed : GroupIs d name group
   pub once : ¬ Some (NamesGroup name) before
   pub few : ¬ (GroupIs d name Service × EightServices d before)
 
--- a setting stands in a group; its key is listed for it and was not given in it; its text is whole, its value of the kind
+-- a setting's key is listed for its group and was not given in it; its text is whole, and its value of the key's kind
 pub record AllowedSetting (d : Dialect) (before : List Line) (key value : List ℕ) : Type 0 where
   pub place : KeyHere d before key
   pub once : ¬ Some (GivesKey key) (place .here .since)
@@ -102,7 +102,7 @@ pub record AllowedSetting (d : Dialect) (before : List Line) (key value : List �
 abbrev pub Allowed : Dialect → List Line → Line → Type 0
 Allowed d before blank = Unit
 Allowed d before comment = Unit
-Allowed d before (header name) = GoodHeader d before name
+Allowed d before (header name) = AllowedHeader d before name
 Allowed d before (setting key value) = AllowedSetting d before key value
 Allowed d before (broken b) = ⊥
 

@@ -1,4 +1,4 @@
--- The fault of a line is the first row of document 01's table that applies to it, and a line without a fault is allowed.
+-- The fault of a line is the first row of document 01's table that applies to it; a line without a fault is allowed.
 use Prim.Native.Nat.{ℕ}
 use native.Mathlib.Omega.{arith}
 use mathlib.Core.Path.{_≡_, refl, sym, _∙_, subst}
@@ -20,9 +20,9 @@ use Rattle.lines.specs.Lines.{Line, blank, comment, header, setting, broken}
 use Rattle.lines.specs.declared.Break.{Break}
 use Rattle.lines.specs.declared.Break.the-variants as B
 use Rattle.rules.specs.Tables.{groupOf, kindOf}
-use Rattle.rules.specs.Faults.{Section, given, breakOf, headerFault, valueFault, keyFault, settingFault, fault}
-use Rattle.rules.specs.GroupKeys.{GroupIs, KeyIs}
-use Rattle.rules.specs.LineOrder.{NamesGroup, GivesKey, Here, KeyHere, EightServices, GoodHeader, AllowedSetting, Allowed, RowApplies, rowsOf, FirstRow}
+use Rattle.rules.specs.Faults.{Section, breakOf, headerFault, valueFault, keyFault, settingFault, fault}
+use Rattle.rules.specs.GroupKeys.{GroupIs}
+use Rattle.rules.specs.LineOrder.{NamesGroup, GivesKey, Here, KeyHere, EightServices, AllowedSetting, Allowed, RowApplies, rowsOf, FirstRow}
 use Rattle.rules.specs.TableLaws.{key-kind, kind-key, group-named, named-group, serves-tells}
 use Rattle.rules.specs.HereLaws.{here-headed, since-without, kind-unique, key-known}
 use Rattle.rules.specs.SectionLaws.{pairs-tell, given-tells, SectionsStand, named-tells, eight-tells}
@@ -104,7 +104,10 @@ module _ (d : Dialect) (g : Section) (gs : List Section) (before : List Line) (s
           behind R.ValueText (inr (new, inl ((place, λ w. true≢false (sym t ∙ whole-unbroken d kind v w)), refl)))
       value-verdict true p false t none e =
           behind R.ValueKind
-          (inr (new, inr (whole (judged-whole d kind v p t), inl ((place, λ y w. Option·none-ne-some y (sym e ∙ value-typed d kind v w)), refl))))
+          (inr (new, inr (whole (judged-whole d kind v p t), inl ((place, unread), refl))))
+        where
+          unread : (y : Typed) → ¬ ValueIs d kind v y
+          unread y w = Option·none-ne-some y (sym e ∙ value-typed d kind v w)
       value-verdict true p false t (some y) e =
           record { place = place; once = n; text = judged-whole d kind v p t; typed = y; good = typed-value d kind v e }
 
@@ -114,7 +117,8 @@ module _ (d : Dialect) (g : Section) (gs : List Section) (before : List Line) (s
     listed-verdict (holds h) = behind R.RepeatedKey (inl ((here, h), refl))
     listed-verdict (fails n) = value-verdict n (valueText v) refl (stringBroken d kind v) refl (typed d kind v) refl
 
-  key-verdict : (o : Option Kind) → kindOf (g .group) k ≡ o → LineVerdict d before (setting k v) (keyFault d k v o (g .entries))
+  key-verdict : (o : Option Kind) → kindOf (g .group) k ≡ o →
+      LineVerdict d before (setting k v) (keyFault d k v o (g .entries))
   key-verdict none q =
       inr (never, inr (here-headed here, inl ((here, λ x h. Option·none-ne-some x (sym q ∙ key-kind (g .group) k x h)), refl)))
   key-verdict (some kind) q =
@@ -141,7 +145,8 @@ line-verdict d gs before s (setting k v) = setting-verdict d gs before s k v
 abbrev NoRow : Dialect → List Line → Line → Type 0
 NoRow d before l = Each (λ r. ¬ RowApplies d before l r) (rowsOf l)
 
-setting-no-row : (d : Dialect) (before : List Line) (k v : List ℕ) → AllowedSetting d before k v → NoRow d before (setting k v)
+setting-no-row : (d : Dialect) (before : List Line) (k v : List ℕ) → AllowedSetting d before k v →
+    NoRow d before (setting k v)
 setting-no-row d before k v a = (never, (here-headed (a .place .here), (key-known (a .place), (once, (text, (value, tt))))))
   where
     once : ¬ ((y : Here d before) × Some (GivesKey k) (y .since))
@@ -160,5 +165,6 @@ no-row d before (header n) a = (never, (never, ((λ z. z (a .group) (a .listed))
 no-row d before (setting k v) a = setting-no-row d before k v a
 no-row d before (broken b) a = absurd a
 
-pub allowed-faultless : (d : Dialect) (before : List Line) (l : Line) (r : Refusal) → Allowed d before l → FirstRow d before l r → ⊥
+pub allowed-faultless : (d : Dialect) (before : List Line) (l : Line) (r : Refusal) → Allowed d before l →
+    FirstRow d before l r → ⊥
 allowed-faultless d before l r a f = none-first (RowApplies d before l) (rowsOf l) r (no-row d before l a) f

@@ -48,7 +48,8 @@ named-is ConnMan name connmanFile h = ap (λ (b : Bool). only b (some connmanFil
 pub is-named : (d : Dialect) (name : List ℕ) (k : Name) → nameIn d name ≡ some k → FileNamed d name k
 is-named Iwd name k e = go (networkOf name) refl e
   where
-    go : (o : Option Network) → networkOf name ≡ o → mapped (λ (x : Network). iwdName (x .suffix)) o ≡ some k → FileNamed Iwd name k
+    go : (o : Option Network) → networkOf name ≡ o → mapped (λ (x : Network). iwdName (x .suffix)) o ≡ some k →
+        FileNamed Iwd name k
     go none i q = absurd (Option·none-ne-some k q)
     go (some x) i q =
         subst (FileNamed Iwd name) (Option·some-injective (iwdName (x .suffix)) k q)

@@ -1,6 +1,6 @@
--- The groups that the reading keeps stand in the lines that it has read, one after the other: so what it asks of them is
--- asked of the lines.
-use Prim.Native.Nat.{ℕ, suc, _+_, _≤_}
+-- The groups that the reading keeps stand in the lines that it has read, one after the other: what it asks of the groups
+-- is asked of the lines.
+use Prim.Native.Nat.{ℕ, suc, _+_}
 use native.Mathlib.Omega.{arith}
 use mathlib.Core.Path.{_≡_, refl, ap, ap₂, sym, _∙_, subst}
 use mathlib.Core.Bool.{Bool, true, false, cond, true≢false}
@@ -10,22 +10,21 @@ use mathlib.Core.Option.{Option, none, some, Option·none-ne-some}
 use borrow.Author.Tests.{leb-true, le-leb}
 use lib.Dec.{leb}
 use lib.ListN.{length}
-use Rattle.text.specs.Words.{same}
 use Rattle.text.specs.Relations.{Each, Some}
 use Rattle.text.specs.RelationLaws.{each-append, each-weaken, some-left, some-right, some-either}
 use Rattle.text.specs.Occurrences.{Count, count-end, count-one, count-other}
 use Rattle.text.specs.OccurrenceLaws.{count-unique, count-none, count-append}
-use Rattle.text.specs.Tells.{Tells, holds, fails, tells, tells-alike, tells-or}
+use Rattle.text.specs.Tells.{Tells, holds, fails, tells, tells-alike, tells-or, same-tells}
 use Rattle.text.specs.declared.Dialect.{Dialect}
 use Rattle.kinds.specs.Typed.{judged}
 use Rattle.kinds.specs.declared.Kind.{Kind}
 use Rattle.lines.specs.Lines.{Line, blank, comment, header, setting, broken}
 use Rattle.rules.specs.Tables.{groupOf, kindOf}
-use Rattle.rules.specs.Faults.{Entry, Section, given, nameGiven, serves, services, breakOf, headerFault, valueFault, keyFault, fault, withGroup, after}
+use Rattle.rules.specs.Faults.{Entry, Section, given, nameGiven, services, breakOf, headerFault, valueFault, keyFault, fault, withGroup, after}
 use Rattle.rules.specs.Reading.{settings}
 use Rattle.rules.specs.GroupKeys.{GroupIs}
 use Rattle.rules.specs.LineOrder.{SettingThat, IsHeader, NamesGroup, ServiceHeader, IsSetting, EightServices}
-use Rattle.rules.specs.TableLaws.{same-tells, serves-tells}
+use Rattle.rules.specs.TableLaws.{serves-tells}
 use Rattle.rules.specs.HereLaws.{that-header, headless}
 use Rattle.rules.specs.declared.Group.{Group}
 use Rattle.rules.specs.declared.Group.the-variants.{Service}
@@ -103,7 +102,8 @@ line-pairs-append (header n ∷ a) b = line-pairs-append a b
 line-pairs-append (setting k v ∷ a) b = ap (λ (r : List Pair). (k, v) ∷ r) (line-pairs-append a b)
 line-pairs-append (broken c ∷ a) b = line-pairs-append a b
 
-entry-pairs-append : (es : List Entry) (e : Entry) → entryPairs (es ++ (e ∷ [])) ≡ entryPairs es ++ ((e .key, e .value) ∷ [])
+entry-pairs-append : (es : List Entry) (e : Entry) →
+    entryPairs (es ++ (e ∷ [])) ≡ entryPairs es ++ ((e .key, e .value) ∷ [])
 entry-pairs-append [] e = refl
 entry-pairs-append (x ∷ es) e = ap (λ (r : List Pair). (x .key, x .value) ∷ r) (entry-pairs-append es e)
 
@@ -144,7 +144,8 @@ named-tells d (g ∷ gs) before s n =
     to (inl e) = some-right (NamesGroup n) (s .0) (header (g .name) ∷ s .1) (inl e)
     to (inr h) = some-left (NamesGroup n) (s .0) (header (g .name) ∷ s .1) h
 
-    sort : Some (NamesGroup n) (s .0) ⊎ ((n ≡ g .name) ⊎ Some (NamesGroup n) (s .1)) → (n ≡ g .name) ⊎ Some (NamesGroup n) (s .0)
+    sort : Some (NamesGroup n) (s .0) ⊎ ((n ≡ g .name) ⊎ Some (NamesGroup n) (s .1)) →
+        (n ≡ g .name) ⊎ Some (NamesGroup n) (s .0)
     sort (inl h) = inr h
     sort (inr (inl e)) = inl e
     sort (inr (inr h)) = absurd (headless (λ m. n ≡ m) (s .1) (s .2 .latest) h)
@@ -183,7 +184,9 @@ pub eight-tells : (d : Dialect) (gs : List Section) (before : List Line) → Sec
 eight-tells d gs before s =
     tells (leb 8 (services gs))
     (λ e. (services gs, services-count d gs before s, leb-true 8 (services gs) e))
-    (λ (h : EightServices d before). le-leb 8 (services gs) (rw (count-unique (ServiceHeader d) (h .1) (services-count d gs before s)) at (h .2)))
+    (λ (h : EightServices d before).
+    let e : h .0 ≡ services gs = count-unique (ServiceHeader d) (h .1) (services-count d gs before s) in
+    le-leb 8 (services gs) (rw e at (h .2)))
 
 pairs-count : (ls : List Line) → Count IsSetting ls (length (linePairs ls))
 pairs-count [] = count-end
@@ -208,7 +211,8 @@ settings-count d (g ∷ gs) before s =
 
 -- ---- one line more
 
-unrepeated : (d : Dialect) (k v : List ℕ) (o : Option Kind) (es : List Entry) → keyFault d k v o es ≡ none → given k es ≡ false
+unrepeated : (d : Dialect) (k v : List ℕ) (o : Option Kind) (es : List Entry) → keyFault d k v o es ≡ none →
+    given k es ≡ false
 unrepeated d k v none es f = absurd (Option·none-ne-some R.UnknownKey (sym f))
 unrepeated d k v (some x) es f = go (given k es) f
   where
@@ -240,7 +244,8 @@ module _ (d : Dialect) (before earlier since : List Line) (l : Line) (p : ¬ IsH
     line = i ∙ a .line;
   }
 
-plain-more : (d : Dialect) (gs : List Section) (before : List Line) (l : Line) → ¬ IsHeader l → linePairs (l ∷ []) ≡ [] →
+plain-more : (d : Dialect) (gs : List Section) (before : List Line) (l : Line) → ¬ IsHeader l →
+    linePairs (l ∷ []) ≡ [] →
     SectionsStand d gs before → SectionsStand d gs (before ++ (l ∷ []))
 plain-more d [] before l p q s =
     (each-append (λ b. ¬ IsHeader b) before (l ∷ []) (s .0) (p, tt), line-pairs-append before (l ∷ []) ∙ ap₂ _++_ (s .1) q)

@@ -4,7 +4,7 @@ use Prim.Native.String.{String}
 use mathlib.Core.Path.{_≡_, refl, sym, _∙_, subst}
 use mathlib.Core.Bool.{Bool, true, false, cond, not, _&&_, false≢true}
 use mathlib.Core.List.{List, [], _∷_}
-use mathlib.Core.Logic.{_⊎_, inl, inr}
+use mathlib.Core.Logic.{inl, inr}
 use mathlib.Core.Option.{Option, none, some}
 use borrow.Author.Tests.{not-true}
 use Rattle.text.specs.Options.{andThen}
@@ -12,7 +12,7 @@ use Rattle.text.specs.Words.{word, same, named}
 use Rattle.text.specs.Laws.{and-true}
 use Rattle.text.specs.Relations.{Some}
 use Rattle.text.specs.RelationLaws.{some-weaken}
-use Rattle.text.specs.Tells.{Tells, holds, fails, tells-not, tells-alike, tells-and, tells-or}
+use Rattle.text.specs.Tells.{Tells, holds, fails, tells-not, tells-alike, tells-and, tells-or, same-tells}
 use Rattle.kinds.specs.Kinds.{wordsOf, wordOf}
 use Rattle.kinds.specs.declared.Word.{Word}
 use Rattle.kinds.specs.declared.Word.the-variants.{Wifi, Ethernet, Psk, None}
@@ -22,8 +22,7 @@ use Rattle.lines.specs.Lines.{Line}
 use Rattle.rules.specs.Faults.{Entry, given}
 use Rattle.rules.specs.Groups.{lackOrClash, entryOf, isWord, wordIn, lacks, clashes, serviceFault}
 use Rattle.rules.specs.GroupRules.{Has, HasValue, Faulty, missing, contradicts, ServiceLacks, ServiceClashes}
-use Rattle.rules.specs.TableLaws.{same-tells}
-use Rattle.rules.specs.SectionLaws.{Pair, KeyIn, Once, entryPairs, linePairs, pairs-tell, given-tells}
+use Rattle.rules.specs.SectionLaws.{Pair, Once, entryPairs, linePairs, pairs-tell, given-tells}
 use Rattle.rules.specs.declared.Refusal.{Refusal}
 
 -- ---- a word that is spelled in one way only
@@ -84,7 +83,8 @@ module _ (w : Word) (t : WordList) (v : List ℕ) (f : (u : List ℕ) → Tells 
       first : k ≡ x .key → Said k v (entryPairs (x ∷ es)) → x .value ≡ v
       first e (inl h) = sym (h .1)
       first e (inr h) =
-          absurd (o .0 (some-weaken (λ (p : Pair). (k ≡ p .0) × (v ≡ p .1)) (λ (p : Pair). x .key ≡ p .0) (λ p i. sym e ∙ i .0) (entryPairs es) h))
+          let value : (p : Pair) → (k ≡ p .0) × (v ≡ p .1) → x .key ≡ p .0 = λ p i. sym e ∙ i .0 in
+          absurd (o .0 (some-weaken (λ (p : Pair). (k ≡ p .0) × (v ≡ p .1)) (λ (p : Pair). x .key ≡ p .0) value (entryPairs es) h))
 
       further : ¬ (k ≡ x .key) → Said k v (entryPairs (x ∷ es)) → Said k v (entryPairs es)
       further n (inl h) = absurd (n (h .0))
@@ -133,14 +133,16 @@ module _ (es : List Entry) (ls : List Line) (q : entryPairs es ≡ linePairs ls)
   lacks-tells : Tells (ServiceLacks ls) (lacks es)
   lacks-tells =
       tells-or (tells-not (has-key "Type"))
-      (tells-or (tells-and (has-value "Type" "wifi" Wifi W.ServiceType refl) (tells-not (tells-or (has-key "Name") (has-key "SSID"))))
+      (tells-or
+      (tells-and (has-value "Type" "wifi" Wifi W.ServiceType refl) (tells-not (tells-or (has-key "Name") (has-key "SSID"))))
       (tells-and (has-value "Security" "psk" Psk W.Security refl) (tells-not (has-key "Passphrase"))))
 
   clashes-tells : Tells (ServiceClashes ls) (clashes es)
   clashes-tells =
       tells-or
       (tells-and (has-value "Type" "ethernet" Ethernet W.ServiceType refl)
-      (tells-or (has-key "Name") (tells-or (has-key "SSID") (tells-or (has-key "Passphrase") (tells-or (has-key "Security") (has-key "Hidden"))))))
+      (tells-or (has-key "Name")
+      (tells-or (has-key "SSID") (tells-or (has-key "Passphrase") (tells-or (has-key "Security") (has-key "Hidden"))))))
       (tells-and (has-value "Security" "none" None W.Security refl) (has-key "Passphrase"))
 
   pub service-ruled : Ruled (ServiceLacks ls) (ServiceClashes ls) (serviceFault es)

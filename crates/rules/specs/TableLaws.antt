@@ -1,7 +1,7 @@
 -- `groupOf` and `kindOf` find what the lists of groups and keys say: a name's group, and a key's kind in its group.
 use Prim.Native.Nat.{ℕ}
 use mathlib.Core.Path.{_≡_, refl, ap, sym, _∙_, subst}
-use mathlib.Core.Bool.{Bool, true, false, cond, not, _&&_, _||_, true≢false, false≢true}
+use mathlib.Core.Bool.{Bool, true, false, cond, not, _&&_, _||_, or-true, false≢true}
 use mathlib.Core.List.{List, [], _∷_, _++_}
 use mathlib.Core.Logic.{inl, inr}
 use mathlib.Core.Option.{some, Option·some-injective, Option·none-ne-some}
@@ -23,10 +23,6 @@ use Rattle.rules.specs.GroupKeys.{InTable, ServiceName, GroupIs, KeyIs}
 use Rattle.rules.specs.declared.Group.{Group}
 use Rattle.rules.specs.declared.Group.the-variants.{Settings, Security, Ipv4, Ipv6, Global, Service}
 
--- two texts are the same exactly when the test says so
-pub same-tells : (a b : List ℕ) → Tells (a ≡ b) (same a b)
-same-tells a b = tells (same a b) (λ e. same-eq a b e) (λ e. ap (λ (m : List ℕ). same m b) e ∙ same-refl b)
-
 -- ---- a table with no word twice
 
 abbrev inWords : {A : Type 0} → List ℕ → List (List ℕ × A) → Bool
@@ -36,10 +32,6 @@ inWords w (x ∷ t) = same w (x .0) || inWords w t
 abbrev distinct : {A : Type 0} → List (List ℕ × A) → Bool
 distinct [] = true
 distinct (x ∷ t) = not (inWords (x .0) t) && distinct t
-
-or-true : (a b : Bool) → b ≡ true → a || b ≡ true
-or-true true b e = refl
-or-true false b e = e
 
 module _ {A : Type 0} where
   named-row : (w : List ℕ) (t : List (List ℕ × A)) {a : A} → named w t ≡ some a → InTable w a t
@@ -54,7 +46,7 @@ module _ {A : Type 0} where
   row-in : (w : List ℕ) (a : A) (t : List (List ℕ × A)) → InTable w a t → inWords w t ≡ true
   row-in w a [] h = absurd h
   row-in w a (x ∷ t) (inl h) = rw (ap (λ (m : List ℕ). same m (x .0)) (h .0) ∙ same-refl (x .0))
-  row-in w a (x ∷ t) (inr h) = or-true (same w (x .0)) (inWords w t) (row-in w a t h)
+  row-in w a (x ∷ t) (inr h) = ap (λ (b : Bool). same w (x .0) || b) (row-in w a t h) ∙ or-true (same w (x .0))
 
   row-named : (w : List ℕ) (a : A) (t : List (List ℕ × A)) → distinct t ≡ true → InTable w a t → named w t ≡ some a
   row-named w a [] d h = absurd h
@@ -93,8 +85,9 @@ kind-key g k x e = named-row k (keysOf g) e
 service-name : (n : List ℕ) → isService n ≡ true → ServiceName n
 unfolding isService
 service-name n h =
-    let p = and-true (same (take 8 n) (word "service_")) (isSome (sized 1 32 (some (drop 8 n))) && all isIdentifier (drop 8 n)) h in
-    let q = and-true (isSome (sized 1 32 (some (drop 8 n)))) (all isIdentifier (drop 8 n)) (p .1) in
+    let few : Bool = isSome (sized 1 32 (some (drop 8 n))) in
+    let p = and-true (same (take 8 n) (word "service_")) (few && all isIdentifier (drop 8 n)) h in
+    let q = and-true few (all isIdentifier (drop 8 n)) (p .1) in
     let s = some-is (sized 1 32 (some (drop 8 n))) (q .0) in
     let z = sized-is 1 32 (some (drop 8 n)) (s .1) in
     record {
@@ -132,7 +125,8 @@ named-group ConnMan n g e = go (same n (word "global")) refl (isService n) refl 
     go false p false q e = absurd (Option·none-ne-some g e)
 
 -- whether a name is a service's, by its group
-pub serves-tells : (d : Dialect) (n : List ℕ) (g : Group) → groupOf d n ≡ some g → Tells (GroupIs d n Service) (serves g)
+pub serves-tells : (d : Dialect) (n : List ℕ) (g : Group) → groupOf d n ≡ some g →
+    Tells (GroupIs d n Service) (serves g)
 serves-tells d n g q =
     tells (serves g)
     (λ e. named-group d n Service (q ∙ ap some (serves-service g e)))

@@ -23,7 +23,8 @@ iwdGroups = (word "Settings", Settings) ∷ (word "Security", Security) ∷ (wor
 
 -- "`service_` and 1 to 32 letters, digits or `_`"
 unfoldable pub isService : List ℕ → Bool
-isService n = same (take 8 n) (word "service_") && (isSome (sized 1 32 (some (drop 8 n))) && all isIdentifier (drop 8 n))
+isService n =
+    same (take 8 n) (word "service_") && (isSome (sized 1 32 (some (drop 8 n))) && all isIdentifier (drop 8 n))
 
 -- "ConnMan groups: `global`: .. `service_` ..": the group that a name names
 unfoldable pub groupOf : Dialect → List ℕ → Option Group

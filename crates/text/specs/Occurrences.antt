@@ -16,7 +16,9 @@ Everywhere {A} Good xs = (before : List A) (x : A) (rest : List A) → xs ≡ be
 
 -- the first place of the list that is not good, what is said of it, and its number, counted from 1
 pub record FirstBad {A B : Type 0}
-    (Good : List A → A → List A → Type 0) (Bad : List A → A → List A → B → Type 0) (xs : List A) (b : B) (number : ℕ) : Type 0 where
+    (Good : List A → A → List A → Type 0)
+    (Bad : List A → A → List A → B → Type 0)
+    (xs : List A) (b : B) (number : ℕ) : Type 0 where
   pub before : List A
   pub at : A
   pub rest : List A
