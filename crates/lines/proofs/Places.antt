@@ -14,7 +14,7 @@ use Rattle.text.specs.Scans.{Stop, stop-low, stop-front, stop-after}
 use Rattle.text.specs.declared.Dialect.{Dialect}
 use Rattle.text.specs.declared.Dialect.the-variants.{Iwd, ConnMan}
 use Rattle.lines.specs.Lines.{Line, blank, comment, header, setting, broken, extends, closed, bracketOf, ended, equalOf, behindEqual, settingOf, bodyOf, lineOf, valueStart}
-use Rattle.lines.specs.Forms.{runEnd, runAt, valueFrom, valueAt, formFrom, formAt, lineIn, Placed, Starts, Forms}
+use Rattle.lines.specs.Forms.{runEnd, runAt, valueFrom, valueAt, formIn, formAt, lineIn, Placed, Starts, Forms}
 use Rattle.lines.specs.declared.Break.the-variants.{Unrecognized, Extension, BadHeader}
 
 -- two lines of different kinds
@@ -155,9 +155,9 @@ module _ (d : Dialect) (l : List ℕ) (i : ℕ) (h : i ≤ length l) where
 
 -- what is to be shown of the form of the line x, whose text starts at i
 record Fits (d : Dialect) (l : List ℕ) (i : ℕ) (x : Line) : Type 0 where
-  is : lineIn l (formFrom d l i x) ≡ x
-  placed : Placed (length l) (formFrom d l i x)
-  starts : length l - length (behindEqual d (drop i l)) ≡ valueStart d l → Starts d l (formFrom d l i x)
+  is : lineIn l (formIn d l i x) ≡ x
+  placed : Placed (length l) (formIn d l i x)
+  starts : length l - length (behindEqual d (drop i l)) ≡ valueStart d l → Starts d l (formIn d l i x)
 
 header-fits : (d : Dialect) (l : List ℕ) (i : ℕ) {n : List ℕ} → HeaderAt d l i n → Fits d l i (header n)
 header-fits d l i h =

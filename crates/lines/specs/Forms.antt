@@ -29,17 +29,17 @@ valueAt d l v = record { start = v; end = v + length (ended d (drop v l)) }
 
 -- what a line is, by places in l, where its first byte that is no blank is at i: a header's name stands behind its `[`, a
 -- setting's key at i, and its value behind the `=` and its whitespace
-abbrev pub formFrom : Dialect → List ℕ → ℕ → Line → Form
-formFrom d l i blank = Blank
-formFrom d l i comment = Comment
-formFrom d l i (header name) = Header (runAt isHeaderByte l (i + 1))
-formFrom d l i (setting key value) =
+abbrev pub formIn : Dialect → List ℕ → ℕ → Line → Form
+formIn d l i blank = Blank
+formIn d l i comment = Comment
+formIn d l i (header name) = Header (runAt isHeaderByte l (i + 1))
+formIn d l i (setting key value) =
     Setting (runAt (isKeyByte d) l i) (valueAt d l (valueFrom l (runEnd (isKeyByte d) l i)))
-formFrom d l i (broken b) = Broken b
+formIn d l i (broken b) = Broken b
 
 -- the form of the line l
 unfoldable pub formAt : Dialect → List ℕ → Form
-formAt d l = formFrom d l (lead isBlank l) (lineOf d l)
+formAt d l = formIn d l (lead isBlank l) (lineOf d l)
 
 -- ---- what a form says of its line: shown of `formAt` in proofs/Places
 

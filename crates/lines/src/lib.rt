@@ -6,7 +6,7 @@ ghost use mathlib.Core.Path.{_≡_};
 ghost use Prim.Native.Nat.{_+_, _≤_, _<_};
 ghost use lib.ListN.{length, drop};
 ghost use Rattle.lines.specs.Lines.{bracketOf, settingOf};
-ghost use Rattle.lines.specs.Forms.{Begins, Ends, formFrom, formAt};
+ghost use Rattle.lines.specs.Forms.{Begins, Ends, formIn, formAt};
 use text::Class;
 use text::Dialect;
 use text::Place;
@@ -46,7 +46,7 @@ fn is_extension(d: Dialect, line: &[u8], from: usize) -> bool
 // The line whose bracket is at a place.
 fn header_form(d: Dialect, line: &[u8], at: usize) -> Form
     requires { ⌜ at < length (now line) ⌝ }
-    ensures { λ r. ⌜ r ≡ formFrom d (now (line .entry)) at (bracketOf d (drop (at + 1) (now (line .entry)))) ⌝ }
+    ensures { λ r. ⌜ r ≡ formIn d (now (line .entry)) at (bracketOf d (drop (at + 1) (now (line .entry)))) ⌝ }
 {
     let from = at + 1;
     if is_extension(d, line, from) {
@@ -83,7 +83,7 @@ fn value_end(d: Dialect, line: &[u8], from: usize) -> usize
 // The line from its first byte that is no blank on, which is neither `#` nor `[`.
 fn setting_form(d: Dialect, line: &[u8], at: usize) -> Form
     requires { ⌜ at ≤ length (now line) ⌝ }
-    ensures { λ r. ⌜ r ≡ formFrom d (now (line .entry)) at (settingOf d (drop at (now (line .entry)))) ⌝ }
+    ensures { λ r. ⌜ r ≡ formIn d (now (line .entry)) at (settingOf d (drop at (now (line .entry)))) ⌝ }
 {
     let key_end = text::scan::key_end(d, line, at);
     let equal = text::scan::blank_end(line, key_end);
