@@ -32,8 +32,18 @@ writtenAt a =
       reserved = replicate 7 0;
     }
 
--- the answer a, and the buffers x and y, which held n and f, are those of w
-pub record WritesAt (w : Writing) (n f x y : List ℕ) (a : CWritten) : Type 0 where
-  pub answer : a ≡ writtenAt (writtenAnswer w)
-  pub name : x ≡ nameAfter w n
-  pub file : y ≡ fileAfter w f
+-- what a call that writes leaves: its answer, and what the buffers of the name and of the file then hold
+pub record Left : Type 0 where
+  pub answer : CWritten
+  pub name : List ℕ
+  pub file : List ℕ
+
+-- of what is written, into buffers that held n and f
+abbrev pub leftOf : Writing → List ℕ → List ℕ → Left
+leftOf w n f = record { answer = writtenAt (writtenAnswer w); name = nameAfter w n; file = fileAfter w f }
+
+-- the answer a, and the buffers x and y, are what is left
+pub record Leaves (k : Left) (x y : List ℕ) (a : CWritten) : Type 0 where
+  pub answer : a ≡ k .answer
+  pub name : x ≡ k .name
+  pub file : y ≡ k .file

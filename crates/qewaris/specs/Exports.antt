@@ -19,7 +19,7 @@ use Rattle.writer.specs.Writing.{Writing, refuses, writing, writtenAnswer, Writ
 use Rattle.mover.specs.Moves.{moving}
 use Rattle.mover.specs.Demand.{Movable, Moved}
 use Rattle.mover.specs.Theorem as M
-use Rattle.boundary.specs.Answers.{readingAt, textAt, writtenAt, WritesAt}
+use Rattle.boundary.specs.Answers.{readingAt, textAt, writtenAt, leftOf, Leaves}
 use Rattle.boundary.specs.Records.{noServers, recordAt, recordAnswerAt, writingIn}
 use Rattle.boundary.specs.Settings.{iwdSettingsAt, serviceSettingsAt}
 use Rattle.boundary.specs.Laws.{writing-back}
@@ -128,7 +128,7 @@ module _ (r : Refusal) (l : ℕ) where
   refused-record = refl
 
   -- and both buffers are as they were
-  pub refused-written : (n f : List ℕ) {x y : List ℕ} {a : CWritten} → WritesAt (refuses r l) n f x y a → (a ≡ record { line = l; «name_len» = 0; «file_len» = 0; number = numberOf r; reserved = replicate 7 0 }) × (x ≡ n) × (y ≡ f)
+  pub refused-written : (n f : List ℕ) {x y : List ℕ} {a : CWritten} → Leaves (leftOf (refuses r l) n f) x y a → (a ≡ record { line = l; «name_len» = 0; «file_len» = 0; number = numberOf r; reserved = replicate 7 0 }) × (x ≡ n) × (y ≡ f)
   refused-written n f w = (w .answer, w .name, w .file)
 
 -- ---- demands 2 and 3: what is handed out as a record is written as that record, and the move is the library's
@@ -137,9 +137,9 @@ pub exported-record : (r : JoinRecord) (s : List (List ℕ)) → Arrays r s → 
 exported-record = writing-back
 
 -- the buffers of an exported writing or move are those of the library's, with its answer laid out
-pub exported-writes : {w : Writing} {n f x y : List ℕ} {a : CWritten} → WritesAt w n f x y a → Writes w n f x y (writtenAnswer w) × (a ≡ writtenAt (writtenAnswer w))
+pub exported-writes : {w : Writing} {n f x y : List ℕ} {a : CWritten} → Leaves (leftOf w n f) x y a → Writes w n f x y (writtenAnswer w) × (a ≡ writtenAt (writtenAnswer w))
 exported-writes h = (record { answer = refl; name = h .name; file = h .file }, h .answer)
 
 -- "the move answers 0, what it writes is accepted, and its join record equals the service's in every part"
-pub exported-demand-3 : (name file : List ℕ) (w : ℕ) (n f : List ℕ) → Movable name file w n f → {x y : List ℕ} {a : CWritten} → WritesAt (moving name file w n f) n f x y a → Moved name file w x y (writtenAnswer (moving name file w n f)) × (a ≡ writtenAt (writtenAnswer (moving name file w n f)))
+pub exported-demand-3 : (name file : List ℕ) (w : ℕ) (n f : List ℕ) → Movable name file w n f → {x y : List ℕ} {a : CWritten} → Leaves (leftOf (moving name file w n f) n f) x y a → Moved name file w x y (writtenAnswer (moving name file w n f)) × (a ≡ writtenAt (writtenAnswer (moving name file w n f)))
 exported-demand-3 name file w n f m h = (M.demand-3 m (exported-writes h .0), h .answer)
