@@ -1,5 +1,5 @@
--- What is handed out may be brought in again: the same record, with the same name servers; and what is brought in, with codes that
--- there are, is handed out as it was. And the lengths of a record that is answered fit a byte.
+-- What is handed out may be brought in again: the same record, with the same name servers; and what is brought in,
+-- with codes that there are, is handed out as it was. And the lengths of a record that is answered fit a byte.
 use Prim.Native.Nat.{ℕ, zero, suc, _+_, _<_, _≤_}
 use native.Mathlib.Omega.{arith}
 use mathlib.Core.Path.{_≡_, refl, ap, ap₂, sym, _∙_}

@@ -4,6 +4,9 @@ pub mod Faults
 pub mod Groups
 pub mod Reading
 pub mod Asking
+pub mod Places
+pub mod Table
+pub mod TableLaws
 pub mod Lookups
 pub mod Cases
 pub mod Refusals
