@@ -48,7 +48,8 @@ iwdRecord name file = recordAnswerAt (Joins.iwdRecord name file) (iwdRecordServe
 -- ---- of service w of a ConnMan file under its name
 
 abbrev pub serviceSettingsOf : List ℕ → List ℕ → ℕ → CServiceSettings
-serviceSettingsOf name file w = serviceSettingsAt (serviceAnswered name file w) (serviceServersAfter name file w noServers)
+serviceSettingsOf name file w =
+    serviceSettingsAt (serviceAnswered name file w) (serviceServersAfter name file w noServers)
 
 abbrev pub serviceName : List ℕ → List ℕ → ℕ → CText
 serviceName name file w = textAt (placeOf (serviceLookup w (word "Name") name file))
@@ -60,7 +61,8 @@ abbrev pub serviceDomain : List ℕ → List ℕ → ℕ → CText
 serviceDomain name file w = textAt (placeOf (serviceLookup w (word "Domain") name file))
 
 abbrev pub serviceRecord : List ℕ → List ℕ → ℕ → CRecordAnswer
-serviceRecord name file w = recordAnswerAt (Joins.serviceRecord name file w) (serviceRecordServers name file w noServers)
+serviceRecord name file w =
+    recordAnswerAt (Joins.serviceRecord name file w) (serviceRecordServers name file w noServers)
 
 -- ---- into a buffer that held n for the name, and one that held f for the file
 
