@@ -1,6 +1,7 @@
 pub mod Cases
 pub mod Calls
 pub mod Demands
+pub mod Telling
 pub mod Zeros
 pub mod Exports
 pub mod DemandsHold
