@@ -1,11 +1,14 @@
 -- The join record with its name servers in the C boundary's struct, and the record that a caller brings in one.
 use Prim.Native.Nat.{ℕ, _+_, _<_}
 use mathlib.Core.Path.{_≡_}
-use mathlib.Core.Bool.{Bool, cond, _&&_}
+use mathlib.Core.Bool.{Bool, true, cond, _&&_}
 use mathlib.Core.List.{List, [], _∷_, _++_}
 use lib.Dec.{leb}
-use lib.ListN.{getD, replicate}
-use Rattle.addresses.specs.Addresses.{noAddress}
+use lib.ListN.{length, getD, replicate}
+use Rattle.text.specs.Bytes.{between}
+use Rattle.text.specs.Parts.{all}
+use Rattle.hex.specs.Hex.{isByte}
+use Rattle.addresses.specs.Addresses.{noAddress, isAddress}
 use Rattle.rules.specs.Numbers.{answerNumber, answerLine}
 use Rattle.rules.specs.declared.Refusal.the-variants.{Malformed}
 use Rattle.records.specs.declared.JoinRecord.{JoinRecord}
@@ -62,9 +65,28 @@ pub record Short (r : JoinRecord) : Type 0 where
   pub domain : r .«domain_len» < 256
 
 abbrev pub recordAnswerAt : RecordAnswer → List (List ℕ) → CRecordAnswer
-recordAnswerAt a s = record { line = answerLine (a .answer); number = answerNumber (a .answer); «record» = recordAt (a .«record») s }
+recordAnswerAt a s =
+    record {
+      line = answerLine (a .answer);
+      number = answerNumber (a .answer);
+      «record» = recordAt (a .«record») s;
+      reserved = replicate 1 0;
+    }
 
 -- ---- what is brought in
+
+-- what the types say of the arrays of a record that is brought in: their lengths, and that they hold bytes
+pub record CArrays (c : CRecord) : Type 0 where
+  pub name : length (c .name) ≡ 32
+  pub nameBytes : all isByte (c .name) ≡ true
+  pub passphrase : length (c .passphrase) ≡ 63
+  pub key : length (c .key) ≡ 32
+  pub keyBytes : all isByte (c .key) ≡ true
+  pub address : isAddress (c .address) ≡ true
+  pub gateway : isAddress (c .gateway) ≡ true
+  pub servers : length (c .servers) ≡ 16
+  pub serverBytes : all (between 0 255) (c .servers) ≡ true
+  pub domain : length (c .domain) ≡ 253
 
 -- every code is that of a case
 abbrev pub known : CRecord → Bool

@@ -1,141 +1,321 @@
--- The demands at the C boundary: what the exported functions hand out of a refusal, and what they write and move.
-use Prim.Native.Nat.{ℕ}
-use mathlib.Core.Path.{_≡_, refl}
-use mathlib.Core.List.{List}
-use mathlib.Core.Option.{Option}
-use lib.ListN.{replicate}
-use Rattle.rules.specs.Numbers.{numberOf}
-use Rattle.rules.specs.Faults.{Entry, Section}
-use Rattle.rules.specs.declared.Refusal.{Refusal}
-use Rattle.rules.specs.declared.Answer.the-variants.{Refused}
-use Rattle.rules.specs.declared.Reading.the-variants as R
-use Rattle.settings.specs.Asked.{iwdAnswerOf, iwdServersOf, serviceAnswerOf, serviceServersOf}
-use Rattle.lookups.specs.Lookups.{lookupOf, placeOf}
-use Rattle.joins.specs.Joins as J
-use Rattle.joins.specs.Joins.{recordAnswer, serversAfter}
-use Rattle.records.specs.Formed.{Arrays}
-use Rattle.records.specs.declared.JoinRecord.{JoinRecord}
-use Rattle.writer.specs.Writing.{Writing, refuses, writing, writtenAnswer, Writes}
-use Rattle.mover.specs.Moves.{moving}
-use Rattle.mover.specs.Demand.{Movable, Moved}
-use Rattle.mover.specs.Theorem as M
-use Rattle.boundary.specs.Answers.{readingAt, textAt, writtenAt, WritesAt}
-use Rattle.boundary.specs.Records.{noServers, recordAt, recordAnswerAt, writingIn}
-use Rattle.boundary.specs.Settings.{iwdSettingsAt, serviceSettingsAt}
-use Rattle.boundary.specs.Laws.{writing-back}
+-- The demands of the exported functions, of their calls as `Calls` defines them. Here stand only definitions and the
+-- types of the theorems; `ExportsHold`, `SuccessHolds` and `PlacesHold` have the proofs.
+use Prim.Native.Nat.{ℕ, _+_, _≤_, _<_}
+use mathlib.Core.Path.{_≡_}
+use mathlib.Core.Bool.{true}
+use mathlib.Core.Logic.{_↔_}
+use mathlib.Core.List.{List, [], _∷_, _++_}
+use mathlib.Core.Option.{none}
+use lib.ListN.{length, take, drop, getD, replicate}
+use Rattle.text.specs.Parts.{part, lines}
+use Rattle.text.specs.Words.{word}
+use Rattle.text.specs.Options.{plain}
+use Rattle.text.specs.declared.Dialect.the-variants.{Iwd, ConnMan}
+use Rattle.kinds.specs.Kinds.{entries}
+use Rattle.rules.specs.AnswerRows.{Row, bare, placed, listed, ownRows}
+use Rattle.rules.specs.Acceptance.{Obeys}
+use Rattle.rules.specs.Asking.{readAs}
+use Rattle.lookups.specs.Lookups.{Lookup, iwdLookup, globalLookup, serviceLookup, valueIn}
+use Rattle.records.specs.Record.{joined}
+use Rattle.records.specs.Formed.{formed}
+use Rattle.written.specs.Written.{hasPlace, nameText, fileText}
+use Rattle.joins.specs.Joins.{noRecord, settingOf}
+use Rattle.mover.specs.Demand.{Service, Movable}
+use Rattle.boundary.specs.Answers.{Left}
+use Rattle.boundary.specs.Records.{CArrays, known, recordIn, serversIn}
+use Rattle.boundary.specs.declared.CReading.{CReading}
+use Rattle.boundary.specs.declared.CText.{CText}
 use Rattle.boundary.specs.declared.CWritten.{CWritten}
 use Rattle.boundary.specs.declared.CRecord.{CRecord}
+use Rattle.boundary.specs.declared.CRecordAnswer.{CRecordAnswer}
 use Rattle.boundary.specs.declared.CEntries.{CEntries}
 use Rattle.boundary.specs.declared.CIwdSettings.{CIwdSettings}
 use Rattle.boundary.specs.declared.CServiceSettings.{CServiceSettings}
+use Rattle.qewaris.specs.Calls
+use Rattle.qewaris.specs.Zeros.{zeroReading, zeroText, zeroIwd, zeroService, zeroAnswer, zeroWritten}
+use Rattle.qewaris.specs.Demands.{serviceRefusals, serviceRows, serviceRecordRows, writerRows, moveRows}
 
--- ---- demand 1: "A refusal gives its number and line, zeros for all else"
+-- ==== the calls, and the parts of an answer
 
--- a struct whose every byte is zero
-abbrev pub zeroC : CRecord
-zeroC =
-    record {
-      «name_len» = 0;
-      name = replicate 32 0;
-      credential = 0;
-      «passphrase_len» = 0;
-      passphrase = replicate 63 0;
-      key = replicate 32 0;
-      hidden = 0;
-      ipv4 = 0;
-      address = replicate 4 0;
-      «prefix_length» = 0;
-      «has_gateway» = 0;
-      gateway = replicate 4 0;
-      «server_count» = 0;
-      servers = replicate 16 0;
-      «domain_len» = 0;
-      domain = replicate 253 0;
-      ipv6 = 0;
-    }
+-- a call of an exported function with all that it is given, what the lent buffers hold included
+pub data Call : Type 0 where
+  check-iwd : List ℕ → List ℕ → Call
+  check-connman : List ℕ → List ℕ → Call
+  iwd-settings-of : List ℕ → List ℕ → Call
+  service-settings-of : List ℕ → List ℕ → ℕ → Call
+  iwd-passphrase : List ℕ → List ℕ → Call
+  iwd-domain-name : List ℕ → List ℕ → Call
+  global-name : List ℕ → List ℕ → Call
+  global-description : List ℕ → List ℕ → Call
+  service-name : List ℕ → List ℕ → ℕ → Call
+  service-passphrase : List ℕ → List ℕ → ℕ → Call
+  service-domain : List ℕ → List ℕ → ℕ → Call
+  iwd-record : List ℕ → List ℕ → Call
+  service-record : List ℕ → List ℕ → ℕ → Call
+  write-iwd : CRecord → List ℕ → List ℕ → Call
+  move-service : List ℕ → List ℕ → ℕ → List ℕ → List ℕ → Call
 
--- settings with number n and line l whose every other byte is zero
-abbrev pub zeroIwd : ℕ → ℕ → CIwdSettings
-zeroIwd n l =
-    record {
-      line = l;
-      number = n;
-      general = record { «auto_connect» = 0; hidden = 0; «always_randomize_address» = 0; «has_address_override» = 0; «address_override» = replicate 6 0 };
-      security = record { «passphrase_line» = 0; «has_pre_shared_key» = 0; «pre_shared_key» = replicate 32 0 };
-      ipv4 =
-          record {
-            «domain_name_line» = 0;
-            «dns_count» = 0;
-            dns = replicate 16 0;
-            «has_address» = 0;
-            address = replicate 4 0;
-            «has_gateway» = 0;
-            gateway = replicate 4 0;
-            «has_broadcast» = 0;
-            broadcast = replicate 4 0;
-            «netmask_length» = 0;
-            «send_hostname» = 0;
-          };
-      «ipv6_enabled» = 0;
-    }
+-- an answer is one of six structs
+pub data Answered : Type 0 where
+  reads : CReading → Answered
+  says : CText → Answered
+  iwd-settings : CIwdSettings → Answered
+  service-settings : CServiceSettings → Answered
+  joins : CRecordAnswer → Answered
+  wrote : CWritten → Answered
 
-abbrev zeroEntries : CEntries
-zeroEntries = record { count = 0; start = replicate 4 0; length = replicate 4 0 }
+abbrev pub answered : Call → Answered
+answered (check-iwd name file) = reads (Calls.checkIwd name file)
+answered (check-connman name file) = reads (Calls.checkConnman name file)
+answered (iwd-settings-of name file) = iwd-settings (Calls.iwdSettingsOf name file)
+answered (service-settings-of name file w) = service-settings (Calls.serviceSettingsOf name file w)
+answered (iwd-passphrase name file) = says (Calls.iwdPassphrase name file)
+answered (iwd-domain-name name file) = says (Calls.iwdDomainName name file)
+answered (global-name name file) = says (Calls.globalName name file)
+answered (global-description name file) = says (Calls.globalDescription name file)
+answered (service-name name file w) = says (Calls.serviceName name file w)
+answered (service-passphrase name file w) = says (Calls.servicePassphrase name file w)
+answered (service-domain name file w) = says (Calls.serviceDomain name file w)
+answered (iwd-record name file) = joins (Calls.iwdRecord name file)
+answered (service-record name file w) = joins (Calls.serviceRecord name file w)
+answered (write-iwd c n f) = wrote (Calls.writeIwd c n f .answer)
+answered (move-service name file w n f) = wrote (Calls.moveService name file w n f .answer)
 
-abbrev pub zeroService : ℕ → ℕ → CServiceSettings
-zeroService n l =
-    record {
-      line = l;
-      number = n;
-      network = record { «name_line» = 0; «passphrase_line» = 0; «ssid_len» = 0; ssid = replicate 32 0; «service_type» = 0; security = 0; hidden = 0 };
-      addresses =
-          record {
-            «domain_line» = 0;
-            «search_domains» = zeroEntries;
-            timeservers = zeroEntries;
-            «nameserver_count» = 0;
-            nameservers = replicate 16 0;
-            ipv4 = 0;
-            address = replicate 4 0;
-            «prefix_length» = 0;
-            «has_gateway» = 0;
-            gateway = replicate 4 0;
-            ipv6 = 0;
-            privacy = 0;
-            «has_mac» = 0;
-            mac = replicate 6 0;
-          };
-    }
+abbrev pub number : Answered → ℕ
+number (reads a) = a .number
+number (says a) = a .number
+number (iwd-settings a) = a .number
+number (service-settings a) = a .number
+number (joins a) = a .number
+number (wrote a) = a .number
 
-module _ (r : Refusal) (l : ℕ) where
-  pub refused-reading : readingAt (R.Refused r l) ≡ record { line = l; settings = 0; services = 0; number = numberOf r }
-  refused-reading = refl
+abbrev pub line : Answered → ℕ
+line (reads a) = a .line
+line (says a) = a .line
+line (iwd-settings a) = a .line
+line (service-settings a) = a .line
+line (joins a) = a .line
+line (wrote a) = a .line
 
-  pub refused-iwd-settings : (gs : List Section) → iwdSettingsAt (iwdAnswerOf (Refused r l) gs) (iwdServersOf (Refused r l) gs noServers) ≡ zeroIwd (numberOf r) l
-  refused-iwd-settings gs = refl
+-- the buffers that a call is lent, and what they hold after it
+abbrev pub lent : Call → List (List ℕ)
+lent (write-iwd c n f) = n ∷ f ∷ []
+lent (move-service name file w n f) = n ∷ f ∷ []
+lent (check-iwd name file) = []
+lent (check-connman name file) = []
+lent (iwd-settings-of name file) = []
+lent (service-settings-of name file w) = []
+lent (iwd-passphrase name file) = []
+lent (iwd-domain-name name file) = []
+lent (global-name name file) = []
+lent (global-description name file) = []
+lent (service-name name file w) = []
+lent (service-passphrase name file w) = []
+lent (service-domain name file w) = []
+lent (iwd-record name file) = []
+lent (service-record name file w) = []
 
-  pub refused-service-settings : (es : List Entry) → serviceSettingsAt (serviceAnswerOf (Refused r l) es) (serviceServersOf (Refused r l) es noServers) ≡ zeroService (numberOf r) l
-  refused-service-settings es = refl
+abbrev pub left : Call → List (List ℕ)
+left (write-iwd c n f) = Calls.writeIwd c n f .name ∷ Calls.writeIwd c n f .file ∷ []
+left (move-service name file w n f) =
+    Calls.moveService name file w n f .name ∷ Calls.moveService name file w n f .file ∷ []
+left (check-iwd name file) = []
+left (check-connman name file) = []
+left (iwd-settings-of name file) = []
+left (service-settings-of name file w) = []
+left (iwd-passphrase name file) = []
+left (iwd-domain-name name file) = []
+left (global-name name file) = []
+left (global-description name file) = []
+left (service-name name file w) = []
+left (service-passphrase name file w) = []
+left (service-domain name file w) = []
+left (iwd-record name file) = []
+left (service-record name file w) = []
 
-  pub refused-text : (o : Option Entry) → textAt (placeOf (lookupOf (Refused r l) o)) ≡ record { line = l; start = 0; length = 0; number = numberOf r }
-  refused-text o = refl
+-- ==== demand 1: "each entry point ends with an answer from document 01's table"
 
-  pub refused-record : recordAnswerAt (recordAnswer (J.refused r l)) (serversAfter (J.refused r l) noServers) ≡ record { line = l; number = numberOf r; «record» = zeroC }
-  refused-record = refl
+-- the rows that a function can answer with; of a string that is found the line is its setting's
+abbrev pub rows : Call → List Row
+rows (check-iwd name file) = bare 0 ∷ ownRows Iwd
+rows (check-connman name file) = bare 0 ∷ ownRows ConnMan
+rows (iwd-settings-of name file) = bare 0 ∷ ownRows Iwd
+rows (service-settings-of name file w) = serviceRows
+rows (iwd-passphrase name file) = placed 0 ∷ ownRows Iwd
+rows (iwd-domain-name name file) = placed 0 ∷ ownRows Iwd
+rows (global-name name file) = placed 0 ∷ ownRows ConnMan
+rows (global-description name file) = placed 0 ∷ ownRows ConnMan
+rows (service-name name file w) = placed 0 ∷ serviceRefusals
+rows (service-passphrase name file w) = placed 0 ∷ serviceRefusals
+rows (service-domain name file w) = placed 0 ∷ serviceRefusals
+rows (iwd-record name file) = bare 0 ∷ ownRows Iwd
+rows (service-record name file w) = serviceRecordRows
+rows (write-iwd c n f) = writerRows
+rows (move-service name file w n f) = moveRows
 
-  -- and both buffers are as they were
-  pub refused-written : (n f : List ℕ) {x y : List ℕ} {a : CWritten} → WritesAt (refuses r l) n f x y a → (a ≡ record { line = l; «name_len» = 0; «file_len» = 0; number = numberOf r }) × (x ≡ n) × (y ≡ f)
-  refused-written n f w = (w .answer, w .name, w .file)
+-- how many lines the file has that is handed in
+abbrev pub lineCount : Call → ℕ
+lineCount (check-iwd name file) = length (lines file)
+lineCount (check-connman name file) = length (lines file)
+lineCount (iwd-settings-of name file) = length (lines file)
+lineCount (service-settings-of name file w) = length (lines file)
+lineCount (iwd-passphrase name file) = length (lines file)
+lineCount (iwd-domain-name name file) = length (lines file)
+lineCount (global-name name file) = length (lines file)
+lineCount (global-description name file) = length (lines file)
+lineCount (service-name name file w) = length (lines file)
+lineCount (service-passphrase name file w) = length (lines file)
+lineCount (service-domain name file w) = length (lines file)
+lineCount (iwd-record name file) = length (lines file)
+lineCount (service-record name file w) = length (lines file)
+lineCount (write-iwd c n f) = 0
+lineCount (move-service name file w n f) = length (lines file)
 
--- ---- demands 2 and 3: what is handed out as a record is written as that record, and the move is the library's
+abbrev pub Exported-table : Type 0
+Exported-table = (c : Call) → listed (lineCount c) (rows c) (number (answered c)) (line (answered c)) ≡ true
 
-pub exported-record : (r : JoinRecord) (s : List (List ℕ)) → Arrays r s → (n f : List ℕ) → writingIn (recordAt r s) n f ≡ writing r s n f
-exported-record = writing-back
+-- a record that is brought in, whose codes are known, that is well formed and that iwd has a place for, and buffers
+-- with room
+pub record Writable (c : CRecord) (n f : List ℕ) : Type 0 where
+  pub codes : known c ≡ true
+  pub formed-is : formed (recordIn c) (serversIn c) ≡ true
+  pub placed : hasPlace (joined (recordIn c) (serversIn c) .ipv4) ≡ true
+  pub name-room : length (nameText (joined (recordIn c) (serversIn c))) ≤ length n
+  pub file-room : length (fileText (joined (recordIn c) (serversIn c))) ≤ length f
 
--- the buffers of an exported writing or move are those of the library's, with its answer laid out
-pub exported-writes : {w : Writing} {n f x y : List ℕ} {a : CWritten} → WritesAt w n f x y a → Writes w n f x y (writtenAnswer w) × (a ≡ writtenAt (writtenAnswer w))
-exported-writes h = (record { answer = refl; name = h .name; file = h .file }, h .answer)
+-- a service that has a join record
+pub record Joinable (name file : List ℕ) (w : ℕ) : Type 0 where
+  pub service : Service name file w
+  pub wireless : noRecord (settingOf w file) ≡ none
 
--- "the move answers 0, what it writes is accepted, and its join record equals the service's in every part"
-pub exported-demand-3 : (name file : List ℕ) (w : ℕ) (n f : List ℕ) → Movable name file w n f → {x y : List ℕ} {a : CWritten} → WritesAt (moving name file w n f) n f x y a → Moved name file w x y (writtenAnswer (moving name file w n f)) × (a ≡ writtenAt (writtenAnswer (moving name file w n f)))
-exported-demand-3 name file w n f m h = (M.demand-3 m (exported-writes h .0), h .answer)
+-- what a call asks for is there
+abbrev pub Success : Call → Type 0
+Success (check-iwd name file) = Obeys Iwd name file
+Success (check-connman name file) = Obeys ConnMan name file
+Success (iwd-settings-of name file) = Obeys Iwd name file
+Success (service-settings-of name file w) = Service name file w
+Success (iwd-passphrase name file) = Obeys Iwd name file
+Success (iwd-domain-name name file) = Obeys Iwd name file
+Success (global-name name file) = Obeys ConnMan name file
+Success (global-description name file) = Obeys ConnMan name file
+Success (service-name name file w) = Service name file w
+Success (service-passphrase name file w) = Service name file w
+Success (service-domain name file w) = Service name file w
+Success (iwd-record name file) = Obeys Iwd name file
+Success (service-record name file w) = Joinable name file w
+Success (write-iwd c n f) = Writable c n f
+Success (move-service name file w n f) = Movable name file w n f
+
+-- 0 is given exactly then
+abbrev pub Exported-success : Type 0
+Exported-success = (c : Call) → Success c ↔ (number (answered c) ≡ 0)
+
+-- ---- "A refusal gives its number and line, zeros for all else, and changes no byte of any lent buffer"
+
+-- the same number and line, and zero in every other byte
+abbrev pub zeroed : Answered → Answered
+zeroed (reads a) = reads (zeroReading (a .number) (a .line))
+zeroed (says a) = says (zeroText (a .number) (a .line))
+zeroed (iwd-settings a) = iwd-settings (zeroIwd (a .number) (a .line))
+zeroed (service-settings a) = service-settings (zeroService (a .number) (a .line))
+zeroed (joins a) = joins (zeroAnswer (a .number) (a .line))
+zeroed (wrote a) = wrote (zeroWritten (a .number) (a .line))
+
+pub record Unchanged (c : Call) : Type 0 where
+  pub zeros : answered c ≡ zeroed (answered c)
+  pub buffers : left c ≡ lent c
+
+abbrev pub Exported-refusal : Type 0
+Exported-refusal = (c : Call) → 0 < number (answered c) → Unchanged c
+
+-- ==== "handed back as the stretch of the lent file where it stands"
+
+-- the place that is answered lies in the file, and the value of the setting stands there
+pub record Stands (file : List ℕ) (k : Lookup) (t : CText) : Type 0 where
+  pub within : t .start + t .length ≤ length file
+  pub value : part (t .start) (t .start + t .length) file ≡ valueIn (k .setting)
+
+pub record Strings (name file : List ℕ) (w : ℕ) : Type 0 where
+  pub iwd-passphrase :
+      Stands file (iwdLookup (word "Security") (word "Passphrase") name file) (Calls.iwdPassphrase name file)
+  pub iwd-domain-name :
+      Stands file (iwdLookup (word "IPv4") (word "DomainName") name file) (Calls.iwdDomainName name file)
+  pub global-name : Stands file (globalLookup (word "Name") name file) (Calls.globalName name file)
+  pub global-description :
+      Stands file (globalLookup (word "Description") name file) (Calls.globalDescription name file)
+  pub service-name : Stands file (serviceLookup w (word "Name") name file) (Calls.serviceName name file w)
+  pub service-passphrase :
+      Stands file (serviceLookup w (word "Passphrase") name file) (Calls.servicePassphrase name file w)
+  pub service-domain : Stands file (serviceLookup w (word "Domain") name file) (Calls.serviceDomain name file w)
+
+abbrev pub Exported-strings : Type 0
+Exported-strings = (name file : List ℕ) (w : ℕ) → Strings name file w
+
+-- entry i of a list lies in the file, and stands there
+pub record EntryAt (file : List ℕ) (es : List (List ℕ)) (c : CEntries) (i : ℕ) : Type 0 where
+  pub within : getD (c .start) i 0 + getD (c .length) i 0 ≤ length file
+  pub value : part (getD (c .start) i 0) (getD (c .start) i 0 + getD (c .length) i 0) file ≡ getD es i []
+
+pub record ListStands (file : List ℕ) (es : List (List ℕ)) (c : CEntries) : Type 0 where
+  pub count : c .count ≡ length es
+  pub each : (i : ℕ) → i < length es → EntryAt file es c i
+
+-- the entries of a list of service w
+abbrev pub entriesOf : List ℕ → ℕ → List ℕ → List (List ℕ)
+entriesOf file w key = plain (readAs entries (settingOf w file key))
+
+pub record Lists (file : List ℕ) (w : ℕ) (a : CServiceSettings) : Type 0 where
+  pub search-domains : ListStands file (entriesOf file w (word "SearchDomains")) (a .addresses .«search_domains»)
+  pub timeservers : ListStands file (entriesOf file w (word "Timeservers")) (a .addresses .timeservers)
+
+abbrev pub Exported-lists : Type 0
+Exported-lists =
+    (name file : List ℕ) (w : ℕ)
+    → Calls.serviceSettingsOf name file w .number ≡ 0
+    → Lists file w (Calls.serviceSettingsOf name file w)
+
+-- ==== demands 2 and 3, of what is left in the buffers
+
+-- the new bytes of each, "as many as the answer counts"
+abbrev pub newName : Left → List ℕ
+newName k = take (k .answer .«name_len») (k .name)
+
+abbrev pub newFile : Left → List ℕ
+newFile k = take (k .answer .«file_len») (k .file)
+
+-- "the new bytes first and its old bytes after them": of buffers that held n and f
+pub record OldBehind (k : Left) (n f : List ℕ) : Type 0 where
+  pub name : drop (k .answer .«name_len») (k .name) ≡ drop (k .answer .«name_len») n
+  pub file : drop (k .answer .«file_len») (k .file) ≡ drop (k .answer .«file_len») f
+
+-- "A well-formed record that iwd has a place for, written with room, reads back as itself.": the record c that is
+-- brought in, byte for byte; `CArrays` is what the types say of its arrays
+pub record ReadsBack (c : CRecord) (n f : List ℕ) (k : Left) : Type 0 where
+  pub back :
+      Calls.iwdRecord (newName k) (newFile k) ≡ record { line = 0; number = 0; «record» = c; reserved = replicate 1 0 }
+  pub behind : OldBehind k n f
+
+abbrev pub Exported-write : Type 0
+Exported-write =
+    (c : CRecord) (n f : List ℕ)
+    → CArrays c
+    → Calls.writeIwd c n f .answer .number ≡ 0
+    → ReadsBack c n f (Calls.writeIwd c n f)
+
+-- "what it writes is accepted, and its join record equals the service's in every part": the two answers are one, byte
+-- for byte. "No service that needs a key becomes one that needs none."
+pub record MovesOver (name file : List ℕ) (w : ℕ) (n f : List ℕ) (k : Left) : Type 0 where
+  pub accepted : Calls.checkIwd (newName k) (newFile k) .number ≡ 0
+  pub joined : Calls.serviceRecord name file w .number ≡ 0
+  pub same : Calls.iwdRecord (newName k) (newFile k) ≡ Calls.serviceRecord name file w
+  pub key :
+      0 < Calls.serviceRecord name file w .«record» .credential
+      → 0 < Calls.iwdRecord (newName k) (newFile k) .«record» .credential
+  pub behind : OldBehind k n f
+
+-- that the move answers 0 for a movable service is `Exported-success`
+abbrev pub Exported-move : Type 0
+Exported-move =
+    (name file : List ℕ) (w : ℕ) (n f : List ℕ)
+    → Calls.moveService name file w n f .answer .number ≡ 0
+    → MovesOver name file w n f (Calls.moveService name file w n f)

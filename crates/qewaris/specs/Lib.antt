@@ -1,3 +1,11 @@
 pub mod Cases
+pub mod Calls
 pub mod Demands
+pub mod Telling
+pub mod Zeros
 pub mod Exports
+pub mod DemandsHold
+pub mod TableHolds
+pub mod ExportsHold
+pub mod SuccessHolds
+pub mod PlacesHold

@@ -3,15 +3,8 @@
 // They only translate: each calls the entry point of its name and lays out what it answers. `include/qewaris.h` declares them
 // for C. None has a `requires`; a record that is brought in with a code that there is not is refused with 19.
 ghost use mathlib.Core.Path.{_≡_};
-ghost use Rattle.text.specs.Words.{word};
-ghost use Rattle.rules.specs.Reading.{reading};
-ghost use Rattle.settings.specs.Asked.{iwdAnswered, iwdServersAfter, serviceAnswered, serviceServersAfter};
-ghost use Rattle.lookups.specs.Lookups.{iwdLookup, globalLookup, serviceLookup, placeOf};
-ghost use Rattle.joins.specs.Joins.{iwdRecord, iwdRecordServers, serviceRecord, serviceRecordServers};
-ghost use Rattle.mover.specs.Moves.{moving};
-ghost use Rattle.boundary.specs.Answers.{readingAt, textAt, WritesAt};
-ghost use Rattle.boundary.specs.Records.{recordAnswerAt, writingIn, noServers};
-ghost use Rattle.boundary.specs.Settings.{iwdSettingsAt, serviceSettingsAt};
+ghost use Rattle.boundary.specs.Answers.{Leaves};
+ghost use Rattle.qewaris.specs.Calls.{checkIwd, checkConnman, iwdSettingsOf, serviceSettingsOf, iwdPassphrase, iwdDomainName, globalName, globalDescription, serviceName, servicePassphrase, serviceDomain, iwdRecord, serviceRecord, writeIwd, moveService};
 use boundary::CIwdSettings;
 use boundary::CReading;
 use boundary::CRecord;
@@ -28,21 +21,21 @@ use text::Dialect;
 
 #[no_mangle]
 pub extern "C" fn qewaris_check_iwd(name: &[u8], file: &[u8]) -> CReading
-    ensures { λ r. ⌜ r ≡ readingAt (reading Dialect.Iwd (now (name .entry)) (now (file .entry))) ⌝ }
+    ensures { λ r. ⌜ r ≡ checkIwd (now (name .entry)) (now (file .entry)) ⌝ }
 {
     answers::reading_at(crate::check(Dialect::Iwd, name, file))
 }
 
 #[no_mangle]
 pub extern "C" fn qewaris_check_connman(name: &[u8], file: &[u8]) -> CReading
-    ensures { λ r. ⌜ r ≡ readingAt (reading Dialect.ConnMan (now (name .entry)) (now (file .entry))) ⌝ }
+    ensures { λ r. ⌜ r ≡ checkConnman (now (name .entry)) (now (file .entry)) ⌝ }
 {
     answers::reading_at(crate::check(Dialect::ConnMan, name, file))
 }
 
 #[no_mangle]
 pub extern "C" fn qewaris_iwd_settings_of(name: &[u8], file: &[u8]) -> CIwdSettings
-    ensures { λ r. ⌜ r ≡ iwdSettingsAt (iwdAnswered (now (name .entry)) (now (file .entry))) (iwdServersAfter (now (name .entry)) (now (file .entry)) noServers) ⌝ }
+    ensures { λ r. ⌜ r ≡ iwdSettingsOf (now (name .entry)) (now (file .entry)) ⌝ }
 {
     let mut servers = [[0; 4]; 4];
     let answer = crate::typed::iwd_settings(name, file, &mut servers);
@@ -55,7 +48,7 @@ pub extern "C" fn qewaris_service_settings_of(
     file: &[u8],
     service: usize,
 ) -> CServiceSettings
-    ensures { λ r. ⌜ r ≡ serviceSettingsAt (serviceAnswered (now (name .entry)) (now (file .entry)) service) (serviceServersAfter (now (name .entry)) (now (file .entry)) service noServers) ⌝ }
+    ensures { λ r. ⌜ r ≡ serviceSettingsOf (now (name .entry)) (now (file .entry)) service ⌝ }
 {
     let mut servers = [[0; 4]; 4];
     let answer = crate::typed::service_settings(name, file, service, &mut servers);
@@ -64,56 +57,56 @@ pub extern "C" fn qewaris_service_settings_of(
 
 #[no_mangle]
 pub extern "C" fn qewaris_iwd_passphrase(name: &[u8], file: &[u8]) -> CText
-    ensures { λ r. ⌜ r ≡ textAt (placeOf (iwdLookup (word "Security") (word "Passphrase") (now (name .entry)) (now (file .entry)))) ⌝ }
+    ensures { λ r. ⌜ r ≡ iwdPassphrase (now (name .entry)) (now (file .entry)) ⌝ }
 {
     answers::text_at(places::iwd_passphrase(name, file))
 }
 
 #[no_mangle]
 pub extern "C" fn qewaris_iwd_domain_name(name: &[u8], file: &[u8]) -> CText
-    ensures { λ r. ⌜ r ≡ textAt (placeOf (iwdLookup (word "IPv4") (word "DomainName") (now (name .entry)) (now (file .entry)))) ⌝ }
+    ensures { λ r. ⌜ r ≡ iwdDomainName (now (name .entry)) (now (file .entry)) ⌝ }
 {
     answers::text_at(places::iwd_domain_name(name, file))
 }
 
 #[no_mangle]
 pub extern "C" fn qewaris_global_name(name: &[u8], file: &[u8]) -> CText
-    ensures { λ r. ⌜ r ≡ textAt (placeOf (globalLookup (word "Name") (now (name .entry)) (now (file .entry)))) ⌝ }
+    ensures { λ r. ⌜ r ≡ globalName (now (name .entry)) (now (file .entry)) ⌝ }
 {
     answers::text_at(places::global_name(name, file))
 }
 
 #[no_mangle]
 pub extern "C" fn qewaris_global_description(name: &[u8], file: &[u8]) -> CText
-    ensures { λ r. ⌜ r ≡ textAt (placeOf (globalLookup (word "Description") (now (name .entry)) (now (file .entry)))) ⌝ }
+    ensures { λ r. ⌜ r ≡ globalDescription (now (name .entry)) (now (file .entry)) ⌝ }
 {
     answers::text_at(places::global_description(name, file))
 }
 
 #[no_mangle]
 pub extern "C" fn qewaris_service_name(name: &[u8], file: &[u8], service: usize) -> CText
-    ensures { λ r. ⌜ r ≡ textAt (placeOf (serviceLookup service (word "Name") (now (name .entry)) (now (file .entry)))) ⌝ }
+    ensures { λ r. ⌜ r ≡ serviceName (now (name .entry)) (now (file .entry)) service ⌝ }
 {
     answers::text_at(places::service_name(name, file, service))
 }
 
 #[no_mangle]
 pub extern "C" fn qewaris_service_passphrase(name: &[u8], file: &[u8], service: usize) -> CText
-    ensures { λ r. ⌜ r ≡ textAt (placeOf (serviceLookup service (word "Passphrase") (now (name .entry)) (now (file .entry)))) ⌝ }
+    ensures { λ r. ⌜ r ≡ servicePassphrase (now (name .entry)) (now (file .entry)) service ⌝ }
 {
     answers::text_at(places::service_passphrase(name, file, service))
 }
 
 #[no_mangle]
 pub extern "C" fn qewaris_service_domain(name: &[u8], file: &[u8], service: usize) -> CText
-    ensures { λ r. ⌜ r ≡ textAt (placeOf (serviceLookup service (word "Domain") (now (name .entry)) (now (file .entry)))) ⌝ }
+    ensures { λ r. ⌜ r ≡ serviceDomain (now (name .entry)) (now (file .entry)) service ⌝ }
 {
     answers::text_at(places::service_domain(name, file, service))
 }
 
 #[no_mangle]
 pub extern "C" fn qewaris_iwd_record(name: &[u8], file: &[u8]) -> CRecordAnswer
-    ensures { λ r. ⌜ r ≡ recordAnswerAt (iwdRecord (now (name .entry)) (now (file .entry))) (iwdRecordServers (now (name .entry)) (now (file .entry)) noServers) ⌝ }
+    ensures { λ r. ⌜ r ≡ iwdRecord (now (name .entry)) (now (file .entry)) ⌝ }
 {
     let mut servers = [[0; 4]; 4];
     let answer = crate::joined::iwd_record(name, file, &mut servers);
@@ -122,7 +115,7 @@ pub extern "C" fn qewaris_iwd_record(name: &[u8], file: &[u8]) -> CRecordAnswer
 
 #[no_mangle]
 pub extern "C" fn qewaris_service_record(name: &[u8], file: &[u8], service: usize) -> CRecordAnswer
-    ensures { λ r. ⌜ r ≡ recordAnswerAt (serviceRecord (now (name .entry)) (now (file .entry)) service) (serviceRecordServers (now (name .entry)) (now (file .entry)) service noServers) ⌝ }
+    ensures { λ r. ⌜ r ≡ serviceRecord (now (name .entry)) (now (file .entry)) service ⌝ }
 {
     let mut servers = [[0; 4]; 4];
     let answer = crate::joined::service_record(name, file, service, &mut servers);
@@ -135,7 +128,7 @@ pub extern "C" fn qewaris_write_iwd(
     name_out: &mut [u8],
     file_out: &mut [u8],
 ) -> CWritten
-    ensures { λ a. ⌜ WritesAt (writingIn brought (now («name_out» .entry)) (now («file_out» .entry))) (now («name_out» .entry)) (now («file_out» .entry)) (now («name_out» .exit)) (now («file_out» .exit)) a ⌝ }
+    ensures { λ a. ⌜ Leaves (writeIwd brought (now («name_out» .entry)) (now («file_out» .entry))) (now («name_out» .exit)) (now («file_out» .exit)) a ⌝ }
 {
     if !record_layout::is_known(brought) {
         return answers::written_at(writer::refused(Refusal::Malformed, 0));
@@ -154,7 +147,7 @@ pub extern "C" fn qewaris_move_service(
     name_out: &mut [u8],
     file_out: &mut [u8],
 ) -> CWritten
-    ensures { λ a. ⌜ WritesAt (moving (now (name .entry)) (now (file .entry)) service (now («name_out» .entry)) (now («file_out» .entry))) (now («name_out» .entry)) (now («file_out» .entry)) (now («name_out» .exit)) (now («file_out» .exit)) a ⌝ }
+    ensures { λ a. ⌜ Leaves (moveService (now (name .entry)) (now (file .entry)) service (now («name_out» .entry)) (now («file_out» .entry))) (now («name_out» .exit)) (now («file_out» .exit)) a ⌝ }
 {
     answers::written_at(crate::files::move_service(name, file, service, name_out, file_out))
 }

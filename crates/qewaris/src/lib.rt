@@ -11,8 +11,8 @@ pub mod strings;
 pub mod typed;
 
 ghost use mathlib.Core.Path.{_≡_};
-ghost use Rattle.rules.specs.Reading.{reading};
 ghost use Rattle.records.specs.Formed.{formed};
+ghost use Rattle.qewaris.specs.Telling.{Checks};
 use records::JoinRecord;
 use rules::Reading;
 use text::Dialect;
@@ -20,7 +20,7 @@ use text::Dialect;
 // Reads a file of a dialect under its name. Accepted gives the number of settings and of services, refused the first fault
 // and its line; `rules` `Numbers.seenOf` gives document 01's numbers for both.
 pub fn check(d: Dialect, name: &[u8], file: &[u8]) -> Reading
-    ensures { λ r. ⌜ r ≡ reading d (now (name .entry)) (now (file .entry)) ⌝ }
+    ensures { λ r. ⌜ Checks d (now (name .entry)) (now (file .entry)) r ⌝ }
 {
     let mut places = [0; 384];
     pass::read(d, name, file, &mut places, 0)

@@ -99,7 +99,7 @@ accepted-good d name file e = good-reverse d (grown d 1 0 [] (lines file)) (grow
 
 -- ---- no group of an iwd file is a service
 
-iwd-plain : (n : List ℕ) (g : Group) → groupOf Iwd n ≡ some g → serves g ≡ false
+pub iwd-plain : (n : List ℕ) (g : Group) → groupOf Iwd n ≡ some g → serves g ≡ false
 unfolding groupOf
 iwd-plain n g e = go (same n (word "Settings")) (same n (word "Security")) (same n (word "IPv4")) (same n (word "IPv6")) e
   where

@@ -20,6 +20,9 @@ pub mod ReadingVerdicts
 pub mod Exactly
 pub mod Asking
 pub mod ListedValues
+pub mod Places
+pub mod AnswerRows
+pub mod AnswerRowLaws
 pub mod Lookups
 pub mod Cases
 pub mod Refusals

@@ -10,4 +10,4 @@ check-name-spec =
     (tie.spec
     (λ c κs. search needs)
     (λ c κs. search needs)
-    (λ c. rw (sym (c .before .dialect-of .ensures)) (c .check .ensures)))
+    (λ c. rw (sym (c .before .dialect-of .ensures)) (c .check .ensures .is)))

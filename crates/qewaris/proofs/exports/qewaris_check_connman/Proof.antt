@@ -9,4 +9,4 @@ qewaris-check-connman-spec =
     (tie.spec
     (λ c κs. search needs)
     (λ c κs. search needs)
-    (λ c. rw (c .reading-at .ensures, c .before .check .ensures)))
+    (λ c. rw (c .reading-at .ensures, c .before .check .ensures .is)))

@@ -10,4 +10,4 @@ qewaris-iwd-record-spec =
     (tie.spec
     (λ c κs. search needs)
     (λ c κs. rw (c .iwd-record .ensures .0) (iwd-short (c .before .before .before .before .args .name .now) (c .before .before .before .before .args .file .now)))
-    (λ c. rw (c .record-answer-at .ensures, c .before .iwd-record .ensures .0, c .before .iwd-record .ensures .1)))
+    (λ c. rw (c .record-answer-at .ensures, c .before .iwd-record .ensures .0, c .before .iwd-record .ensures .1 .0)))

@@ -9,4 +9,4 @@ qewaris-iwd-settings-of-spec =
     (tie.spec
     (λ c κs. search needs)
     (λ c κs. search needs)
-    (λ c. rw (c .iwd-settings-at .ensures, c .before .iwd-settings .ensures .0, c .before .iwd-settings .ensures .1)))
+    (λ c. rw (c .iwd-settings-at .ensures, c .before .iwd-settings .ensures .0, c .before .iwd-settings .ensures .1 .0)))

@@ -12,4 +12,4 @@ qewaris-move-service-spec =
     (λ c κs. search needs)
     (λ c. search needs)
     (λ c. search needs)
-    (λ c. writes-at (c .before .before .before .before .before .move-service .ensures .is) (c .written-at .ensures)))
+    (λ c. writes-at (c .before .before .before .before .before .move-service .ensures .0 .is) (c .written-at .ensures)))

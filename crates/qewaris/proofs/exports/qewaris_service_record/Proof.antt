@@ -10,4 +10,4 @@ qewaris-service-record-spec =
     (tie.spec
     (λ c κs. search needs)
     (λ c κs. rw (c .service-record .ensures .0) (service-short (c .before .before .before .before .args .name .now) (c .before .before .before .before .args .file .now) (c .before .before .before .before .args .service)))
-    (λ c. rw (c .record-answer-at .ensures, c .before .service-record .ensures .0, c .before .service-record .ensures .1)))
+    (λ c. rw (c .record-answer-at .ensures, c .before .service-record .ensures .0, c .before .service-record .ensures .1 .0)))

@@ -9,4 +9,4 @@ qewaris-service-settings-of-spec =
     (tie.spec
     (λ c κs. search needs)
     (λ c κs. search needs)
-    (λ c. rw (c .service-settings-at .ensures, c .before .service-settings .ensures .0, c .before .service-settings .ensures .1)))
+    (λ c. rw (c .service-settings-at .ensures, c .before .service-settings .ensures .0, c .before .service-settings .ensures .1 .0)))

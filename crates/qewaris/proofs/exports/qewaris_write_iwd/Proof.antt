@@ -18,4 +18,4 @@ qewaris-write-iwd-spec =
     (λ c κs. search needs)
     (λ c. search needs)
     (λ c. search needs)
-    (λ c. known-at (c .before .before .before .before .before .before .before .before .before .before .before .before .before .before .before .args .brought) (c .before .before .before .before .before .before .before .before .before .before .before .before .before .before .before .args .name-out .now) (c .before .before .before .before .before .before .before .before .before .before .before .before .before .before .before .args .file-out .now) (c .before .before .before .before .before .before .before .before .before .before .before .before .is-known .ensures) (c .before .before .before .before .before .before .before .before .before .before .before .if1 .left) (c .before .before .before .before .before .before .before .before .record-in .ensures) (c .before .before .before .before .before .before .before .before .before .fours .ensures) (c .before .before .before .before .before .write-iwd .ensures) (c .written-at2 .ensures)))
+    (λ c. known-at (c .before .before .before .before .before .before .before .before .before .before .before .before .before .before .before .args .brought) (c .before .before .before .before .before .before .before .before .before .before .before .before .before .before .before .args .name-out .now) (c .before .before .before .before .before .before .before .before .before .before .before .before .before .before .before .args .file-out .now) (c .before .before .before .before .before .before .before .before .before .before .before .before .is-known .ensures) (c .before .before .before .before .before .before .before .before .before .before .before .if1 .left) (c .before .before .before .before .before .before .before .before .record-in .ensures) (c .before .before .before .before .before .before .before .before .before .fours .ensures) (c .before .before .before .before .before .write-iwd .ensures .0) (c .written-at2 .ensures)))

@@ -1,0 +1,17 @@
+-- An answer that is the definition's has the definition's number, line and counts.
+use Prim.Native.Nat.{ℕ}
+use mathlib.Core.Path.{_≡_, ap}
+use mathlib.Core.List.{List}
+use Rattle.text.specs.declared.Dialect.{Dialect}
+use Rattle.rules.specs.Numbers.{seenOf, answerNumber, answerLine}
+use Rattle.rules.specs.Reading.{reading}
+use Rattle.rules.specs.declared.Answer.{Answer}
+use Rattle.rules.specs.declared.Reading.{Reading}
+use Rattle.qewaris.specs.Demands.{Call, answerOf}
+use Rattle.qewaris.specs.Telling.{Checks, Tells}
+
+pub checks : (d : Dialect) (name file : List ℕ) {r : Reading} → r ≡ reading d name file → Checks d name file r
+checks d name file e = record { is = e; seen = ap seenOf e }
+
+pub tells : (c : Call) {a : Answer} → a ≡ answerOf c → Tells c a
+tells c e = record { number = ap answerNumber e; line = ap answerLine e }

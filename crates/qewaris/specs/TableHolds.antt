@@ -1,0 +1,223 @@
+-- Every answer of an entry point has a number and a line of its rows of document 01's table.
+use Prim.Native.Nat.{ℕ}
+use native.Mathlib.Omega.{arith}
+use mathlib.Core.Path.{_≡_, refl}
+use mathlib.Core.Bool.{Bool, true, false, cond, not, _&&_, _||_}
+use mathlib.Core.List.{List, [], _∷_, _++_}
+use mathlib.Core.Option.{Option, none, some}
+use lib.Dec.{leb}
+use lib.ListN.{length}
+use Rattle.text.specs.Bytes.{between}
+use Rattle.text.specs.Parts.{lines}
+use Rattle.text.specs.Words.{word}
+use Rattle.text.specs.Options.{only, orElse, isSome}
+use Rattle.text.specs.OptionLaws.{Holds}
+use Rattle.text.specs.Relations.{Each}
+use Rattle.text.specs.RelationLaws.{each-append}
+use Rattle.text.specs.declared.Dialect.{Dialect}
+use Rattle.text.specs.declared.Dialect.the-variants.{Iwd, ConnMan}
+use Rattle.kinds.specs.Kinds.{ipv4, wordOf}
+use Rattle.kinds.specs.declared.Word.the-variants as W
+use Rattle.kinds.specs.declared.WordList.the-variants as L
+use Rattle.rules.specs.Faults.{Entry, Section}
+use Rattle.rules.specs.Groups.{isWord}
+use Rattle.rules.specs.Numbers.{numberOf, answerNumber, answerLine}
+use Rattle.rules.specs.Reading.{sectionsOf, reading}
+use Rattle.rules.specs.Asking.{iwdEntry, serviceAt, readAs, lineIn, asked, askedOf}
+use Rattle.rules.specs.Places.{isLine, EntryStands, service-stands}
+use Rattle.rules.specs.AnswerRows.{Row, bare, lined, fits, listed, ownRows}
+use Rattle.rules.specs.AnswerRowLaws.{listed-more, reading-listed}
+use Rattle.rules.specs.declared.Answer.{Answer}
+use Rattle.rules.specs.declared.Answer.the-variants.{Good, Refused}
+use Rattle.rules.specs.declared.Reading.{Reading}
+use Rattle.rules.specs.declared.Reading.the-variants as R
+use Rattle.rules.specs.declared.Refusal.{Refusal}
+use Rattle.rules.specs.declared.Refusal.the-variants.{NoPlace, NoService, ShortBuffer, Malformed}
+use Rattle.settings.specs.Asked.{iwdAnswerOf, serviceAnswerOf}
+use Rattle.lookups.specs.Lookups.{lookupOf}
+use Rattle.records.specs.Record.{Join, joined}
+use Rattle.records.specs.Formed.{formed}
+use Rattle.records.specs.declared.JoinRecord.{JoinRecord}
+use Rattle.written.specs.Written.{hasPlace, nameText, fileText}
+use Rattle.writer.specs.Writing.{Writing, writes, refuses, room, writing, writingOf, writtenAnswer}
+use Rattle.joins.specs.Joins as J
+use Rattle.rules.specs.Tables.{keysOf}
+use Rattle.joins.specs.Joins.{ipv4OrDhcp, iwdJoin, networkName, foreign, foreignSecurity, noRecord, serviceJoin, settingOf, recordAnswer, iwdRecord, serviceRecord, wired, orNoPlace}
+use Rattle.names.specs.Names.{networkOf}
+use Rattle.mover.specs.Moves.{lineIf, lineGiven, unplaced, least, earliest, orUnplaced, orRefused, moving}
+use Rattle.qewaris.specs.Demands as D
+use Rattle.qewaris.specs.Demands.{Call, answerOf, serviceRows, serviceRecordRows, writerRows, moveRows, rowsOf, linesOf, Demand-1-table}
+
+-- ---- an answer and its rows
+
+-- the number and the line of an answer are those of a row
+abbrev pub Given : ℕ → List Row → Answer → Type 0
+Given k rs a = listed k rs (answerNumber a) (answerLine a) ≡ true
+
+either-true : (a b : Bool) → b ≡ true → a || b ≡ true
+either-true true b e = refl
+either-true false b e = e
+
+-- good, or refused with a row of rs
+answer-given : (k : ℕ) (rs : List Row) (a : Answer) → ((r : Refusal) (l : ℕ) → a ≡ Refused r l → listed k rs (numberOf r) l ≡ true) → Given k (bare 0 ∷ rs) a
+answer-given k rs Good h = refl
+answer-given k rs (Refused r l) h = either-true (fits k (numberOf r) l (bare 0)) (listed k rs (numberOf r) l) (h r l refl)
+
+-- ---- a file
+
+asked-refused : (x : Reading) {r : Refusal} {l : ℕ} → asked x ≡ Refused r l → x ≡ R.Refused r l
+asked-refused (R.Accepted n m) e = let z : _≡_ {A = ℕ} 0 1 = cc in absurd (omega arith)
+asked-refused (R.Refused q m) {r} {l} e = let a : q ≡ r = cc in let b : m ≡ l = cc in rw (a, b)
+
+pub asked-given : (d : Dialect) (name file : List ℕ) → Given (length (lines file)) (bare 0 ∷ ownRows d) (asked (reading d name file))
+asked-given d name file = answer-given (length (lines file)) (ownRows d) (asked (reading d name file)) (λ r l e. reading-listed d name file (asked-refused (reading d name file) e))
+
+-- ---- a service of it
+
+pub asked-service-given : (name file : List ℕ) (w : ℕ) → Given (length (lines file)) serviceRows (askedOf w (reading ConnMan name file))
+asked-service-given name file w = go (reading ConnMan name file) (asked-given ConnMan name file)
+  where
+    count : (b : Bool) → Given (length (lines file)) serviceRows (cond b Good (Refused NoService 0))
+    count true = refl
+    count false = refl
+
+    go : (x : Reading) → Given (length (lines file)) (bare 0 ∷ ownRows ConnMan) (asked x) → Given (length (lines file)) serviceRows (askedOf w x)
+    go (R.Accepted n m) h = count (between 1 m w)
+    go (R.Refused r l) h = listed-more (length (lines file)) (bare 0 ∷ ownRows ConnMan) (bare 18 ∷ []) (numberOf r) l h
+
+module _ (file : List ℕ) where
+  -- a line of the file, by its number
+  abbrev OnLine : ℕ → Type 0
+  OnLine l = isLine file l ≡ true
+
+  -- a setting's line, where what it holds is such that an absent one does not hold it
+  line-only : (b : Option Entry → Bool) → b none ≡ false → (o : Option Entry) → Holds (EntryStands file) o → Holds OnLine (only (b o) (some (lineIn o)))
+  line-only b q none h = rw q tt
+  line-only b q (some e) h = go (b (some e))
+    where
+      go : (t : Bool) → Holds OnLine (only t (some (e .line)))
+      go true = h .line
+      go false = tt
+
+  line-if : (b : Option Entry → Bool) → b none ≡ false → (o : Option Entry) → Holds (EntryStands file) o → Each OnLine (lineIf (b o) o)
+  line-if b q none h = rw q tt
+  line-if b q (some e) h = go (b (some e))
+    where
+      go : (t : Bool) → Each OnLine (lineIf t (some e))
+      go true = (h .line, tt)
+      go false = tt
+
+  either-line : (a b : Option ℕ) → Holds OnLine a → Holds OnLine b → Holds OnLine (orElse a b)
+  either-line none b p q = q
+  either-line (some l) b p q = p
+
+  earliest-line : (ls : List ℕ) → Each OnLine ls → Holds OnLine (earliest ls)
+  earliest-line [] h = tt
+  earliest-line (l ∷ ls) h = go (earliest ls) (earliest-line ls (h .1))
+    where
+      go : (o : Option ℕ) → Holds OnLine o → isLine file (least l o) ≡ true
+      go none q = h .0
+      go (some m) q = choose (leb l m)
+        where
+          choose : (b : Bool) → isLine file (cond b l m) ≡ true
+          choose true = h .0
+          choose false = q
+
+  module _ (w : ℕ) where
+    abbrev at : List ℕ → Option Entry
+    at = settingOf w file
+
+    stands : (key : List ℕ) → Holds (EntryStands file) (at key)
+    stands key = service-stands ConnMan file w key
+
+    no-record-line : Holds OnLine (noRecord at)
+    unfolding keysOf
+    no-record-line =
+        either-line (only (wired at) (some (lineIn (at (word "Type"))))) (only (foreign at) (some (lineIn (at (word "Security")))))
+        (line-only (λ o. isWord W.Ethernet (readAs (wordOf L.ServiceType) o)) refl (at (word "Type")) (stands (word "Type")))
+        (line-only (λ o. foreignSecurity (readAs (wordOf L.Security) o)) refl (at (word "Security")) (stands (word "Security")))
+
+    given : (key : List ℕ) → Each OnLine (lineGiven (at key))
+    given key = line-if isSome refl (at key) (stands key)
+
+    unplaced-lines : Each OnLine (unplaced at)
+    unfolding keysOf
+    unplaced-lines =
+        let type = lineIf (wired at) (at (word "Type")) in
+        let security = lineIf (foreign at) (at (word "Security")) in
+        let numbers = lineIf (not (hasPlace (serviceJoin at .ipv4))) (at (word "IPv4")) in
+        let mac = lineGiven (at (word "MAC")) in
+        let privacy = lineGiven (at (word "IPv6.Privacy")) in
+        let domains = lineGiven (at (word "SearchDomains")) in
+        let clocks = lineGiven (at (word "Timeservers")) in
+        each-append OnLine (type ++ security ++ numbers ++ mac ++ privacy ++ domains) clocks
+        (each-append OnLine (type ++ security ++ numbers ++ mac ++ privacy) domains
+        (each-append OnLine (type ++ security ++ numbers ++ mac) privacy
+        (each-append OnLine (type ++ security ++ numbers) mac
+        (each-append OnLine (type ++ security) numbers
+        (each-append OnLine type security (line-if (λ o. isWord W.Ethernet (readAs (wordOf L.ServiceType) o)) refl (at (word "Type")) (stands (word "Type"))) (line-if (λ o. foreignSecurity (readAs (wordOf L.Security) o)) refl (at (word "Security")) (stands (word "Security"))))
+        (line-if (λ o. not (hasPlace (ipv4OrDhcp (readAs ipv4 o)))) refl (at (word "IPv4")) (stands (word "IPv4"))))
+        (given (word "MAC")))
+        (given (word "IPv6.Privacy")))
+        (given (word "SearchDomains")))
+        (given (word "Timeservers"))
+
+    unplaced-line : Holds OnLine (earliest (unplaced at))
+    unplaced-line = earliest-line (unplaced at) unplaced-lines
+
+-- ---- records and files
+
+record-given : (k : ℕ) (a : Answer) (o : Option ℕ) (j : Join) → Given k serviceRows a → Holds (λ l. between 1 k l ≡ true) o → Given k serviceRecordRows (recordAnswer (J.orRefused a (orNoPlace o j)) .answer)
+record-given k Good none j h p = refl
+record-given k Good (some l) j h p = rw p
+record-given k (Refused r l) o j h p = listed-more k serviceRows (lined 16 ∷ []) (numberOf r) l h
+
+room-given : (k : ℕ) (b : Bool) (x y : List ℕ) → Given k moveRows (writtenAnswer (cond b (writes x y) (refuses ShortBuffer 0)) .answer)
+room-given k true x y = refl
+room-given k false x y = refl
+
+move-given : (k : ℕ) (a : Answer) (o : Option ℕ) (j : Join) (n f : List ℕ) → Given k serviceRows a → Holds (λ l. between 1 k l ≡ true) o → Given k moveRows (writtenAnswer (orRefused a (orUnplaced o (writingOf j n f))) .answer)
+move-given k Good none j n f h p = room-given k (room (nameText j) n && room (fileText j) f) (nameText j) (fileText j)
+move-given k Good (some l) j n f h p = rw p
+move-given k (Refused r l) o j n f h p = listed-more k serviceRecordRows (bare 17 ∷ []) (numberOf r) l (listed-more k serviceRows (lined 16 ∷ []) (numberOf r) l h)
+
+pub write-given : (r : JoinRecord) (s : List (List ℕ)) (n f : List ℕ) → Given 0 writerRows (writtenAnswer (writing r s n f) .answer)
+unfolding writing
+write-given r s n f = go (formed r s) (hasPlace (joined r s .ipv4)) (room (nameText (joined r s)) n && room (fileText (joined r s)) f) (nameText (joined r s)) (fileText (joined r s))
+  where
+    go : (a b c : Bool) (x y : List ℕ) → Given 0 writerRows (writtenAnswer (cond a (cond b (cond c (writes x y) (refuses ShortBuffer 0)) (refuses NoPlace 0)) (refuses Malformed 0)) .answer)
+    go true true true x y = refl
+    go true true false x y = refl
+    go true false c x y = refl
+    go false b c x y = refl
+
+-- ---- every call
+
+pub settings-answer : (a : Answer) (gs : List Section) → iwdAnswerOf a gs .answer ≡ a
+settings-answer Good gs = refl
+settings-answer (Refused r l) gs = refl
+
+pub service-answer : (a : Answer) (es : List Entry) → serviceAnswerOf a es .answer ≡ a
+service-answer Good es = refl
+service-answer (Refused r l) es = refl
+
+pub lookup-answer : (a : Answer) (o : Option Entry) → lookupOf a o .answer ≡ a
+lookup-answer Good o = refl
+lookup-answer (Refused r l) o = refl
+
+pub joined-answer : (a : Answer) (j : Join) → recordAnswer (J.orRefused a (J.joined j)) .answer ≡ a
+joined-answer Good j = refl
+joined-answer (Refused r l) j = refl
+
+pub demand-1-table : Demand-1-table
+unfolding iwdRecord serviceRecord moving
+demand-1-table (D.check d name file) = asked-given d name file
+demand-1-table (D.iwd-settings name file s) = rw (settings-answer (asked (reading Iwd name file)) (sectionsOf Iwd file)) (asked-given Iwd name file)
+demand-1-table (D.service-settings name file w s) = rw (service-answer (askedOf w (reading ConnMan name file)) (serviceAt w (sectionsOf ConnMan file))) (asked-service-given name file w)
+demand-1-table (D.iwd-string group key name file) = rw (lookup-answer (asked (reading Iwd name file)) (iwdEntry (sectionsOf Iwd file) group key)) (asked-given Iwd name file)
+demand-1-table (D.global-string key name file) = rw (lookup-answer (asked (reading ConnMan name file)) (iwdEntry (sectionsOf ConnMan file) (word "global") key)) (asked-given ConnMan name file)
+demand-1-table (D.service-string w key name file) = rw (lookup-answer (askedOf w (reading ConnMan name file)) (settingOf w file key)) (asked-service-given name file w)
+demand-1-table (D.iwd-record name file s) = rw (joined-answer (asked (reading Iwd name file)) (iwdJoin (networkName (networkOf name)) (iwdEntry (sectionsOf Iwd file)))) (asked-given Iwd name file)
+demand-1-table (D.service-record name file w s) = record-given (length (lines file)) (askedOf w (reading ConnMan name file)) (noRecord (settingOf w file)) (serviceJoin (settingOf w file)) (asked-service-given name file w) (no-record-line file w)
+demand-1-table (D.write r s n f) = write-given r s n f
+demand-1-table (D.move name file w n f) = move-given (length (lines file)) (askedOf w (reading ConnMan name file)) (earliest (unplaced (settingOf w file))) (serviceJoin (settingOf w file)) n f (asked-service-given name file w) (unplaced-line file w)
