@@ -3,26 +3,22 @@
 //! What is good and what is not the library says; this is the tool around it.
 
 mod arguments;
-mod catalogue;
 mod check;
-mod diagnosis;
 mod explain;
 mod help;
 mod input;
 mod json;
-mod layout;
-mod messages;
 mod moving;
 mod output;
 mod placing;
 mod report;
-mod secrets;
 mod show;
-mod visible;
 mod walk;
 
 use arguments::Request;
 use output::Output;
+// What tells a fault stands in the library's crate; here it goes by the same names.
+use qewaris::{catalogue, diagnosis, layout, secrets, visible};
 use std::env;
 use std::ffi::OsString;
 use std::io::{self, Write};

@@ -16,8 +16,8 @@ fn is_general(message: Message) -> bool {
 
 fn check(name: &str, file: &[u8]) -> Refusal {
     let counts = match Dialect::of(name.as_bytes()) {
-        Dialect::Iwd => qewaris::check_iwd(name.as_bytes(), file),
-        Dialect::Connman => qewaris::check_connman(name.as_bytes(), file),
+        Dialect::Iwd => crate::check_iwd(name.as_bytes(), file),
+        Dialect::Connman => crate::check_connman(name.as_bytes(), file),
     };
     counts.expect_err("the file is broken")
 }
@@ -35,7 +35,7 @@ fn each_file_is_told_with_its_sentence() {
 #[test]
 fn each_move_is_told_with_its_sentence() {
     for (message, name, file, service, sentence) in MOVES {
-        let refusal = qewaris::move_service(name.as_bytes(), file, *service).expect_err("it cannot move");
+        let refusal = crate::move_service(name.as_bytes(), file, *service).expect_err("it cannot move");
         let subject = Subject {
             service: Some(*service),
             for_move: true,

@@ -18,7 +18,8 @@ use crate::layout::{self, Form};
 use crate::messages::{general, Message};
 use crate::secrets;
 use crate::visible::{pieces, quoted, visible, Piece};
-use qewaris::Refusal;
+use crate::Refusal;
+use std::fmt;
 use std::ops::Range;
 
 /// A file as it was asked about: its bytes under its name, its size where more is known than was read, and the service.
@@ -51,6 +52,16 @@ pub struct Finding {
     pub excerpt: Option<Excerpt>,
 }
 
+/// As `Refusal` is shown, with the sentence that says what was found.
+impl fmt::Display for Finding {
+    fn fmt(&self, f: &mut fmt::Formatter<'_>) -> fmt::Result {
+        if let Some(line) = self.line {
+            write!(f, "line {line}: ")?;
+        }
+        write!(f, "{} [{}]", self.sentence, self.number)
+    }
+}
+
 /// A line as it is shown, and the place in it that is to blame, as a byte of the line.
 pub struct Excerpt {
     pub pieces: Vec<Piece>,
@@ -58,7 +69,7 @@ pub struct Excerpt {
 }
 
 /// What is worked out of a refusal.
-pub struct Diagnosis {
+pub(crate) struct Diagnosis {
     pub message: Message,
     pub parts: Vec<(&'static str, String)>,
     pub place: Option<usize>,
@@ -85,6 +96,17 @@ impl Diagnosis {
 }
 
 /// The finding of a refusal.
+///
+/// ```
+/// use qewaris::diagnosis::{finding, Subject};
+///
+/// let file = b"[service_till]\nType = wifi\nName = Desk 4\nPassphrase = lowtide\n";
+/// let refusal = qewaris::check_connman(b"shop.config", file).unwrap_err();
+/// let found = finding(&Subject::new(b"shop.config", file), &refusal);
+/// assert_eq!(found.to_string(), "line 4: Passphrase has 7 bytes; it needs 8 to 63 [12]");
+/// let shown: String = found.excerpt.unwrap().pieces.into_iter().map(|piece| piece.text).collect();
+/// assert_eq!(shown, "Passphrase = .......");
+/// ```
 pub fn finding(subject: &Subject<'_>, refusal: &Refusal) -> Finding {
     let blamed = refusal.line().and_then(|line| Blamed::new(subject, line));
     let found = diagnosis(subject, blamed.as_ref(), refusal).filter(|found| found.message.number() == refusal.number());
@@ -137,7 +159,7 @@ fn grouped(number: u64) -> String {
 }
 
 /// The line that is to blame, and what of it is hidden.
-pub struct Blamed<'a> {
+pub(crate) struct Blamed<'a> {
     dialect: Dialect,
     file: &'a [u8],
     number: usize,
