@@ -112,19 +112,19 @@ impl JoinRecord {
         match &self.credential {
             Credential::None => {}
             Credential::Passphrase(bytes) => {
-                record.credential = 1;
+                record.credential = raw::CREDENTIAL_PASSPHRASE;
                 record.passphrase_len = laid(bytes, &mut record.passphrase)?;
             }
             Credential::Key(bytes) => {
-                record.credential = 2;
+                record.credential = raw::CREDENTIAL_KEY;
                 record.key = *bytes;
             }
         }
         match &self.ipv4 {
             Ipv4::Dhcp => {}
-            Ipv4::Off => record.ipv4 = 1,
+            Ipv4::Off => record.ipv4 = raw::IPV4_OFF,
             Ipv4::Static(fixed) => {
-                record.ipv4 = 2;
+                record.ipv4 = raw::IPV4_STATIC;
                 record.address = fixed.address.octets();
                 record.prefix_length = fixed.prefix_length;
                 record.has_gateway = fixed.gateway.is_some().into();
@@ -134,7 +134,10 @@ impl JoinRecord {
         let servers: Vec<u8> = self.name_servers.iter().flat_map(Ipv4Addr::octets).collect();
         record.server_count = laid(&servers, &mut record.servers)? / 4;
         record.domain_len = laid(&self.domain, &mut record.domain)?;
-        record.ipv6 = (self.ipv6 == Ipv6::Off).into();
+        record.ipv6 = match self.ipv6 {
+            Ipv6::Auto => raw::IPV6_AUTO,
+            Ipv6::Off => raw::IPV6_OFF,
+        };
         Some(record)
     }
 
@@ -143,14 +146,14 @@ impl JoinRecord {
         JoinRecord {
             name: record.name[..record.name_len.into()].to_vec(),
             credential: match record.credential {
-                0 => Credential::None,
-                1 => Credential::Passphrase(record.passphrase[..record.passphrase_len.into()].to_vec()),
+                raw::CREDENTIAL_NONE => Credential::None,
+                raw::CREDENTIAL_PASSPHRASE => Credential::Passphrase(record.passphrase[..record.passphrase_len.into()].to_vec()),
                 _ => Credential::Key(record.key),
             },
             hidden: record.hidden == 1,
             ipv4: match record.ipv4 {
-                0 => Ipv4::Dhcp,
-                1 => Ipv4::Off,
+                raw::IPV4_DHCP => Ipv4::Dhcp,
+                raw::IPV4_OFF => Ipv4::Off,
                 _ => Ipv4::Static(StaticIpv4 {
                     address: record.address.into(),
                     prefix_length: record.prefix_length,
@@ -159,7 +162,7 @@ impl JoinRecord {
             },
             name_servers: addresses(&record.servers, record.server_count.into()),
             domain: record.domain[..record.domain_len.into()].to_vec(),
-            ipv6: if record.ipv6 == 0 { Ipv6::Auto } else { Ipv6::Off },
+            ipv6: if record.ipv6 == raw::IPV6_AUTO { Ipv6::Auto } else { Ipv6::Off },
         }
     }
 }
