@@ -26,6 +26,25 @@
 extern "C" {
 #endif
 
+/* ---- Version */
+
+/* The version of this header, 0.2.0: two digits for each of the last two parts. The function answers that of the library, which
+ * may be another one as long as the layout is the same. */
+#define QEWARIS_VERSION 200
+uint32_t qewaris_version(void);
+
+/* The layout of the structs. The library has a function whose name ends in its number, and every file that includes this header
+ * refers to it, so that a program does not link with a library of another layout. The function answers the number. */
+uint32_t qewaris_layout_1(void);
+#if defined(__has_attribute) && __has_attribute(retain)
+__attribute__((used, retain))
+#else
+__attribute__((used))
+#endif
+static uint32_t (*const qewaris_layout)(void) = qewaris_layout_1;
+
+/* ---- Answers */
+
 /* The numbers of the answers. */
 enum {
     QEWARIS_OK = 0,
@@ -276,112 +295,69 @@ qewaris_written qewaris_move_service(const uint8_t *name, size_t name_len, const
 #define QEWARIS_PLACE_IS(type, member, place) QEWARIS_ASSERT(offsetof(type, member) == (place))
 
 QEWARIS_SIZE_IS(qewaris_reading, 32);
-QEWARIS_PLACE_IS(qewaris_reading, line, 0);
-QEWARIS_PLACE_IS(qewaris_reading, settings, 8);
-QEWARIS_PLACE_IS(qewaris_reading, services, 16);
-QEWARIS_PLACE_IS(qewaris_reading, number, 24);
+QEWARIS_PLACE_IS(qewaris_reading, line, 0); QEWARIS_PLACE_IS(qewaris_reading, settings, 8);
+QEWARIS_PLACE_IS(qewaris_reading, services, 16); QEWARIS_PLACE_IS(qewaris_reading, number, 24);
 QEWARIS_PLACE_IS(qewaris_reading, reserved, 25);
 QEWARIS_SIZE_IS(qewaris_iwd_general, 10);
-QEWARIS_PLACE_IS(qewaris_iwd_general, auto_connect, 0);
-QEWARIS_PLACE_IS(qewaris_iwd_general, hidden, 1);
+QEWARIS_PLACE_IS(qewaris_iwd_general, auto_connect, 0); QEWARIS_PLACE_IS(qewaris_iwd_general, hidden, 1);
 QEWARIS_PLACE_IS(qewaris_iwd_general, always_randomize_address, 2);
-QEWARIS_PLACE_IS(qewaris_iwd_general, has_address_override, 3);
-QEWARIS_PLACE_IS(qewaris_iwd_general, address_override, 4);
+QEWARIS_PLACE_IS(qewaris_iwd_general, has_address_override, 3); QEWARIS_PLACE_IS(qewaris_iwd_general, address_override, 4);
 QEWARIS_SIZE_IS(qewaris_iwd_security, 48);
-QEWARIS_PLACE_IS(qewaris_iwd_security, passphrase_line, 0);
-QEWARIS_PLACE_IS(qewaris_iwd_security, has_pre_shared_key, 8);
-QEWARIS_PLACE_IS(qewaris_iwd_security, pre_shared_key, 9);
-QEWARIS_PLACE_IS(qewaris_iwd_security, reserved, 41);
+QEWARIS_PLACE_IS(qewaris_iwd_security, passphrase_line, 0); QEWARIS_PLACE_IS(qewaris_iwd_security, has_pre_shared_key, 8);
+QEWARIS_PLACE_IS(qewaris_iwd_security, pre_shared_key, 9); QEWARIS_PLACE_IS(qewaris_iwd_security, reserved, 41);
 QEWARIS_SIZE_IS(qewaris_iwd_ipv4, 56);
-QEWARIS_PLACE_IS(qewaris_iwd_ipv4, domain_name_line, 0);
-QEWARIS_PLACE_IS(qewaris_iwd_ipv4, dns_count, 8);
-QEWARIS_PLACE_IS(qewaris_iwd_ipv4, dns, 16);
-QEWARIS_PLACE_IS(qewaris_iwd_ipv4, has_address, 32);
-QEWARIS_PLACE_IS(qewaris_iwd_ipv4, address, 33);
-QEWARIS_PLACE_IS(qewaris_iwd_ipv4, has_gateway, 37);
-QEWARIS_PLACE_IS(qewaris_iwd_ipv4, gateway, 38);
-QEWARIS_PLACE_IS(qewaris_iwd_ipv4, has_broadcast, 42);
-QEWARIS_PLACE_IS(qewaris_iwd_ipv4, broadcast, 43);
-QEWARIS_PLACE_IS(qewaris_iwd_ipv4, netmask_length, 47);
-QEWARIS_PLACE_IS(qewaris_iwd_ipv4, send_hostname, 48);
-QEWARIS_PLACE_IS(qewaris_iwd_ipv4, reserved, 49);
+QEWARIS_PLACE_IS(qewaris_iwd_ipv4, domain_name_line, 0); QEWARIS_PLACE_IS(qewaris_iwd_ipv4, dns_count, 8);
+QEWARIS_PLACE_IS(qewaris_iwd_ipv4, dns, 16); QEWARIS_PLACE_IS(qewaris_iwd_ipv4, has_address, 32);
+QEWARIS_PLACE_IS(qewaris_iwd_ipv4, address, 33); QEWARIS_PLACE_IS(qewaris_iwd_ipv4, has_gateway, 37);
+QEWARIS_PLACE_IS(qewaris_iwd_ipv4, gateway, 38); QEWARIS_PLACE_IS(qewaris_iwd_ipv4, has_broadcast, 42);
+QEWARIS_PLACE_IS(qewaris_iwd_ipv4, broadcast, 43); QEWARIS_PLACE_IS(qewaris_iwd_ipv4, netmask_length, 47);
+QEWARIS_PLACE_IS(qewaris_iwd_ipv4, send_hostname, 48); QEWARIS_PLACE_IS(qewaris_iwd_ipv4, reserved, 49);
 QEWARIS_SIZE_IS(qewaris_iwd_settings, 128);
-QEWARIS_PLACE_IS(qewaris_iwd_settings, line, 0);
-QEWARIS_PLACE_IS(qewaris_iwd_settings, number, 8);
-QEWARIS_PLACE_IS(qewaris_iwd_settings, ipv6_enabled, 9);
-QEWARIS_PLACE_IS(qewaris_iwd_settings, general, 10);
-QEWARIS_PLACE_IS(qewaris_iwd_settings, reserved, 20);
-QEWARIS_PLACE_IS(qewaris_iwd_settings, security, 24);
+QEWARIS_PLACE_IS(qewaris_iwd_settings, line, 0); QEWARIS_PLACE_IS(qewaris_iwd_settings, number, 8);
+QEWARIS_PLACE_IS(qewaris_iwd_settings, ipv6_enabled, 9); QEWARIS_PLACE_IS(qewaris_iwd_settings, general, 10);
+QEWARIS_PLACE_IS(qewaris_iwd_settings, reserved, 20); QEWARIS_PLACE_IS(qewaris_iwd_settings, security, 24);
 QEWARIS_PLACE_IS(qewaris_iwd_settings, ipv4, 72);
 QEWARIS_SIZE_IS(qewaris_entries, 72);
-QEWARIS_PLACE_IS(qewaris_entries, count, 0);
-QEWARIS_PLACE_IS(qewaris_entries, start, 8);
+QEWARIS_PLACE_IS(qewaris_entries, count, 0); QEWARIS_PLACE_IS(qewaris_entries, start, 8);
 QEWARIS_PLACE_IS(qewaris_entries, length, 40);
 QEWARIS_SIZE_IS(qewaris_service_network, 64);
-QEWARIS_PLACE_IS(qewaris_service_network, name_line, 0);
-QEWARIS_PLACE_IS(qewaris_service_network, passphrase_line, 8);
-QEWARIS_PLACE_IS(qewaris_service_network, ssid_len, 16);
-QEWARIS_PLACE_IS(qewaris_service_network, ssid, 24);
-QEWARIS_PLACE_IS(qewaris_service_network, service_type, 56);
-QEWARIS_PLACE_IS(qewaris_service_network, security, 57);
-QEWARIS_PLACE_IS(qewaris_service_network, hidden, 58);
-QEWARIS_PLACE_IS(qewaris_service_network, reserved, 59);
+QEWARIS_PLACE_IS(qewaris_service_network, name_line, 0); QEWARIS_PLACE_IS(qewaris_service_network, passphrase_line, 8);
+QEWARIS_PLACE_IS(qewaris_service_network, ssid_len, 16); QEWARIS_PLACE_IS(qewaris_service_network, ssid, 24);
+QEWARIS_PLACE_IS(qewaris_service_network, service_type, 56); QEWARIS_PLACE_IS(qewaris_service_network, security, 57);
+QEWARIS_PLACE_IS(qewaris_service_network, hidden, 58); QEWARIS_PLACE_IS(qewaris_service_network, reserved, 59);
 QEWARIS_SIZE_IS(qewaris_service_addresses, 200);
-QEWARIS_PLACE_IS(qewaris_service_addresses, domain_line, 0);
-QEWARIS_PLACE_IS(qewaris_service_addresses, search_domains, 8);
+QEWARIS_PLACE_IS(qewaris_service_addresses, domain_line, 0); QEWARIS_PLACE_IS(qewaris_service_addresses, search_domains, 8);
 QEWARIS_PLACE_IS(qewaris_service_addresses, timeservers, 80);
 QEWARIS_PLACE_IS(qewaris_service_addresses, nameserver_count, 152);
-QEWARIS_PLACE_IS(qewaris_service_addresses, nameservers, 160);
-QEWARIS_PLACE_IS(qewaris_service_addresses, ipv4, 176);
-QEWARIS_PLACE_IS(qewaris_service_addresses, address, 177);
-QEWARIS_PLACE_IS(qewaris_service_addresses, prefix_length, 181);
-QEWARIS_PLACE_IS(qewaris_service_addresses, has_gateway, 182);
-QEWARIS_PLACE_IS(qewaris_service_addresses, gateway, 183);
-QEWARIS_PLACE_IS(qewaris_service_addresses, ipv6, 187);
-QEWARIS_PLACE_IS(qewaris_service_addresses, privacy, 188);
-QEWARIS_PLACE_IS(qewaris_service_addresses, has_mac, 189);
-QEWARIS_PLACE_IS(qewaris_service_addresses, mac, 190);
+QEWARIS_PLACE_IS(qewaris_service_addresses, nameservers, 160); QEWARIS_PLACE_IS(qewaris_service_addresses, ipv4, 176);
+QEWARIS_PLACE_IS(qewaris_service_addresses, address, 177); QEWARIS_PLACE_IS(qewaris_service_addresses, prefix_length, 181);
+QEWARIS_PLACE_IS(qewaris_service_addresses, has_gateway, 182); QEWARIS_PLACE_IS(qewaris_service_addresses, gateway, 183);
+QEWARIS_PLACE_IS(qewaris_service_addresses, ipv6, 187); QEWARIS_PLACE_IS(qewaris_service_addresses, privacy, 188);
+QEWARIS_PLACE_IS(qewaris_service_addresses, has_mac, 189); QEWARIS_PLACE_IS(qewaris_service_addresses, mac, 190);
 QEWARIS_PLACE_IS(qewaris_service_addresses, reserved, 196);
 QEWARIS_SIZE_IS(qewaris_service_settings, 280);
-QEWARIS_PLACE_IS(qewaris_service_settings, line, 0);
-QEWARIS_PLACE_IS(qewaris_service_settings, number, 8);
-QEWARIS_PLACE_IS(qewaris_service_settings, reserved, 9);
-QEWARIS_PLACE_IS(qewaris_service_settings, network, 16);
+QEWARIS_PLACE_IS(qewaris_service_settings, line, 0); QEWARIS_PLACE_IS(qewaris_service_settings, number, 8);
+QEWARIS_PLACE_IS(qewaris_service_settings, reserved, 9); QEWARIS_PLACE_IS(qewaris_service_settings, network, 16);
 QEWARIS_PLACE_IS(qewaris_service_settings, addresses, 80);
 QEWARIS_SIZE_IS(qewaris_text, 32);
-QEWARIS_PLACE_IS(qewaris_text, line, 0);
-QEWARIS_PLACE_IS(qewaris_text, start, 8);
-QEWARIS_PLACE_IS(qewaris_text, length, 16);
-QEWARIS_PLACE_IS(qewaris_text, number, 24);
-QEWARIS_PLACE_IS(qewaris_text, reserved, 25);
+QEWARIS_PLACE_IS(qewaris_text, line, 0); QEWARIS_PLACE_IS(qewaris_text, start, 8); QEWARIS_PLACE_IS(qewaris_text, length, 16);
+QEWARIS_PLACE_IS(qewaris_text, number, 24); QEWARIS_PLACE_IS(qewaris_text, reserved, 25);
 QEWARIS_SIZE_IS(qewaris_record, 414);
-QEWARIS_PLACE_IS(qewaris_record, name_len, 0);
-QEWARIS_PLACE_IS(qewaris_record, name, 1);
-QEWARIS_PLACE_IS(qewaris_record, credential, 33);
-QEWARIS_PLACE_IS(qewaris_record, passphrase_len, 34);
-QEWARIS_PLACE_IS(qewaris_record, passphrase, 35);
-QEWARIS_PLACE_IS(qewaris_record, key, 98);
-QEWARIS_PLACE_IS(qewaris_record, hidden, 130);
-QEWARIS_PLACE_IS(qewaris_record, ipv4, 131);
-QEWARIS_PLACE_IS(qewaris_record, address, 132);
-QEWARIS_PLACE_IS(qewaris_record, prefix_length, 136);
-QEWARIS_PLACE_IS(qewaris_record, has_gateway, 137);
-QEWARIS_PLACE_IS(qewaris_record, gateway, 138);
-QEWARIS_PLACE_IS(qewaris_record, server_count, 142);
-QEWARIS_PLACE_IS(qewaris_record, servers, 143);
-QEWARIS_PLACE_IS(qewaris_record, domain_len, 159);
-QEWARIS_PLACE_IS(qewaris_record, domain, 160);
+QEWARIS_PLACE_IS(qewaris_record, name_len, 0); QEWARIS_PLACE_IS(qewaris_record, name, 1);
+QEWARIS_PLACE_IS(qewaris_record, credential, 33); QEWARIS_PLACE_IS(qewaris_record, passphrase_len, 34);
+QEWARIS_PLACE_IS(qewaris_record, passphrase, 35); QEWARIS_PLACE_IS(qewaris_record, key, 98);
+QEWARIS_PLACE_IS(qewaris_record, hidden, 130); QEWARIS_PLACE_IS(qewaris_record, ipv4, 131);
+QEWARIS_PLACE_IS(qewaris_record, address, 132); QEWARIS_PLACE_IS(qewaris_record, prefix_length, 136);
+QEWARIS_PLACE_IS(qewaris_record, has_gateway, 137); QEWARIS_PLACE_IS(qewaris_record, gateway, 138);
+QEWARIS_PLACE_IS(qewaris_record, server_count, 142); QEWARIS_PLACE_IS(qewaris_record, servers, 143);
+QEWARIS_PLACE_IS(qewaris_record, domain_len, 159); QEWARIS_PLACE_IS(qewaris_record, domain, 160);
 QEWARIS_PLACE_IS(qewaris_record, ipv6, 413);
 QEWARIS_SIZE_IS(qewaris_record_answer, 424);
-QEWARIS_PLACE_IS(qewaris_record_answer, line, 0);
-QEWARIS_PLACE_IS(qewaris_record_answer, number, 8);
-QEWARIS_PLACE_IS(qewaris_record_answer, record, 9);
-QEWARIS_PLACE_IS(qewaris_record_answer, reserved, 423);
+QEWARIS_PLACE_IS(qewaris_record_answer, line, 0); QEWARIS_PLACE_IS(qewaris_record_answer, number, 8);
+QEWARIS_PLACE_IS(qewaris_record_answer, record, 9); QEWARIS_PLACE_IS(qewaris_record_answer, reserved, 423);
 QEWARIS_SIZE_IS(qewaris_written, 32);
-QEWARIS_PLACE_IS(qewaris_written, line, 0);
-QEWARIS_PLACE_IS(qewaris_written, name_len, 8);
-QEWARIS_PLACE_IS(qewaris_written, file_len, 16);
-QEWARIS_PLACE_IS(qewaris_written, number, 24);
+QEWARIS_PLACE_IS(qewaris_written, line, 0); QEWARIS_PLACE_IS(qewaris_written, name_len, 8);
+QEWARIS_PLACE_IS(qewaris_written, file_len, 16); QEWARIS_PLACE_IS(qewaris_written, number, 24);
 QEWARIS_PLACE_IS(qewaris_written, reserved, 25);
 
 #undef QEWARIS_ASSERT

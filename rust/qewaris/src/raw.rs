@@ -1,7 +1,7 @@
 //! The C boundary as it is: the structs of `include/qewaris.h`, its enumerators and its functions.
 //!
-//! The rest of this crate is over these; they are public for programs that lay records out themselves. The build compares the
-//! size of each struct and the place of each member with those that the header asserts.
+//! The rest of this crate is over these; they are public for programs that lay records out themselves. The gate compares them
+//! with the header and with the library (`.ci/layout`), and the build asks the archive for its layout.
 
 mod codes;
 
@@ -191,6 +191,8 @@ pub struct Written {
 }
 
 extern "C" {
+    pub fn qewaris_version() -> u32;
+    pub fn qewaris_layout_1() -> u32;
     pub fn qewaris_check_iwd(name: *const u8, name_len: usize, file: *const u8, file_len: usize) -> Reading;
     pub fn qewaris_check_connman(name: *const u8, name_len: usize, file: *const u8, file_len: usize) -> Reading;
     pub fn qewaris_iwd_settings_of(name: *const u8, name_len: usize, file: *const u8, file_len: usize) -> IwdSettings;
@@ -223,6 +225,3 @@ extern "C" {
         file_out_len: usize,
     ) -> Written;
 }
-
-// Made by the build from the header: an assertion for each size and each place.
-include!(concat!(env!("OUT_DIR"), "/layout.rs"));
