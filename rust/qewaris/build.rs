@@ -96,8 +96,7 @@ fn keep(archive: &Path, out: &Path) {
         Ok(bytes) => bytes,
         Err(error) => stop(&format!("{} cannot be read: {error}.", archive.display())),
     };
-    let name = format!("{LAYOUT}\0");
-    if !bytes.windows(name.len()).any(|part| part == name.as_bytes()) {
+    if !symbols(&bytes).is_some_and(|names| names.split(|byte| *byte == 0).any(|name| name == LAYOUT.as_bytes())) {
         stop(&format!(
             "{} has another layout than version {} of this crate: it has no {LAYOUT}. Take the archive of this version.",
             archive.display(),
@@ -107,6 +106,16 @@ fn keep(archive: &Path, out: &Path) {
     if let Err(error) = fs::write(out.join("libqewaris.a"), bytes) {
         stop(&format!("the archive cannot be copied: {error}."));
     }
+}
+
+/// The names in an archive's table of symbols, each with a byte 0 behind it. The table is the archive's first member: its header of
+/// 60 bytes, the count of symbols, four bytes for each, and then the names.
+fn symbols(archive: &[u8]) -> Option<&[u8]> {
+    let member = archive.strip_prefix(b"!<arch>\n/ ")?;
+    let size = std::str::from_utf8(member.get(46..56)?).ok()?.trim_end().parse().ok()?;
+    let table = member.get(58..)?.get(..size)?;
+    let count = u32::from_be_bytes(table.get(..4)?.try_into().ok()?);
+    table.get(4 + 4 * usize::try_from(count).ok()?..)
 }
 
 fn stop(message: &str) -> ! {
