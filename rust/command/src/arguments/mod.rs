@@ -1,19 +1,24 @@
 //! What the user asks for, from the words of the command line.
 
+mod words;
+
 use crate::visible::visible;
+use crate::warnings::{by_name, Word};
 use std::ffi::{OsStr, OsString};
-use std::os::unix::ffi::{OsStrExt, OsStringExt};
+use std::os::unix::ffi::OsStrExt;
 use std::path::PathBuf;
+use words::{Words, COLOR};
 
 /// What is asked for.
 #[derive(Debug, PartialEq, Eq)]
 pub enum Request {
     Help(Topic),
     Version,
-    Check { paths: Vec<PathBuf>, verbose: bool },
+    Check(Check),
     Show(Show),
+    List(List),
     Move(Move),
-    Explain(Option<u8>),
+    Explain(Explain),
 }
 
 /// What help is about.
@@ -22,220 +27,364 @@ pub enum Topic {
     All,
     Check,
     Show,
+    List,
     Move,
     Explain,
 }
 
+/// When the output is coloured.
+#[derive(Clone, Copy, Debug, PartialEq, Eq)]
+pub enum Color {
+    Auto,
+    Always,
+    Never,
+}
+
+/// The files that are asked about.
+#[derive(Debug, PartialEq, Eq)]
+pub struct Sources {
+    /// Files and folders; `-` is standard input.
+    pub paths: Vec<PathBuf>,
+    /// The name of standard input.
+    pub stdin_name: Option<PathBuf>,
+}
+
+/// What is done about warnings.
+#[derive(Clone, Copy, Debug, PartialEq, Eq)]
+pub enum Warnings {
+    Told,
+    Silent,
+    /// Told, and as bad as a refusal.
+    Strict,
+}
+
+#[derive(Debug, PartialEq, Eq)]
+pub struct Check {
+    pub sources: Sources,
+    pub warnings: Warnings,
+    pub verbose: bool,
+    pub quiet: bool,
+    pub json: bool,
+}
+
 #[derive(Debug, PartialEq, Eq)]
 pub struct Show {
-    pub file: PathBuf,
-    pub service: Option<usize>,
+    pub sources: Sources,
+    pub warnings: Warnings,
+    /// The services that are shown; all, where none is named.
+    pub services: Vec<Number>,
     pub json: bool,
     pub secrets: bool,
 }
 
 #[derive(Debug, PartialEq, Eq)]
+pub struct List {
+    pub sources: Sources,
+    pub warnings: Warnings,
+    pub json: bool,
+    pub html: Option<PathBuf>,
+    pub force: bool,
+    pub quiet: bool,
+}
+
+#[derive(Debug, PartialEq, Eq)]
 pub struct Move {
-    pub file: PathBuf,
+    pub sources: Sources,
+    pub warnings: Warnings,
     pub services: Services,
     pub to: PathBuf,
     pub force: bool,
     pub dry_run: bool,
+    pub skip_unplaced: bool,
+    pub quiet: bool,
+    pub json: bool,
 }
 
 /// Which services are moved.
-#[derive(Clone, Copy, Debug, PartialEq, Eq)]
+#[derive(Clone, Debug, PartialEq, Eq)]
 pub enum Services {
     /// The only one that there is.
     Only,
-    One(usize),
+    These(Vec<Number>),
     All,
 }
 
+/// A number of a service, and how it was given.
+#[derive(Clone, Debug, PartialEq, Eq)]
+pub struct Number {
+    /// The greatest number that there is, where it was given a greater one.
+    pub value: usize,
+    pub text: String,
+}
+
+#[derive(Debug, PartialEq, Eq)]
+pub struct Explain {
+    pub about: About,
+    pub json: bool,
+}
+
+/// What is explained.
+#[derive(Clone, Copy, Debug, PartialEq, Eq)]
+pub enum About {
+    All,
+    Refusal(u8),
+    Warning(Word),
+}
+
 /// The request, or a sentence that says what is wrong with the words and which help tells more.
-pub fn parse(words: &[OsString]) -> Result<Request, (String, Topic)> {
+pub fn parse(words: &[OsString]) -> Result<(Request, Color), (String, Topic)> {
     let Some((first, rest)) = words.split_first() else {
-        return Err(("A command is needed: check, show, move or explain".to_string(), Topic::All));
+        return Err(("A command is needed: check, show, list, move or explain".to_string(), Topic::All));
     };
     let topic = match first.as_bytes() {
-        b"--help" | b"-h" | b"help" => return Ok(Request::Help(Topic::All)),
-        b"--version" | b"-V" => return Ok(Request::Version),
-        b"check" => Topic::Check,
-        b"show" => Topic::Show,
-        b"move" => Topic::Move,
-        b"explain" => Topic::Explain,
-        other => {
-            let found = format!("There is no command {}; there are check, show, move and explain", visible(other));
-            return Err((found, Topic::All));
-        }
+        b"--version" | b"-V" => return Ok((Request::Version, Color::Auto)),
+        b"--help" | b"-h" | b"help" => return help(rest).map(|topic| (Request::Help(topic), Color::Auto)),
+        other => topic(other).ok_or_else(|| (unknown(other), Topic::All))?,
     };
     asked(topic, rest).map_err(|sentence| (sentence, topic))
 }
 
-fn asked(topic: Topic, words: &[OsString]) -> Result<Request, String> {
-    let (flags, valued): (&[&str], &[&str]) = match topic {
-        Topic::Check => (&["-v", "--verbose"], &[]),
-        Topic::Show => (&["--json", "--secrets"], &[]),
-        Topic::Move => (&["--all", "--force", "--dry-run"], &["--service", "--to"]),
-        _ => (&[], &[]),
-    };
-    let found = Words::split(words, flags, valued)?;
-    if found.has("--help") || found.has("-h") {
-        return Ok(Request::Help(topic));
+fn topic(word: &[u8]) -> Option<Topic> {
+    match word {
+        b"check" => Some(Topic::Check),
+        b"show" => Some(Topic::Show),
+        b"list" => Some(Topic::List),
+        b"move" => Some(Topic::Move),
+        b"explain" => Some(Topic::Explain),
+        _ => None,
     }
-    if found.has("--version") || found.has("-V") {
-        return Ok(Request::Version);
-    }
+}
+
+fn unknown(word: &[u8]) -> String {
+    format!(
+        "There is no command {}; there are check, show, list, move and explain",
+        visible(word)
+    )
+}
+
+/// What `help` is asked about: all, or the command that it names.
+fn help(words: &[OsString]) -> Result<Topic, (String, Topic)> {
+    let Some(word) = words.first() else { return Ok(Topic::All) };
+    topic(word.as_bytes()).ok_or_else(|| (unknown(word.as_bytes()), Topic::All))
+}
+
+/// The options of a command, without a value and with one.
+fn options(topic: Topic) -> (&'static [&'static str], &'static [&'static str]) {
     match topic {
-        Topic::Check => check(found),
-        Topic::Show => show(found),
-        Topic::Move => move_request(found),
-        _ => explain(found),
+        Topic::Check => (
+            &["-v", "--verbose", "-q", "--quiet", "--strict", "--no-warnings", "--json"],
+            &["--stdin-name"],
+        ),
+        Topic::Show => (
+            &["--json", "--secrets", "--strict", "--no-warnings"],
+            &["--service", "--stdin-name"],
+        ),
+        Topic::List => (
+            &["-q", "--quiet", "--strict", "--no-warnings", "--json", "--force"],
+            &["--html", "--stdin-name"],
+        ),
+        Topic::Move => (
+            &[
+                "--all",
+                "--force",
+                "--dry-run",
+                "--skip-unplaced",
+                "-q",
+                "--quiet",
+                "--strict",
+                "--no-warnings",
+                "--json",
+            ],
+            &["--service", "--to", "--stdin-name"],
+        ),
+        Topic::Explain => (&["--json"], &[]),
+        Topic::All => (&[], &[]),
     }
 }
 
-/// The words of a command: options, options with a value, and the rest.
-struct Words {
-    flags: Vec<String>,
-    values: Vec<(String, OsString)>,
-    rest: Vec<OsString>,
+fn asked(topic: Topic, words: &[OsString]) -> Result<(Request, Color), String> {
+    let (flags, valued) = options(topic);
+    let found = Words::split(words, flags, valued)?;
+    if found.has(&["--help", "-h"]) {
+        return Ok((Request::Help(topic), Color::Auto));
+    }
+    if found.has(&["--version", "-V"]) {
+        return Ok((Request::Version, Color::Auto));
+    }
+    let color = color(&found)?;
+    let request = match topic {
+        Topic::Check => check(&found),
+        Topic::Show => show(&found),
+        Topic::List => list(&found),
+        Topic::Move => move_request(&found),
+        Topic::Explain | Topic::All => explain(&found),
+    };
+    Ok((request?, color))
 }
 
-impl Words {
-    fn split(words: &[OsString], flags: &[&str], valued: &[&str]) -> Result<Words, String> {
-        let mut found = Words {
-            flags: Vec::new(),
-            values: Vec::new(),
-            rest: Vec::new(),
-        };
-        let mut words = words.iter();
-        while let Some(word) = words.next() {
-            let bytes = word.as_bytes();
-            if bytes == b"--" {
-                found.rest.extend(words.cloned());
-                break;
-            }
-            if !bytes.starts_with(b"-") || bytes == b"-" {
-                found.rest.push(word.clone());
-                continue;
-            }
-            let (name, value) = name_and_value(bytes);
-            if valued.contains(&name.as_str()) {
-                let next = value.or_else(|| words.next().cloned());
-                found.values.push((name.clone(), next.ok_or(format!("{name} needs a value"))?));
-            } else if value.is_none() && (flags.contains(&name.as_str()) || EVERYWHERE.contains(&name.as_str())) {
-                found.flags.push(name);
-            } else {
-                return Err(format!("There is no option {}", visible(bytes)));
-            }
-        }
-        Ok(found)
-    }
-
-    fn has(&self, flag: &str) -> bool {
-        self.flags.iter().any(|found| found == flag)
-    }
-
-    /// The value of an option that may be given once.
-    fn value(&self, name: &str) -> Result<Option<&OsStr>, String> {
-        let mut given = self.values.iter().filter(|(of, _)| of == name);
-        let first = given.next().map(|(_, value)| value.as_os_str());
-        match given.next() {
-            None => Ok(first),
-            Some(_) => Err(format!("{name} is given twice")),
-        }
+fn color(found: &Words) -> Result<Color, String> {
+    match found.value(COLOR)?.map(OsStr::as_bytes) {
+        None | Some(b"auto") => Ok(Color::Auto),
+        Some(b"always") => Ok(Color::Always),
+        Some(b"never") => Ok(Color::Never),
+        Some(other) => Err(format!("--color is auto, always or never, and not {}", visible(other))),
     }
 }
 
-/// The options that every command takes.
-const EVERYWHERE: [&str; 4] = ["--help", "-h", "--version", "-V"];
-
-/// The two parts of `--name=value`; an option by itself has no value.
-fn name_and_value(bytes: &[u8]) -> (String, Option<OsString>) {
-    let split = bytes
-        .starts_with(b"--")
-        .then(|| bytes.iter().position(|byte| *byte == b'='))
-        .flatten();
-    match split {
-        Some(place) => (visible(&bytes[..place]), Some(OsString::from_vec(bytes[place + 1..].to_vec()))),
-        None => (visible(bytes), None),
-    }
-}
-
-fn check(found: Words) -> Result<Request, String> {
-    if found.rest.is_empty() {
+/// The files that are asked about; there is at least one.
+fn sources(found: &Words, paths: &[OsString]) -> Result<Sources, String> {
+    if paths.is_empty() {
         return Err("A file or a folder is needed".to_string());
     }
-    let verbose = found.has("-v") || found.has("--verbose");
-    Ok(Request::Check {
-        paths: found.rest.into_iter().map(PathBuf::from).collect(),
-        verbose,
+    let standard = paths.iter().filter(|path| path.as_bytes() == b"-").count();
+    let name = found.value("--stdin-name")?;
+    match (standard, name) {
+        (0, Some(_)) => return Err("--stdin-name names standard input, which is read where - stands for a file".to_string()),
+        (1, None) => return Err("- is standard input; --stdin-name NAME says how the file is called".to_string()),
+        (2.., _) => return Err("- can be given once only".to_string()),
+        _ => {}
+    }
+    if name.is_some_and(|name| name.is_empty() || name.as_bytes().contains(&b'/')) {
+        return Err("--stdin-name is the name of a file without a folder".to_string());
+    }
+    Ok(Sources {
+        paths: paths.iter().map(PathBuf::from).collect(),
+        stdin_name: name.map(PathBuf::from),
     })
 }
 
-fn show(found: Words) -> Result<Request, String> {
-    let (file, service) = match found.rest.as_slice() {
-        [file] => (file, None),
-        [file, service] => (file, Some(number(service, "A service")?)),
-        [] => return Err("A file is needed".to_string()),
-        _ => return Err("One file and at most one service are taken".to_string()),
-    };
-    Ok(Request::Show(Show {
-        file: PathBuf::from(file),
-        service,
-        json: found.has("--json"),
-        secrets: found.has("--secrets"),
+fn warnings(found: &Words) -> Result<Warnings, String> {
+    match (found.has(&["--strict"]), found.has(&["--no-warnings"])) {
+        (true, true) => Err("Only one of --strict and --no-warnings can be given".to_string()),
+        (true, false) => Ok(Warnings::Strict),
+        (false, true) => Ok(Warnings::Silent),
+        (false, false) => Ok(Warnings::Told),
+    }
+}
+
+fn check(found: &Words) -> Result<Request, String> {
+    Ok(Request::Check(Check {
+        sources: sources(found, &found.rest)?,
+        warnings: warnings(found)?,
+        verbose: found.has(&["-v", "--verbose"]),
+        quiet: found.has(&["-q", "--quiet"]),
+        json: found.has(&["--json"]),
     }))
 }
 
-fn move_request(found: Words) -> Result<Request, String> {
-    let [file] = found.rest.as_slice() else {
-        let sentence = if found.rest.is_empty() {
-            "A file is needed"
-        } else {
-            "One file is taken"
-        };
-        return Err(sentence.to_string());
+fn show(found: &Words) -> Result<Request, String> {
+    let mut services = numbers(found)?;
+    // A number behind a single file is a service of it.
+    let paths = match found.rest.as_slice() {
+        [file, service] if is_number(service) => {
+            services.push(number(service, "A service")?);
+            std::slice::from_ref(file)
+        }
+        all => all,
     };
-    let services = match (found.value("--service")?, found.has("--all")) {
-        (None, false) => Services::Only,
-        (None, true) => Services::All,
-        (Some(service), false) => Services::One(number(service, "--service")?),
-        (Some(_), true) => return Err("Only one of --service and --all can be given".to_string()),
+    Ok(Request::Show(Show {
+        sources: sources(found, paths)?,
+        warnings: warnings(found)?,
+        services,
+        json: found.has(&["--json"]),
+        secrets: found.has(&["--secrets"]),
+    }))
+}
+
+fn list(found: &Words) -> Result<Request, String> {
+    let html = found.value("--html")?.map(PathBuf::from);
+    if html.as_ref().is_some_and(|path| path.file_name().is_none()) {
+        return Err("--html needs the name of a file".to_string());
+    }
+    Ok(Request::List(List {
+        sources: sources(found, &found.rest)?,
+        warnings: warnings(found)?,
+        json: found.has(&["--json"]),
+        html,
+        force: found.has(&["--force"]),
+        quiet: found.has(&["-q", "--quiet"]),
+    }))
+}
+
+fn move_request(found: &Words) -> Result<Request, String> {
+    let numbers = numbers(found)?;
+    let services = match (numbers.is_empty(), found.has(&["--all"])) {
+        (true, false) => Services::Only,
+        (true, true) => Services::All,
+        (false, false) => Services::These(numbers),
+        (false, true) => return Err("Only one of --service and --all can be given".to_string()),
     };
-    let to = found.value("--to")?.unwrap_or(OsStr::new("."));
+    let to = found.value("--to")?;
+    if let (None, [_, .., last]) = (to, found.rest.as_slice()) {
+        let path = PathBuf::from(last);
+        if path.is_dir() || last.as_bytes().ends_with(b"/") {
+            let folder = visible(last.as_bytes());
+            return Err(format!("{folder} is a folder; --to {folder} says that the iwd files go there"));
+        }
+    }
+    let to = to.unwrap_or(OsStr::new("."));
     if to.is_empty() {
         return Err("--to needs a folder".to_string());
     }
     Ok(Request::Move(Move {
-        file: PathBuf::from(file),
+        sources: sources(found, &found.rest)?,
+        warnings: warnings(found)?,
         services,
         to: PathBuf::from(to),
-        force: found.has("--force"),
-        dry_run: found.has("--dry-run"),
+        force: found.has(&["--force"]),
+        dry_run: found.has(&["--dry-run"]),
+        skip_unplaced: found.has(&["--skip-unplaced"]),
+        quiet: found.has(&["-q", "--quiet"]),
+        json: found.has(&["--json"]),
     }))
 }
 
-fn explain(found: Words) -> Result<Request, String> {
-    let number = match found.rest.as_slice() {
-        [] => None,
-        [word] => Some(number(word, "A refusal")?),
-        _ => return Err("One number is taken".to_string()),
+fn explain(found: &Words) -> Result<Request, String> {
+    let about = match found.rest.as_slice() {
+        [] => About::All,
+        [word] => about(word)?,
+        _ => return Err("One number or word is taken".to_string()),
     };
-    match number {
-        None => Ok(Request::Explain(None)),
-        Some(number @ 1..=19) => Ok(Request::Explain(u8::try_from(number).ok())),
-        Some(number) => Err(format!("There is no refusal {number}; they are 1 to 19")),
-    }
+    Ok(Request::Explain(Explain {
+        about,
+        json: found.has(&["--json"]),
+    }))
 }
 
-/// A number in decimal digits. One that is too large for any service or refusal stays as large as can be.
-fn number(word: &OsStr, what: &str) -> Result<usize, String> {
-    let digits = word
-        .to_str()
-        .filter(|text| !text.is_empty() && text.bytes().all(|byte| byte.is_ascii_digit()));
-    match digits {
-        Some(digits) => Ok(digits.parse().unwrap_or(usize::MAX)),
-        None => Err(format!("{what} is given by its number, and {} is none", visible(word.as_bytes()))),
+fn about(word: &OsStr) -> Result<About, String> {
+    if is_number(word) {
+        let number = number(word, "A refusal")?;
+        let refusal = u8::try_from(number.value).ok().filter(|number| (1..=19).contains(number));
+        return refusal
+            .map(About::Refusal)
+            .ok_or(format!("There is no refusal {}; they are 1 to 19", number.text));
     }
+    let warning = word.to_str().and_then(by_name);
+    let sentence = format!("There is no refusal and no warning {}", visible(word.as_bytes()));
+    warning.map(About::Warning).ok_or(sentence)
+}
+
+/// The numbers of services that are given by `--service`.
+fn numbers(found: &Words) -> Result<Vec<Number>, String> {
+    found
+        .values("--service")
+        .into_iter()
+        .map(|word| number(word, "--service"))
+        .collect()
+}
+
+fn is_number(word: &OsStr) -> bool {
+    !word.is_empty() && word.as_bytes().iter().all(u8::is_ascii_digit)
+}
+
+/// A number in decimal digits.
+fn number(word: &OsStr, what: &str) -> Result<Number, String> {
+    let text = visible(word.as_bytes());
+    if !is_number(word) {
+        return Err(format!("{what} is given by its number, and {text} is none"));
+    }
+    Ok(Number {
+        value: text.parse().unwrap_or(usize::MAX),
+        text,
+    })
 }

@@ -1,150 +1,133 @@
-//! `qewaris move`: the iwd files of a ConnMan file's services.
+//! `qewaris move`: the iwd files of ConnMan files' services, all of them or none.
 
-use crate::arguments::{Move, Services};
-use crate::diagnosis::{finding, Subject};
-use crate::input::{plainly, Input};
-use crate::layout;
-use crate::output::{Output, Style};
-use crate::placing::{may_place, path_in, place, Failure, NewFile};
-use crate::report::{print_finding, shown_path};
-use crate::secrets::{mark, secrets_of};
-use crate::visible::{pieces, visible};
+mod form;
+mod plan;
+mod telling;
+
+use crate::arguments::{Move, Warnings};
+use crate::items::{Item, Tally};
+use crate::output::Output;
+use crate::placing::{may_place, place, Failure, NewFile};
+use crate::report::print_warning;
+use crate::walk::{self, Found, Reason};
+use crate::warnings::{Warning, Word};
 use crate::Outcome;
-use qewaris::{check_connman, move_service, IwdFile, Refusal};
+use plan::{Plan, Stop};
 use std::io;
-
-/// A service that moves: its number, its group, the line of its header, and the iwd file.
-struct Moved {
-    number: usize,
-    group: String,
-    line: usize,
-    iwd: IwdFile,
-}
+use std::os::unix::ffi::OsStrExt;
 
 pub fn run(request: &Move, output: &mut Output) -> io::Result<Outcome> {
-    let input = match Input::read(&request.file) {
-        Ok(input) => input,
-        Err(error) => {
-            output.error(&format!("{} cannot be read: {}", shown_path(&request.file), plainly(&error)))?;
-            return Ok(Outcome::Unreadable);
-        }
-    };
-    let count = match check_connman(&input.name, &input.bytes) {
-        Ok(counts) => counts.services,
-        Err(refusal) => return refused(request, &input, None, &refusal, output),
-    };
-    let numbers = match request.services {
-        Services::One(number) => number..=number,
-        // Without a service there is nothing to move: number 1 earns the refusal.
-        Services::All => 1..=count.max(1),
-        Services::Only if count <= 1 => 1..=1,
-        Services::Only => {
-            let found = format!("{} has {count} services", shown_path(&request.file));
-            output.error(&format!(
-                "{found}; --service N or --all says which are to move. Try qewaris move --help"
-            ))?;
-            return Ok(Outcome::Usage);
-        }
-    };
-    match gathered(request, &input, numbers, output)? {
-        Some(moved) => placed(request, &input, &moved, output),
-        None => Ok(Outcome::Refused),
+    if request.quiet {
+        output.hush();
     }
-}
-
-fn refused(request: &Move, input: &Input, service: Option<usize>, refusal: &Refusal, output: &mut Output) -> io::Result<Outcome> {
-    let subject = Subject {
-        service,
-        for_move: true,
-        ..input.subject()
-    };
-    print_finding(output, &request.file, &finding(&subject, refusal))?;
-    Ok(Outcome::Refused)
-}
-
-/// The iwd files of these services; none where one has no place in iwd or two have one name, which is told.
-fn gathered(
-    request: &Move,
-    input: &Input,
-    numbers: std::ops::RangeInclusive<usize>,
-    output: &mut Output,
-) -> io::Result<Option<Vec<Moved>>> {
-    let services = layout::services(&input.bytes);
-    let count = numbers.clone().count();
-    let mut moved = Vec::new();
-    for number in numbers {
-        match move_service(&input.name, &input.bytes, number) {
-            Ok(iwd) => {
-                let section = number.checked_sub(1).and_then(|place| services.get(place));
-                moved.push(Moved {
-                    number,
-                    group: section.map_or(String::new(), |section| visible(section.name)),
-                    line: section.map_or(0, |section| section.line),
-                    iwd,
-                });
+    let mut plan = Plan::default();
+    let mut tally = Tally::default();
+    for found in sources(request) {
+        match Item::of(found, "move") {
+            Item::Read(input) => {
+                if let Err(Stop::Usage(sentence)) = plan.add(request, &input, &mut tally, output)? {
+                    output.error(&sentence)?;
+                    return Ok(Outcome::Usage);
+                }
             }
-            Err(refusal) => {
-                refused(request, input, Some(number), &refusal, output)?;
+            Item::Skipped(_, reason) => tally.skip(reason),
+            Item::Failed(path, sentence) | Item::Empty(path, sentence) => {
+                tally.lose(&path);
+                if request.json {
+                    output.line(&form::unreadable(&path, &sentence))?;
+                }
+                output.error(&sentence)?;
             }
         }
     }
-    let is_whole = moved.len() == count && !clashes(request, &moved, output)?;
-    if !is_whole {
-        output.error("nothing was written")?;
+    let outcome = settled(request, &mut plan, &tally, output)?;
+    if request.json {
+        plan.forms(request, outcome == Outcome::Good)
+            .try_for_each(|form| output.line(&form))?;
+        output.line(&form::counts(&plan, &tally, outcome == Outcome::Good && !request.dry_run))?;
     }
-    Ok(is_whole.then_some(moved))
+    Ok(outcome)
 }
 
-/// Whether two services have one file name; tells which.
-fn clashes(request: &Move, moved: &[Moved], output: &mut Output) -> io::Result<bool> {
-    let mut found = false;
-    for (place, later) in moved.iter().enumerate() {
-        if let Some(first) = moved[..place].iter().find(|first| first.iwd.name == later.iwd.name) {
-            found = true;
-            let (name, file) = (visible(&later.iwd.name), shown_path(&request.file));
-            let which = format!(
-                "[{}] on line {} and [{}] on line {}",
-                first.group, first.line, later.group, later.line
-            );
-            output.error(&format!("{file}: {which} would both be {name}; each file is of one service"))?;
+/// The files that are asked for. The iwd files of a folder stay where they are.
+fn sources(request: &Move) -> impl Iterator<Item = Found> + '_ {
+    let named = |path: &std::path::Path| request.sources.paths.iter().any(|given| given == path);
+    walk::found(&request.sources).into_iter().map(move |found| match found {
+        Found::File(path) if !named(&path) && !path.as_os_str().as_bytes().to_ascii_lowercase().ends_with(b".config") => {
+            Found::Skipped(path, Reason::Iwd)
         }
+        found => found,
+    })
+}
+
+/// What comes of the plan: its files are written, or shown, or it is told why they are not.
+fn settled(request: &Move, plan: &mut Plan, tally: &Tally, output: &mut Output) -> io::Result<Outcome> {
+    let is_clash = plan.tell_clashes(output)?;
+    if tally.outcome() != Outcome::Good || is_clash {
+        // A file that could not be read has no services, and of a refused one it is plain that nothing came.
+        if is_clash || plan.has_refused || tally.files() > 1 {
+            output.error("nothing was written")?;
+        }
+        tally.name_failed(output)?;
+        return Ok(tally.outcome().max(if is_clash { Outcome::Refused } else { Outcome::Good }));
     }
-    Ok(found)
+    if plan.moved.is_empty() {
+        output.error("there is nothing to move: nothing was written")?;
+        return Ok(if plan.left_out.is_empty() {
+            Outcome::Unreadable
+        } else {
+            Outcome::Refused
+        });
+    }
+    placed(request, plan, tally, output)
 }
 
 /// Writes the files, or shows them.
-fn placed(request: &Move, input: &Input, moved: &[Moved], output: &mut Output) -> io::Result<Outcome> {
-    let files = moved.iter().map(|service| NewFile {
-        name: &service.iwd.name,
-        contents: &service.iwd.file,
-    });
-    let files: Vec<NewFile<'_>> = files.collect();
-    let done = if request.dry_run {
-        moved.iter().try_for_each(|service| print_dry(request, input, service, output))?;
-        may_place(&request.to, &files, request.force)
-    } else {
-        place(&request.to, &files, request.force)
-    };
-    match done {
-        Ok(()) if request.dry_run => Ok(Outcome::Good),
-        Ok(()) => {
-            moved.iter().try_for_each(|service| print_written(request, service, output))?;
-            Ok(Outcome::Good)
+fn placed(request: &Move, plan: &mut Plan, tally: &Tally, output: &mut Output) -> io::Result<Outcome> {
+    plan.look_around(&request.to);
+    let files: Vec<NewFile<'_>> = plan.files().collect();
+    let footing = may_place(&request.to, &files, request.force);
+    if let Ok(false) = footing {
+        let warning = Warning::new(Word::ReadableByOthers, None, &[]);
+        plan.warnings.push((request.to.clone(), warning));
+    }
+    if request.warnings == Warnings::Silent {
+        plan.warnings.clear();
+    }
+    if !request.json {
+        for (path, warning) in &plan.warnings {
+            print_warning(output, path, warning)?;
         }
+    }
+    if request.warnings == Warnings::Strict && !plan.warnings.is_empty() {
+        output.error("nothing was written: with --strict a warning stands in the way")?;
+        return Ok(Outcome::Refused);
+    }
+    if request.dry_run && !request.json {
+        plan.moved
+            .iter()
+            .try_for_each(|service| telling::print_dry(request, service, plan.is_several(), output))?;
+    }
+    let files: Vec<NewFile<'_>> = plan.files().collect();
+    let done = footing.and_then(|_| {
+        if request.dry_run {
+            Ok(())
+        } else {
+            place(&request.to, &files, request.force)
+        }
+    });
+    match done {
+        Ok(()) => telling::print_done(request, plan, tally, output).map(|()| Outcome::Good),
         Err(failure) => print_failure(&failure, output),
     }
-}
-
-fn print_written(request: &Move, service: &Moved, output: &mut Output) -> io::Result<()> {
-    let path = shown_path(&path_in(&request.to, &service.iwd.name));
-    output.line(&format!("{path}: written from service {}, [{}]", service.number, service.group))
 }
 
 fn print_failure(failure: &Failure, output: &mut Output) -> io::Result<Outcome> {
     let outcome = match failure {
         Failure::InTheWay(there) => {
             for path in there {
-                output.error(&format!("{} is there already; --force overwrites it", shown_path(path)))?;
+                let path = crate::report::shown_path(path);
+                output.error(&format!("{path} is there already; --force overwrites it"))?;
             }
             Outcome::Refused
         }
@@ -159,33 +142,4 @@ fn print_failure(failure: &Failure, output: &mut Output) -> io::Result<Outcome> 
     };
     output.error("nothing was written")?;
     Ok(outcome)
-}
-
-/// Shows a file that would be written, with its secrets hidden.
-fn print_dry(request: &Move, input: &Input, service: &Moved, output: &mut Output) -> io::Result<()> {
-    let path = shown_path(&path_in(&request.to, &service.iwd.name));
-    let title = output.styled(Style::Bold, &path);
-    let size = service.iwd.file.len();
-    output.line(&format!(
-        "{title}: {size} bytes from service {}, [{}]",
-        service.number, service.group
-    ))?;
-    let secrets = secrets_of(&input.bytes);
-    for line in layout::lines(&service.iwd.file) {
-        let mut marks = vec![false; line.len()];
-        mark(line, &secrets, &mut marks);
-        hide_secret(line, &mut marks);
-        let text: String = pieces(line, &marks).into_iter().map(|piece| piece.text).collect();
-        output.line(&format!("    {text}"))?;
-    }
-    Ok(())
-}
-
-/// Marks the value of a line of a written file that is a passphrase or a key.
-fn hide_secret(line: &[u8], marks: &mut [bool]) {
-    for key in [&b"Passphrase="[..], b"PreSharedKey="] {
-        if line.starts_with(key) {
-            marks[key.len()..].fill(true);
-        }
-    }
 }
