@@ -159,15 +159,20 @@ impl Message {
 
     /// The sentence with its words filled in, or none where one is missing.
     pub fn text(self, parts: &[(&str, String)]) -> Option<String> {
-        let (mut rest, mut text) = (self.row().2, String::new());
-        while let Some((front, behind)) = rest.split_once('{') {
-            let (name, next) = behind.split_once('}')?;
-            let (_, part) = parts.iter().find(|(of, _)| *of == name)?;
-            text.push_str(front);
-            text.push_str(part);
-            rest = next;
-        }
-        text.push_str(rest);
-        Some(text)
+        filled(self.row().2, parts)
     }
+}
+
+/// A text with its words in braces filled in, or none where one is missing.
+pub fn filled(text: &str, parts: &[(&str, String)]) -> Option<String> {
+    let (mut rest, mut found) = (text, String::new());
+    while let Some((front, behind)) = rest.split_once('{') {
+        let (name, next) = behind.split_once('}')?;
+        let (_, part) = parts.iter().find(|(of, _)| *of == name)?;
+        found.push_str(front);
+        found.push_str(part);
+        rest = next;
+    }
+    found.push_str(rest);
+    Some(found)
 }

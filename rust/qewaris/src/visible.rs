@@ -12,6 +12,11 @@ pub fn visible(bytes: &[u8]) -> String {
     pieces(bytes, &[]).into_iter().map(|piece| piece.text).collect()
 }
 
+/// How many columns a visible text takes.
+pub fn columns(text: &str) -> usize {
+    pieces(text.as_bytes(), &[]).iter().map(|piece| piece.columns).sum()
+}
+
 /// Bytes as text in double quotes.
 pub fn quoted(bytes: &[u8]) -> String {
     format!("\"{}\"", visible(bytes).replace('"', "\\\""))

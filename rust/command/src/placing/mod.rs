@@ -47,8 +47,9 @@ pub fn path_in(folder: &Path, name: &[u8]) -> PathBuf {
     }
 }
 
-/// Whether the files may be placed: the folder is there, and nothing is in the way.
-pub fn may_place(folder: &Path, files: &[NewFile<'_>], force: bool) -> Result<(), Failure> {
+/// Whether the files may be placed: the folder is there and can be written, which is tried with a temporary file, and nothing is in
+/// the way. Tells whether the folder keeps what is written to its owner.
+pub fn may_place(folder: &Path, files: &[NewFile<'_>], force: bool) -> Result<bool, Failure> {
     let about = fs::metadata(folder).map_err(|error| not_written(folder, &error))?;
     if !about.is_dir() {
         return Err(Failure::NotWritten(format!("{} is no folder", shown_path(folder))));
@@ -57,14 +58,18 @@ pub fn may_place(folder: &Path, files: &[NewFile<'_>], force: bool) -> Result<()
     let there: Vec<PathBuf> = targets.filter(|path| fs::symlink_metadata(path).is_ok()).collect();
     match there.iter().find(|path| path.is_dir()) {
         Some(path) => Err(Failure::NotWritten(format!("{} is a folder", shown_path(path)))),
-        None if force || there.is_empty() => Ok(()),
+        None if force || there.is_empty() => {
+            let _signals = Held::new();
+            let tried = Temporary::holding(folder, b"").map_err(|error| not_written(folder, &error))?;
+            let about = fs::symlink_metadata(tried.path()).map_err(|error| not_written(folder, &error))?;
+            Ok(about.mode() & 0o077 == 0)
+        }
         None => Err(Failure::InTheWay(there)),
     }
 }
 
-/// Places all files, or none and says why. With `force` files that are there are replaced.
+/// Places all files where they may be placed, or none and says why. With `force` files that are there are replaced.
 pub fn place(folder: &Path, files: &[NewFile<'_>], force: bool) -> Result<(), Failure> {
-    may_place(folder, files, force)?;
     // It stands before what is staged, and so is dropped after it.
     let signals = Held::new();
     temporary::sweep(folder);

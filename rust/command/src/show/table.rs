@@ -1,12 +1,12 @@
 //! The table that a person reads.
 
-use super::settings::{hex, Group};
+use super::settings::Group;
 use super::value::Hiding;
-use super::{Service, Shown};
+use super::{Shown, ShownService};
 use crate::catalogue::{counted, Dialect};
+use crate::forms::hex;
 use crate::output::{Output, Style};
 use crate::report::shown_path;
-use crate::visible::visible;
 use qewaris::{Credential, Ipv4, Ipv6, JoinRecord};
 use std::io;
 
@@ -55,9 +55,10 @@ fn print_rows(title: &str, rows: &[(&str, String)], output: &mut Output) -> io::
     Ok(())
 }
 
-fn print_service(service: &Service, shown: &Shown<'_>, output: &mut Output) -> io::Result<()> {
+fn print_service(shown_service: &ShownService, shown: &Shown<'_>, output: &mut Output) -> io::Result<()> {
+    let service = &shown_service.service;
     let title = format!("service {}, [{}] on line {}", service.number, service.group, service.line);
-    print_group(&service.settings, &title, &shown.hiding, output)?;
+    print_group(&shown_service.settings, &title, &shown.hiding, output)?;
     match &service.record {
         Ok(record) => print_record(record, &shown.hiding, output),
         Err(finding) => {
@@ -70,7 +71,7 @@ fn print_service(service: &Service, shown: &Shown<'_>, output: &mut Output) -> i
 
 fn print_record(record: &JoinRecord, hiding: &Hiding, output: &mut Output) -> io::Result<()> {
     let servers: Vec<String> = record.name_servers.iter().map(ToString::to_string).collect();
-    let mut rows = vec![("network name", visible(&record.name))];
+    let mut rows = vec![("network name", hiding.name(&record.name))];
     match &record.credential {
         Credential::None => rows.push(("credential", "none, the network is open".to_string())),
         Credential::Passphrase(passphrase) => rows.push(("passphrase", hiding.secret(passphrase))),

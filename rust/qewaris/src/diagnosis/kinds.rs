@@ -28,7 +28,20 @@ pub fn broken_kind(blamed: &Blamed<'_>) -> Option<Diagnosis> {
         None => blamed.quote(value.clone()).unwrap_or_else(|| "something else".to_string()),
     };
     let message = message_of(blamed.dialect, kind, text);
-    Some(named(message)?.with("found", found).at(value.start + place))
+    Some(Diagnosis {
+        discreet: discreet(blamed.dialect, kind, text).filter(|_| blamed.is_hidden(value.clone())),
+        ..named(message)?.with("found", found).at(value.start + place)
+    })
+}
+
+/// What is wrong with the length of a text or key, without telling it.
+fn discreet(dialect: Dialect, kind: Kind, text: &[u8]) -> Option<&'static str> {
+    match kind.lengths() {
+        Some((least, _)) if string_length(dialect, text) < least => Some("too few bytes"),
+        Some(_) => Some("too many bytes"),
+        None if kind == Kind::Key && text.len() < 64 => Some("too few hex digits"),
+        None => (kind == Kind::Key).then_some("too many hex digits"),
+    }
 }
 
 /// How many bytes a string has, after unescaping.

@@ -15,12 +15,14 @@ mod unplaced;
 
 use crate::catalogue::{kind_in, Dialect, Keys, Kind};
 use crate::layout::{self, Form};
+pub use crate::messages::filled;
 use crate::messages::{general, Message};
 use crate::secrets;
 use crate::visible::{pieces, quoted, visible, Piece};
 use crate::Refusal;
 use std::fmt;
 use std::ops::Range;
+pub use unplaced::unplaced_lines;
 
 /// A file as it was asked about: its bytes under its name, its size where more is known than was read, and the service.
 pub struct Subject<'a> {
@@ -49,6 +51,8 @@ pub struct Finding {
     pub number: u8,
     pub line: Option<usize>,
     pub sentence: String,
+    /// The same sentence, without the length of a passphrase or key where it tells one.
+    pub discreet: String,
     pub excerpt: Option<Excerpt>,
 }
 
@@ -73,6 +77,8 @@ pub(crate) struct Diagnosis {
     pub message: Message,
     pub parts: Vec<(&'static str, String)>,
     pub place: Option<usize>,
+    /// What was found, where that tells the length of a secret, in words that do not.
+    pub discreet: Option<&'static str>,
 }
 
 impl Diagnosis {
@@ -81,6 +87,7 @@ impl Diagnosis {
             message,
             parts: Vec::new(),
             place: None,
+            discreet: None,
         }
     }
 
@@ -111,11 +118,24 @@ pub fn finding(subject: &Subject<'_>, refusal: &Refusal) -> Finding {
     let blamed = refusal.line().and_then(|line| Blamed::new(subject, line));
     let found = diagnosis(subject, blamed.as_ref(), refusal).filter(|found| found.message.number() == refusal.number());
     let found = found.unwrap_or_else(|| Diagnosis::new(general(refusal.number())));
-    let sentence = found.message.text(&found.parts);
+    told(refusal, &found, blamed.as_ref())
+}
+
+fn told(refusal: &Refusal, found: &Diagnosis, blamed: Option<&Blamed<'_>>) -> Finding {
+    let text = |parts: &[(&str, String)]| {
+        let sentence = found.message.text(parts);
+        sentence.unwrap_or_else(|| general(refusal.number()).text(&[]).unwrap_or_default())
+    };
+    let discreet = |(name, part): &(&'static str, String)| match found.discreet {
+        Some(words) if *name == "found" => (*name, words.to_string()),
+        _ => (*name, part.clone()),
+    };
+    let parts: Vec<(&str, String)> = found.parts.iter().map(discreet).collect();
     Finding {
         number: refusal.number(),
         line: refusal.line(),
-        sentence: sentence.unwrap_or_else(|| general(refusal.number()).text(&[]).unwrap_or_default()),
+        sentence: text(&found.parts),
+        discreet: text(&parts),
         excerpt: blamed.map(|blamed| blamed.excerpt(found.place)),
     }
 }

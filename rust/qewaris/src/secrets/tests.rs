@@ -107,3 +107,17 @@ fn a_secret_is_hidden_where_else_it_stands() {
     let file = b"[Security]\nPassphrase=low\\\\tide 88\n[IPv4]\nDomainName=low\\tide 88\n";
     assert_eq!(shown(file, 4), "DomainName=...........");
 }
+
+#[test]
+fn a_string_that_swallowed_the_next_line_is_hidden() {
+    assert_eq!(
+        shown(b"Name = Desk 4 Passphrase = lowtide88", 1),
+        "Name = ............................."
+    );
+    assert_eq!(shown(b"Name = Desk 4Hidden=true", 1), "Name = .................");
+    assert_eq!(shown(b"Name = Desk 4", 1), "Name = Desk 4");
+    let file = b"[service_a]\nName = Desk 4 passphrase=lowtide88\nDomain = lowtide88\n";
+    assert_eq!(shown(file, 3), "Domain = .........");
+    assert_eq!(swallowed(b"Desk 4 IPv4 = off"), Some(("IPv4", &b"off"[..])));
+    assert_eq!((swallowed(b"a = b"), swallowed(b"Desk Hidden")), (None, None));
+}
