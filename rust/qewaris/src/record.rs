@@ -22,7 +22,19 @@ pub struct JoinRecord {
 }
 
 /// What the network asks for. `Debug` does not show a passphrase or a key.
+///
+/// There will be more of them, and so of every enum that is marked as this one is: a `match` has an arm for the others.
+///
+/// ```compile_fail
+/// fn is_open(credential: &qewaris::Credential) -> bool {
+///     match credential {
+///         qewaris::Credential::None => true,
+///         qewaris::Credential::Passphrase(_) | qewaris::Credential::Key(_) => false,
+///     }
+/// }
+/// ```
 #[derive(Clone, PartialEq, Eq)]
+#[non_exhaustive]
 pub enum Credential {
     None,
     /// 8 to 63 bytes of UTF-8 without byte 0.
@@ -46,9 +58,31 @@ pub struct StaticIpv4 {
 }
 
 #[derive(Clone, Copy, Debug, PartialEq, Eq)]
+#[non_exhaustive]
 pub enum Ipv6 {
     Auto,
     Off,
+}
+
+impl Credential {
+    /// What it is called: `none`, `passphrase` or `key`.
+    pub fn word(&self) -> &'static str {
+        match self {
+            Credential::None => "none",
+            Credential::Passphrase(_) => "passphrase",
+            Credential::Key(_) => "key",
+        }
+    }
+}
+
+impl Ipv6 {
+    /// What it is called: `auto` or `off`.
+    pub fn word(self) -> &'static str {
+        match self {
+            Ipv6::Auto => "auto",
+            Ipv6::Off => "off",
+        }
+    }
 }
 
 impl fmt::Debug for Credential {

@@ -107,9 +107,20 @@ pub enum Security {
 }
 
 #[derive(Clone, Copy, Debug, PartialEq, Eq)]
+#[non_exhaustive]
 pub enum Ipv6Method {
     Off,
     Auto,
+}
+
+impl Ipv6Method {
+    /// As the file has it: `off` or `auto`.
+    pub fn word(self) -> &'static str {
+        match self {
+            Ipv6Method::Off => "off",
+            Ipv6Method::Auto => "auto",
+        }
+    }
 }
 
 #[derive(Clone, Copy, Debug, PartialEq, Eq)]
