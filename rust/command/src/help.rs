@@ -97,7 +97,7 @@ Options:
 ";
 
 const LIST: &str = "\
-Lists files at a glance: a row for each service and each iwd file, the worst first.
+Lists files at a glance: a row for each service and iwd file, the worst first.
 
 Usage:
   qewaris list [OPTION]... PATH...

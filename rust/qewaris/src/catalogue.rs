@@ -128,6 +128,40 @@ pub const SERVICE: Keys = &[
     ("Hidden", Kind::YesNo),
 ];
 
+/// Whether the papers about a dialect have a key in a group and it is not taken here: keys of extended logins, of IPv6 addresses, and
+/// what iwd sets by itself.
+pub fn is_of_paper(dialect: Dialect, group: &[u8], key: &[u8]) -> bool {
+    let within = |keys: &[&str]| keys.iter().any(|name| name.as_bytes() == key);
+    match (dialect, group) {
+        (Dialect::Iwd, b"IPv6") => within(&["Address", "Gateway", "DNS", "DomainName"]),
+        (Dialect::Iwd, _) => key.starts_with(b"EAP-") || within(&IWD_ONLY),
+        (Dialect::Connman, _) => within(&CONNMAN_ONLY),
+    }
+}
+
+/// The keys of iwd's paper that are not taken here, beside those of extended logins.
+const IWD_ONLY: [&str; 7] = [
+    "TransitionDisable",
+    "DisabledTransitionModes",
+    "UseDefaultEccGroup",
+    "PasswordIdentifier",
+    "EncryptedSalt",
+    "EncryptedSecurity",
+    "MulticastDNS",
+];
+
+/// The keys of ConnMan's paper that are not taken here.
+const CONNMAN_ONLY: [&str; 8] = [
+    "EAP",
+    "CACertFile",
+    "ClientCertFile",
+    "PrivateKeyFile",
+    "PrivateKeyPassphrase",
+    "PrivateKeyPassphraseType",
+    "Identity",
+    "Phase2",
+];
+
 /// The keys of a group, if there is such a group.
 pub fn keys_of(dialect: Dialect, group: &[u8]) -> Option<Keys> {
     match dialect {

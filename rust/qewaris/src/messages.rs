@@ -65,6 +65,7 @@ table! {
     AnyKey, 9, "The key is not one of its group's; each group has keys of its own";
     UnknownKey, 9, "{key} is no key of [{group}]; its keys are {allowed}";
     KeyElsewhere, 9, "{key} is no key of [{group}]; it belongs to {allowed}";
+    KeyOfPaper, 9, "{key} is {found} and not taken in [{group}]; the keys of [{group}] are {allowed}";
     KeyOfDaemon, 9, "{key} is a line that iwd writes itself and is not taken; the keys of [{group}] are {allowed}";
 
     AnyRepeatedKey, 10, "The key is given a second time; a key stands once in its group";

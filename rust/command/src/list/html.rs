@@ -18,10 +18,12 @@ p{margin:.2rem 0}
 .note{color:#555}
 ul{margin:1rem 0;padding:.6rem 1rem .6rem 2rem;background:#fff4d6;border-left:.3rem solid #b26a00}
 table{border-collapse:collapse;width:100%;margin:1rem 0}
-th,td{text-align:left;vertical-align:top;padding:.35rem .6rem;border-bottom:1px solid #ccc;overflow-wrap:anywhere}
+th,td{text-align:left;vertical-align:top;padding:.35rem .6rem;border-bottom:1px solid #ccc;overflow-wrap:break-word}
+li{overflow-wrap:anywhere}
 th{border-bottom:2px solid #444;white-space:nowrap}
 td:nth-child(1){white-space:nowrap;font-weight:600}
 td:nth-child(4),td:nth-child(5),td:nth-child(6){white-space:nowrap}
+td:nth-child(2){min-width:9rem;max-width:24rem}
 td:nth-child(8){min-width:16rem}
 .worst td:nth-child(1),.open{color:#a30000;font-weight:700}
 .warned td:nth-child(1){color:#8a4b00}
@@ -31,7 +33,8 @@ td:nth-child(8){min-width:16rem}
 thead{display:none}
 table,tbody,tr,td{display:block;width:auto}
 tr{border:1px solid #999;border-radius:.4rem;margin:.7rem 0;padding:.3rem 0}
-td{border:0;padding:.15rem .7rem .15rem 8rem;position:relative;white-space:normal!important;min-width:0!important}
+td{border:0;padding:.15rem .7rem .15rem 8rem;position:relative;white-space:normal!important;min-width:0!important;max-width:none!important;\
+overflow-wrap:anywhere}
 td::before{content:attr(data-label);position:absolute;left:.7rem;width:7rem;color:#555;font-weight:400}
 td.none{display:none}
 }

@@ -128,7 +128,7 @@ fn a_name_that_is_no_utf8_works() {
     folder.write(OsStr::from_bytes(name), DESK);
     let run = folder.run_bytes(&[b"check", name]);
     let told = "caf\\xe9\\x1b.psk: error: The network name has byte 233 in it; \
-                only letters, digits, space, _ and - stand plainly, other names are = and hex [2]\n";
+                only letters, digits, space, _ and - stand plainly, other names are = and hex [2]\n    The right name is =636166e91b.psk\n";
     run.gives(1, told, "");
     let run = folder.run_bytes(&[b"check", b"gone\xff.psk"]);
     run.gives(2, "", "qewaris: gone\\xff.psk cannot be read: there is no such file or folder\n");

@@ -42,7 +42,7 @@ fn other_files_are_skipped_in_one_line_and_named_where_asked() {
 fn a_misspelled_suffix_is_judged_and_not_passed_over() {
     let folder = Folder::new("suffix");
     folder.write("a/Desk.PSK", DESK);
-    let told = "a/Desk.PSK: error: The file name ends in .PSK; it must end in .psk, in lower case [2]\n\
+    let told = "a/Desk.PSK: error: The file name ends in .PSK; it must end in .psk, in lower case [2]\n    The right name is Desk.psk\n\
                 0 good, 1 refused, 0 unreadable, 0 skipped\n";
     folder.run(&["check", "a"]).gives(1, told, "");
 }

@@ -1,5 +1,6 @@
 //! The built command as a person runs it: words, exit statuses, both streams, and the files on disk afterwards.
 
+mod advice;
 mod check;
 mod common;
 mod examples;

@@ -196,6 +196,8 @@ fn a_read_only_folder_is_left_as_it_is() {
     if let Some(run) = folder.run_bound(&["move", "shop.config", "--to", "closed"]) {
         let told = "qewaris: closed cannot be written: you have no permission for it\nqewaris: nothing was written\n";
         run.gives(2, "", told);
+        let dry = folder.run_bound(&["move", "--dry-run", "shop.config", "--to", "closed"]).unwrap();
+        assert_eq!((dry.code, dry.err.as_str()), (Some(2), told), "a dry run ends as the move would");
     }
     assert_eq!(crate::common::names_in(&closed), [""; 0]);
 }

@@ -23,6 +23,19 @@ fn help_and_version_are_everywhere() {
     folder.run(&["--version"]).gives(0, "qewaris 0.2.0\n", "");
 }
 
+#[test]
+fn help_of_a_command_is_its_help_and_narrow() {
+    let folder = Folder::new("narrow");
+    for command in ["check", "show", "list", "move", "explain"] {
+        let run = folder.run(&["help", command]);
+        run.gives(0, &folder.run(&[command, "--help"]).out, "");
+        assert!(run.out.lines().all(|line| line.len() <= 80), "{}", run.out);
+    }
+    assert!(folder.run(&["help"]).out.lines().all(|line| line.len() <= 80));
+    let told = "qewaris: There is no command moves; there are check, show, list, move and explain. Try qewaris --help\n";
+    folder.run(&["help", "moves"]).gives(3, "", told);
+}
+
 /// Words that are not understood, and what is said of them.
 const WRONG: &[(&[&str], &str)] = &[
     (&[], "A command is needed: check, show, list, move or explain. Try qewaris --help"),

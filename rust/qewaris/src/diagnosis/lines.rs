@@ -1,7 +1,7 @@
 //! Refusals 3, 8, 9 and 10: lines that are no settings, and settings in the wrong place.
 
 use super::{Blamed, Diagnosis};
-use crate::catalogue::{kind_in, listed, Dialect, Keys, GLOBAL, IWD, SERVICE};
+use crate::catalogue::{is_of_paper, kind_in, listed, Dialect, Keys, GLOBAL, IWD, SERVICE};
 use crate::layout::{self, blanks, Form};
 use crate::messages::Message;
 
@@ -49,14 +49,21 @@ pub fn unknown_key(blamed: &Blamed<'_>) -> Option<Diagnosis> {
     let (key, _) = blamed.setting()?;
     let bytes = blamed.line.get(key.clone())?;
     let keys: Vec<&str> = blamed.keys()?.iter().map(|(name, _)| *name).collect();
+    let is_of_paper = is_of_paper(blamed.dialect, blamed.group()?, bytes);
     let (message, allowed) = match home(blamed.dialect, bytes) {
+        _ if is_of_paper => (Message::KeyOfPaper, listed(&keys, "and")),
         Some(home) => (Message::KeyElsewhere, home.to_string()),
         None if bytes.starts_with(b"SAE-PT-Group") => (Message::KeyOfDaemon, listed(&keys, "and")),
         None => (Message::UnknownKey, listed(&keys, "and")),
     };
     let found = Diagnosis::new(message).with("key", blamed.word(key.clone()).unwrap_or_else(|| "This".to_string()));
     let group = String::from_utf8_lossy(blamed.group()?).into_owned();
-    Some(found.with("group", group).with("allowed", allowed).at(key.start))
+    let paper = match blamed.dialect {
+        Dialect::Iwd => "iwd's",
+        Dialect::Connman => "ConnMan's",
+    };
+    let found = found.with("found", paper).with("group", group);
+    Some(found.with("allowed", allowed).at(key.start))
 }
 
 /// The group of its dialect that a key belongs to.

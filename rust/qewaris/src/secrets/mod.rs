@@ -13,6 +13,7 @@ pub use known::{mark, secrets_of, swallowed, unescaped};
 
 use crate::catalogue::{keys_of, kind_anywhere, Dialect, Kind};
 use crate::layout::{blanks, is_blank, line, lines, trimmed};
+pub use words::nearest;
 use words::{is_near_group, is_near_key, is_plain_word, leading_word, mentions_secret};
 
 const BYTE_ORDER_MARK: &[u8] = b"\xef\xbb\xbf";

@@ -116,6 +116,18 @@ pub fn is_near(word: &[u8], mut known: impl Iterator<Item = &'static str>) -> bo
     })
 }
 
+/// The word of these that a word was meant to be: the nearest one, with a slip or two, or with signs between its letters.
+pub fn nearest(word: &[u8], known: impl Iterator<Item = &'static str>) -> Option<&'static str> {
+    let letters = |word: &[u8]| -> Vec<u8> {
+        let kept = word.iter().filter(|byte| byte.is_ascii_alphanumeric());
+        kept.map(u8::to_ascii_lowercase).collect()
+    };
+    let word = letters(word);
+    let slips = |name: &&str| distance(&word, &letters(name.as_bytes()));
+    let nearest = known.min_by_key(slips)?;
+    (slips(&nearest) <= nearest.len() / 4).then_some(nearest)
+}
+
 /// The front of bytes that keys may have.
 pub fn leading_word(bytes: &[u8]) -> &[u8] {
     let length = bytes.iter().take_while(|byte| is_word_byte(**byte)).count();
@@ -159,6 +171,16 @@ mod tests {
         assert_eq!(distance(b"pasphrase", b"passphrase"), 1);
         assert_eq!(distance(b"pashprase", b"passphrase"), 2);
         assert_eq!(distance(b"", b"abc"), 3);
+    }
+
+    #[test]
+    fn the_nearest_word_is_the_one_that_was_meant() {
+        let nearest = |word: &[u8]| super::nearest(word, ["Passphrase", "Type", "IPv4", "IPv6"].into_iter());
+        assert_eq!(nearest(b"Pasphrase"), Some("Passphrase"));
+        assert_eq!(nearest(b"pass-phrase"), Some("Passphrase"));
+        assert_eq!(nearest(b"type"), Some("Type"));
+        assert_eq!(nearest(b"Typ"), Some("Type"));
+        assert_eq!((nearest(b"Colour"), nearest(b"")), (None, None));
     }
 
     #[test]

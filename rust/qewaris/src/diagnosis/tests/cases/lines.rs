@@ -185,6 +185,12 @@ pub const CHECKS: &[Check] = &[
         "Description is no key of [service_a]; it belongs to [global]",
     ),
     (
+        Message::KeyOfPaper,
+        "a.open",
+        b"[IPv6]\nDNS=2001:db8::1\n",
+        "DNS is iwd's and not taken in [IPv6]; the keys of [IPv6] are Enabled",
+    ),
+    (
         Message::KeyOfDaemon,
         "a.psk",
         b"[Security]\nSAE-PT-Group19=00\n",
