@@ -9,3 +9,4 @@ pub mod TableHolds
 pub mod ExportsHold
 pub mod SuccessHolds
 pub mod PlacesHold
+pub mod Version

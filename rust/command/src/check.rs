@@ -1,100 +1,118 @@
 //! `qewaris check`: which files are good, and what is wrong with the others.
 
+use crate::advice::advice;
+use crate::arguments::{Check, Warnings};
 use crate::catalogue::{counted, Dialect};
 use crate::diagnosis::finding;
-use crate::input::{plainly, Input};
+use crate::forms::{self, State};
+use crate::input::Input;
+use crate::items::{Item, Tally};
 use crate::output::Output;
-use crate::report::{print_finding, shown_path};
-use crate::walk::{found_at, Found};
+use crate::report::{print_refused, print_warning, shown_path};
+use crate::walk;
+use crate::warnings::{self, Warning};
 use crate::Outcome;
 use std::io;
-use std::path::{Path, PathBuf};
+use std::path::Path;
 use std::time::{Duration, Instant};
 
 /// From so many files on, progress is shown and the summary comes in any case, both on a terminal only.
 const MANY: usize = 1000;
 
-/// How many files were what.
-#[derive(Default)]
-struct Counts {
-    good: usize,
-    refused: usize,
-    unreadable: usize,
-    skipped: usize,
-}
-
-impl Counts {
-    fn files(&self) -> usize {
-        self.good + self.refused + self.unreadable
+pub fn run(request: &Check, output: &mut Output) -> io::Result<Outcome> {
+    if request.quiet {
+        output.hush();
     }
-
-    fn outcome(&self) -> Outcome {
-        match (self.unreadable, self.refused) {
-            (0, 0) => Outcome::Good,
-            (0, _) => Outcome::Refused,
-            _ => Outcome::Unreadable,
-        }
-    }
-
-    fn summary(&self) -> String {
-        let Counts {
-            good,
-            refused,
-            unreadable,
-            skipped,
-        } = self;
-        format!("{good} good, {refused} refused, {unreadable} unreadable, {skipped} skipped")
-    }
-}
-
-pub fn run(paths: &[PathBuf], verbose: bool, output: &mut Output) -> io::Result<Outcome> {
-    let found: Vec<Found> = paths.iter().flat_map(|path| found_at(path)).collect();
-    let is_one_file = matches!((paths, found.as_slice()), ([path], [only]) if path == only.path());
-    let mut counts = Counts::default();
-    let mut progress = Progress::new(found.len());
-    for item in &found {
+    let found = walk::found(&request.sources);
+    let (count, is_one_file) = (found.len(), is_one_file(request, &found));
+    let mut tally = Tally::default();
+    let mut progress = Progress::new(count);
+    for item in found {
         progress.step(output)?;
-        match item {
-            Found::File(path) => judge(path, verbose, &mut counts, output)?,
-            Found::Skipped(path, reason) => {
-                counts.skipped += 1;
-                output.line(&format!("{}: skipped: {reason}", shown_path(path)))?;
-            }
-            Found::Unreadable(path, error) => unreadable(path, error, &mut counts, output)?,
-        }
+        judge(Item::of(item, "check"), request, &mut tally, output)?;
     }
-    let is_watched = output.is_terminal() && found.len() >= MANY;
-    let is_told = verbose || counts.good < counts.files() || counts.skipped > 0 || is_watched;
-    if counts.files() == 0 {
-        output.line("no iwd or ConnMan file was found")?;
-    } else if is_told && !is_one_file {
-        output.line(&counts.summary())?;
+    if request.json {
+        output.line(&forms::counts("check", &tally).to_string())?;
+    } else if !is_one_file && tally.files() > 0 {
+        let is_watched = output.is_terminal() && count >= MANY;
+        summarize(&tally, request.verbose || is_watched, request.verbose, output)?;
     }
-    Ok(counts.outcome())
+    tally.name_failed(output)?;
+    Ok(tally.outcome())
 }
 
-fn judge(path: &Path, verbose: bool, counts: &mut Counts, output: &mut Output) -> io::Result<()> {
-    let input = match Input::read(path) {
-        Ok(input) => input,
-        Err(error) => return unreadable(path, &error, counts, output),
-    };
-    match input.check() {
-        Ok(has) => {
-            counts.good += 1;
-            if verbose {
-                output.line(&format!("{}: good, {}", shown_path(path), told(&has, &input)))?;
+/// Whether a single file was named, or a folder that has none, so that no summary is needed.
+fn is_one_file(request: &Check, found: &[walk::Found]) -> bool {
+    match (request.sources.paths.as_slice(), found) {
+        ([_], [walk::Found::Empty(_)]) => true,
+        ([path], [_]) => !path.is_dir(),
+        _ => false,
+    }
+}
+
+fn judge(item: Item, request: &Check, tally: &mut Tally, output: &mut Output) -> io::Result<()> {
+    match item {
+        Item::Read(input) => match input.check() {
+            Ok(has) => good(&input, &has, request, tally, output),
+            Err(refusal) => {
+                tally.refuse(&input.path);
+                let found = finding(&input.subject(), &refusal);
+                if request.json {
+                    return print_form(State::Refused(&found, advice(&input, &found)), &input.path, output);
+                }
+                print_refused(output, &input, &found)
             }
-            Ok(())
+        },
+        Item::Skipped(path, reason) => {
+            tally.skip(reason);
+            if request.json {
+                print_form(State::Skipped(reason.sentence()), &path, output)
+            } else if request.verbose {
+                output.line(&format!("{}: skipped: {}", shown_path(&path), reason.sentence()))
+            } else {
+                Ok(())
+            }
         }
-        Err(refusal) => {
-            counts.refused += 1;
-            print_finding(output, path, &finding(&input.subject(), &refusal))
+        Item::Failed(path, sentence) | Item::Empty(path, sentence) => {
+            tally.lose(&path);
+            if request.json {
+                print_form(State::Unreadable(&sentence), &path, output)?;
+            }
+            output.error(&sentence)
         }
+    }
+}
+
+fn print_form(state: State<'_>, path: &Path, output: &mut Output) -> io::Result<()> {
+    output.line(&forms::file("check", path, &state, &[]).to_string())
+}
+
+fn good(input: &Input, has: &qewaris::Counts, request: &Check, tally: &mut Tally, output: &mut Output) -> io::Result<()> {
+    let warnings = told(input, request.warnings);
+    tally.good += 1;
+    tally.warn(&input.path, warnings.len(), request.warnings == Warnings::Strict);
+    if request.json {
+        return output.line(&forms::file("check", &input.path, &State::Good(has), &warnings).to_string());
+    }
+    for warning in &warnings {
+        print_warning(output, &input.path, warning)?;
+    }
+    if request.verbose {
+        output.line(&format!("{}: good, {}", shown_path(&input.path), counts_of(has, input)))?;
+    }
+    Ok(())
+}
+
+/// The warnings about a file as it stands that are to be told.
+pub fn told(input: &Input, warnings: Warnings) -> Vec<Warning> {
+    match warnings {
+        Warnings::Silent => Vec::new(),
+        Warnings::Told | Warnings::Strict => warnings::of_file(input),
     }
 }
 
 /// What an accepted file has, in words.
-fn told(has: &qewaris::Counts, input: &Input) -> String {
+fn counts_of(has: &qewaris::Counts, input: &Input) -> String {
     let settings = counted(has.settings, "setting");
     match input.dialect() {
         Dialect::Iwd => settings,
@@ -102,9 +120,20 @@ fn told(has: &qewaris::Counts, input: &Input) -> String {
     }
 }
 
-fn unreadable(path: &Path, error: &io::Error, counts: &mut Counts, output: &mut Output) -> io::Result<()> {
-    counts.unreadable += 1;
-    output.error(&format!("{} cannot be read: {}", shown_path(path), plainly(error)))
+/// Prints what came of all files, where something is to be told.
+fn summarize(tally: &Tally, always: bool, verbose: bool, output: &mut Output) -> io::Result<()> {
+    if tally.skipped() > 0 && !verbose {
+        output.line(&tally.skipped_line())?;
+    }
+    if tally.warnings > 0 {
+        let (warnings, files) = (counted(tally.warnings, "warning"), counted(tally.warned, "file"));
+        output.line(&format!("{warnings}, in {files}; qewaris explain WORD tells more"))?;
+    }
+    let has_more = tally.good < tally.files() || tally.skipped() > 0 || tally.warnings > 0;
+    if always || has_more {
+        output.line(&tally.summary())?;
+    }
+    Ok(())
 }
 
 /// Tells how far the check is, where there are many files, a few times in a second.

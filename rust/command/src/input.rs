@@ -2,17 +2,20 @@
 
 use crate::catalogue::Dialect;
 use crate::diagnosis::Subject;
+use crate::report::shown_path;
 use std::ffi::OsStr;
 use std::fs::File;
 use std::io::{self, Read};
 use std::os::unix::ffi::OsStrExt;
-use std::path::Path;
+use std::path::{Path, PathBuf};
 
 /// The library refuses every file that is longer, whatever it holds.
 const SIZE_MAX: u64 = 16_384;
 
 /// A file as it was read. Of one that is too long only the front is kept, which is too long as well.
 pub struct Input {
+    /// The path that it was read from, or the name that standard input was given.
+    pub path: PathBuf,
     pub name: Vec<u8>,
     pub bytes: Vec<u8>,
     /// Its whole size, where the front was kept and the size is known.
@@ -26,14 +29,34 @@ impl Input {
         if about.is_dir() {
             return Err(io::Error::from(io::ErrorKind::IsADirectory));
         }
-        let mut bytes = Vec::new();
-        file.take(SIZE_MAX + 1).read_to_end(&mut bytes)?;
-        let is_long = bytes.len() as u64 > SIZE_MAX && about.len() > SIZE_MAX;
+        let input = Input::from(path, file)?;
+        let is_long = input.bytes.len() as u64 > SIZE_MAX && about.len() > SIZE_MAX;
         Ok(Input {
-            name: path.file_name().map(OsStr::as_bytes).unwrap_or_default().to_vec(),
-            bytes,
             size: is_long.then_some(about.len()),
+            ..input
         })
+    }
+
+    /// Standard input, under a name.
+    pub fn standard(name: &Path) -> io::Result<Input> {
+        Input::from(name, io::stdin().lock())
+    }
+
+    fn from(path: &Path, bytes: impl Read) -> io::Result<Input> {
+        let mut input = Input::held(path, b"");
+        bytes.take(SIZE_MAX + 1).read_to_end(&mut input.bytes)?;
+        Ok(input)
+    }
+
+    /// A file that was not read from anywhere.
+    pub fn held(path: impl AsRef<Path>, bytes: &[u8]) -> Input {
+        let path = path.as_ref();
+        Input {
+            path: path.to_path_buf(),
+            name: path.file_name().map(OsStr::as_bytes).unwrap_or_default().to_vec(),
+            bytes: bytes.to_vec(),
+            size: None,
+        }
     }
 
     pub fn dialect(&self) -> Dialect {
@@ -54,6 +77,11 @@ impl Input {
             ..Subject::new(&self.name, &self.bytes)
         }
     }
+}
+
+/// That a file could not be read, and why.
+pub fn unreadable(path: &Path, error: &io::Error) -> String {
+    format!("{} cannot be read: {}", shown_path(path), plainly(error))
 }
 
 /// Why something could not be done, in plain words.

@@ -1,4 +1,4 @@
-//! JSON as it is written: ASCII only, so that it is valid for any text and harms no terminal.
+//! JSON as it is written: on one line, and ASCII only, so that it is valid for any text and harms no terminal.
 
 use std::fmt::{self, Write};
 
@@ -28,36 +28,11 @@ impl Json {
     pub fn object<const N: usize>(named: [(&str, Json); N]) -> Json {
         Json::Object(members(named))
     }
+}
 
-    fn write(&self, f: &mut fmt::Formatter<'_>, depth: usize) -> fmt::Result {
-        match self {
-            Json::Null => f.write_str("null"),
-            Json::Bool(value) => write!(f, "{value}"),
-            Json::Number(value) => write!(f, "{value}"),
-            Json::Text(text) => write_text(f, text),
-            Json::List(items) if items.is_empty() => f.write_str("[]"),
-            Json::List(items) => {
-                f.write_char('[')?;
-                for (place, item) in items.iter().enumerate() {
-                    new_line(f, place > 0, depth + 1)?;
-                    item.write(f, depth + 1)?;
-                }
-                new_line(f, false, depth)?;
-                f.write_char(']')
-            }
-            Json::Object(members) => {
-                f.write_char('{')?;
-                for (place, (name, value)) in members.iter().enumerate() {
-                    new_line(f, place > 0, depth + 1)?;
-                    write_text(f, name)?;
-                    f.write_str(": ")?;
-                    value.write(f, depth + 1)?;
-                }
-                new_line(f, false, depth)?;
-                f.write_char('}')
-            }
-        }
-    }
+/// A number, or null where there is none.
+pub fn number(number: Option<usize>) -> Json {
+    number.map_or(Json::Null, Json::Number)
 }
 
 /// Text, or null where there is none.
@@ -69,13 +44,29 @@ impl<T: ToString> From<Option<T>> for Json {
 
 impl fmt::Display for Json {
     fn fmt(&self, f: &mut fmt::Formatter<'_>) -> fmt::Result {
-        self.write(f, 0)
+        match self {
+            Json::Null => f.write_str("null"),
+            Json::Bool(value) => write!(f, "{value}"),
+            Json::Number(value) => write!(f, "{value}"),
+            Json::Text(text) => write_text(f, text),
+            Json::List(items) => {
+                f.write_char('[')?;
+                for (place, item) in items.iter().enumerate() {
+                    write!(f, "{}{item}", if place > 0 { "," } else { "" })?;
+                }
+                f.write_char(']')
+            }
+            Json::Object(members) => {
+                f.write_char('{')?;
+                for (place, (name, value)) in members.iter().enumerate() {
+                    f.write_str(if place > 0 { "," } else { "" })?;
+                    write_text(f, name)?;
+                    write!(f, ":{value}")?;
+                }
+                f.write_char('}')
+            }
+        }
     }
-}
-
-fn new_line(f: &mut fmt::Formatter<'_>, comma: bool, depth: usize) -> fmt::Result {
-    let comma = if comma { "," } else { "" };
-    write!(f, "{comma}\n{}", "  ".repeat(depth))
 }
 
 fn write_text(f: &mut fmt::Formatter<'_>, text: &str) -> fmt::Result {
@@ -106,7 +97,7 @@ mod tests {
     #[test]
     fn members_keep_their_order() {
         let object = Json::object([("b", Json::List(vec![Json::Number(1), Json::Null])), ("a", Json::Bool(true))]);
-        assert_eq!(object.to_string(), "{\n  \"b\": [\n    1,\n    null\n  ],\n  \"a\": true\n}");
+        assert_eq!(object.to_string(), "{\"b\":[1,null],\"a\":true}");
         assert_eq!(Json::List(Vec::new()).to_string(), "[]");
     }
 }

@@ -1,8 +1,14 @@
-//! A finding as it is printed: file, line, sentence and number, then the line itself with a caret under the place.
+//! A finding as it is printed: file, line, sentence and number, then the line itself with a caret under the place. A warning is
+//! printed in the same form, with its word, and without the line.
 
+use crate::advice::advice;
 use crate::diagnosis::{Excerpt, Finding};
+use crate::input::Input;
 use crate::output::{Output, Style};
+use crate::secrets::swallowed;
 use crate::visible::{visible, Piece};
+use crate::warnings::Warning;
+use std::ffi::OsStr;
 use std::io;
 use std::os::unix::ffi::OsStrExt;
 use std::path::Path;
@@ -13,24 +19,68 @@ const COLUMNS: usize = 120;
 /// Stands for what is cut off a long line.
 const CUT: &str = "[cut]";
 
-/// A path as it is printed.
+/// Stands for what is hidden, where its length is not to be told either.
+pub const HIDDEN: &str = "[hidden]";
+
+/// A path as it is printed. A file name whose hex is a text that swallowed a passphrase is hidden.
 pub fn shown_path(path: &Path) -> String {
-    visible(path.as_os_str().as_bytes())
+    let name = path.file_name().map(OsStr::as_bytes).unwrap_or_default();
+    match (is_telling_name(name), path.parent()) {
+        (true, Some(folder)) => visible(folder.join(HIDDEN).as_os_str().as_bytes()),
+        _ => visible(path.as_os_str().as_bytes()),
+    }
+}
+
+/// Whether a file name is the hex of a text that seems to have swallowed a line.
+pub fn is_telling_name(name: &[u8]) -> bool {
+    let stem = name.split(|byte| *byte == b'.').next().unwrap_or_default();
+    let digit = |byte: u8| char::from(byte).to_digit(16).and_then(|digit| u8::try_from(digit).ok());
+    let hex = stem.strip_prefix(b"=").unwrap_or_default();
+    let decoded: Option<Vec<u8>> = hex
+        .chunks_exact(2)
+        .map(|pair| Some(digit(pair[0])? * 16 + digit(pair[1])?))
+        .collect();
+    decoded.is_some_and(|text| swallowed(&text).is_some())
+}
+
+/// A file and a line of it, as they stand before what is found there.
+fn place(path: &Path, line: Option<usize>) -> String {
+    match line {
+        Some(line) => format!("{}:{line}:", shown_path(path)),
+        None => format!("{}:", shown_path(path)),
+    }
+}
+
+/// Prints why a file is refused, and what to do about it where there is more to tell.
+pub fn print_refused(output: &mut Output, input: &Input, finding: &Finding) -> io::Result<()> {
+    print_finding(output, &input.path, finding)?;
+    match advice(input, finding) {
+        Some(advice) => output.line(&format!("    {advice}")),
+        None => Ok(()),
+    }
 }
 
 /// Prints a finding about a file.
 pub fn print_finding(output: &mut Output, path: &Path, finding: &Finding) -> io::Result<()> {
-    let place = match finding.line {
-        Some(line) => format!("{}:{line}:", shown_path(path)),
-        None => format!("{}:", shown_path(path)),
-    };
-    let head = output.styled(Style::Bold, &place);
-    let error = output.styled(Style::Error, "error:");
-    output.line(&format!("{head} {error} {} [{}]", finding.sentence, finding.number))?;
+    print_labelled(output, path, finding, "error:")
+}
+
+/// Prints a finding under a label of its own.
+pub fn print_labelled(output: &mut Output, path: &Path, finding: &Finding, label: &str) -> io::Result<()> {
+    let head = output.styled(Style::Bold, &place(path, finding.line));
+    let label = output.styled(Style::Error, label);
+    output.line(&format!("{head} {label} {} [{}]", finding.sentence, finding.number))?;
     match &finding.excerpt {
         Some(excerpt) => print_excerpt(output, excerpt),
         None => Ok(()),
     }
+}
+
+/// Prints a warning about a file.
+pub fn print_warning(output: &mut Output, path: &Path, warning: &Warning) -> io::Result<()> {
+    let head = output.styled(Style::Bold, &place(path, warning.line));
+    let label = output.styled(Style::Warning, "warning:");
+    output.line(&format!("{head} {label} {} [{}]", warning.sentence, warning.word.row().name))
 }
 
 fn print_excerpt(output: &mut Output, excerpt: &Excerpt) -> io::Result<()> {

@@ -5,6 +5,8 @@
 //! sentence. What they answer is proved of the library behind this crate, a static archive that the build finds or makes; this
 //! crate only gives it safe types. A file is given whole, under its name without a folder.
 //!
+//! For people, [`diagnosis`] tells of a refusal what was found and what is allowed, and which part of the line may be shown.
+//!
 //! ```
 //! let file = b"[service_till]\nType = wifi\nName = Desk 4\nPassphrase = low tide 88\n";
 //! let record = qewaris::service_record(b"shop.config", file, 1)?;
@@ -21,13 +23,19 @@
 //! # Ok::<(), qewaris::Refusal>(())
 //! ```
 
+pub mod catalogue;
+pub mod diagnosis;
 mod files;
+pub mod layout;
+mod messages;
 pub mod raw;
 mod reading;
 mod record;
 mod refusal;
+pub mod secrets;
 mod settings;
 mod strings;
+pub mod visible;
 
 pub use files::{move_service, move_service_into, write_iwd, write_iwd_into, IwdFile, Written, FILE_MAX, NAME_MAX};
 pub use reading::{check_connman, check_iwd, Counts};

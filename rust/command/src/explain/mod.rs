@@ -1,12 +1,16 @@
-//! `qewaris explain`: what a refusal means, an example that earns it, and what to do.
+//! `qewaris explain`: what a refusal or a warning means, an example that earns it, and what to do.
 
 mod explanations;
+mod form;
 #[cfg(test)]
 mod tests;
 
+use crate::arguments::{About, Explain};
 use crate::diagnosis::{finding, Subject};
+use crate::input::Input;
 use crate::output::{Output, Style};
 use crate::visible::visible;
+use crate::warnings::{found_in, Row, TABLE};
 use crate::Outcome;
 use explanations::EXPLANATIONS;
 use qewaris::{JoinRecord, Refusal};
@@ -51,20 +55,62 @@ impl Example {
     }
 }
 
-pub fn run(number: Option<u8>, output: &mut Output) -> io::Result<Outcome> {
-    match number {
-        None => {
-            for (place, explanation) in EXPLANATIONS.iter().enumerate() {
-                output.line(&format!("{:>2}  {}", place + 1, explanation.title))?;
-            }
+pub fn run(request: &Explain, output: &mut Output) -> io::Result<Outcome> {
+    let numbered = || (1..).zip(&EXPLANATIONS);
+    match request.about {
+        About::All if request.json => {
+            numbered().try_for_each(|(number, explanation)| output.line(&form::refusal(number, explanation)))?;
+            TABLE.iter().try_for_each(|row| output.line(&form::warning(row)))?;
         }
-        Some(number) => {
+        About::All => {
+            numbered().try_for_each(|(number, explanation)| output.line(&format!("{number:>2}  {}", explanation.title)))?;
+            TABLE
+                .iter()
+                .try_for_each(|row| output.line(&format!("{:26}{}", row.name, row.title)))?;
+        }
+        About::Refusal(number) => {
             if let Some(explanation) = EXPLANATIONS.get(usize::from(number).wrapping_sub(1)) {
-                print(number, explanation, output)?;
+                match request.json {
+                    true => output.line(&form::refusal(number, explanation))?,
+                    false => print(number, explanation, output)?,
+                }
             }
         }
+        About::Warning(word) if request.json => output.line(&form::warning(word.row()))?,
+        About::Warning(word) => print_warning(word.row(), output)?,
     }
     Ok(Outcome::Good)
+}
+
+/// Explains a warning: what it means, a file that earns it where one does, what to do, and where the fact comes from.
+fn print_warning(row: &Row, output: &mut Output) -> io::Result<()> {
+    let title = output.styled(Style::Bold, &format!("{}: {}", row.name, row.title));
+    output.line(&format!("{title}\n\n{}\n", wrapped(row.meaning)))?;
+    if let Some((name, file)) = row.example {
+        print_file(name, file, &format!("{name}:"), output)?;
+        for warning in found_in(&Input::held(name, file)) {
+            let line = warning.line.map_or(String::new(), |line| format!("line {line}: "));
+            output.line(&wrapped(&format!("This is warned of: {line}{} [{}]", warning.sentence, row.name)))?;
+        }
+        output.line("")?;
+    }
+    for (heading, text) in [("What to do", row.remedy), ("Where this comes from", row.source)] {
+        let heading = output.styled(Style::Bold, heading);
+        output.line(&format!("{heading}\n{}", wrapped(text)))?;
+    }
+    Ok(())
+}
+
+/// Prints a file of an example.
+fn print_file(name: &str, file: &[u8], told: &str, output: &mut Output) -> io::Result<()> {
+    let heading = output.styled(Style::Bold, "Example");
+    let told = if file.is_empty() && !name.is_empty() {
+        format!("{name}, a file of no bytes:")
+    } else {
+        told.to_string()
+    };
+    output.line(&format!("{heading}\n{told}"))?;
+    crate::layout::lines(file).try_for_each(|line| output.line(&format!("    {}", visible(line))))
 }
 
 fn print(number: u8, explanation: &Explanation, output: &mut Output) -> io::Result<()> {
@@ -94,9 +140,7 @@ fn wrapped(text: &str) -> String {
 }
 
 fn print_example(example: &Example, output: &mut Output) -> io::Result<()> {
-    let heading = output.styled(Style::Bold, "Example");
     let (name, file, told) = match example {
-        Example::File(name, b"") => (*name, &b""[..], format!("{name}, a file of no bytes:")),
         Example::File(name, file) => (*name, *file, format!("{name}:")),
         Example::Long(name, line, count) => (*name, *line, format!("{name}, a file with this line {count} times:")),
         Example::Move(name, file, service) => (*name, *file, format!("{name}, of which service {service} is to move:")),
@@ -113,10 +157,7 @@ fn print_example(example: &Example, output: &mut Output) -> io::Result<()> {
             ("", &b""[..], told)
         }
     };
-    output.line(&format!("{heading}\n{told}"))?;
-    for line in crate::layout::lines(file) {
-        output.line(&format!("    {}", visible(line)))?;
-    }
+    print_file(name, file, &told, output)?;
     if let Some(refusal) = example.refusal() {
         let subject = Subject {
             service: if let Example::Move(_, _, service) = example {

@@ -1,104 +1,77 @@
-//! The JSON that programs read. The man page tells its form, and `format` is raised when that changes.
+//! What a file holds, as JSON.
 
-use super::settings::{hex, Group};
+use super::settings::Group;
 use super::value::Hiding;
-use super::{Service, Shown};
+use super::{Shown, ShownService};
 use crate::catalogue::Dialect;
-use crate::diagnosis::Finding;
-use crate::json::{members, Json, Members};
-use qewaris::{Credential, Ipv4, Ipv6, JoinRecord};
+use crate::forms::{self, bytes_members, hex, path_members, Contents, State};
+use crate::json::{members, Json};
+use qewaris::{Credential, Ipv4, JoinRecord};
+use std::ffi::OsStr;
 use std::os::unix::ffi::OsStrExt;
 use std::path::Path;
 
-const FORMAT: usize = 1;
-
 pub fn json(shown: &Shown<'_>) -> Json {
-    let mut members = head(shown.path, shown.dialect);
-    let mut add = |name: &str, value: Json| members.push((name.to_string(), value));
-    add("refusal", Json::Null);
-    add("setting_count", Json::Number(shown.counts.settings));
-    match shown.dialect {
+    let hiding = &shown.hiding;
+    let contents = match shown.dialect {
         Dialect::Iwd => {
-            let groups = shown
-                .groups
-                .iter()
-                .map(|group| (group.name.to_string(), rows(group, &shown.hiding)));
-            add("settings", Json::Object(groups.collect()));
-            add(
-                "record",
-                shown.record.as_ref().map_or(Json::Null, |found| record(found, &shown.hiding)),
-            );
-        }
-        Dialect::Connman => {
-            add("service_count", Json::Number(shown.counts.services));
-            for group in &shown.groups {
-                add(group.name, rows(group, &shown.hiding));
+            let groups = shown.groups.iter().map(|group| (group.name.to_string(), rows(group, hiding)));
+            Contents {
+                settings: Json::Object(groups.collect()),
+                record: shown.record.as_ref().map_or(Json::Null, |found| record(found, hiding)),
+                ..Contents::NONE
             }
-            let services = shown.services.iter().map(|found| service(found, &shown.hiding));
-            add("services", Json::List(services.collect()));
         }
-    }
-    Json::Object(members)
-}
-
-/// What the JSON of every file begins with.
-pub fn head(path: &Path, dialect: Dialect) -> Members {
-    let path = path.as_os_str().as_bytes();
-    let kind = match dialect {
-        Dialect::Iwd => "iwd",
-        Dialect::Connman => "connman",
+        Dialect::Connman => Contents {
+            global: shown.groups.first().map_or(Json::Null, |group| rows(group, hiding)),
+            services: Json::List(shown.services.iter().map(|found| service(found, hiding)).collect()),
+            ..Contents::NONE
+        },
     };
-    members([
-        ("format", Json::Number(FORMAT)),
-        ("file", utf8(path)),
-        ("file_hex", Json::text(hex(path))),
-        ("kind", Json::text(kind)),
-    ])
-}
-
-pub fn refusal(finding: &Finding) -> Json {
-    Json::object([
-        ("number", Json::Number(finding.number.into())),
-        ("line", finding.line.map_or(Json::Null, Json::Number)),
-        ("sentence", Json::text(&finding.sentence)),
-    ])
-}
-
-/// Bytes as text; null where they are not UTF-8, and only their hex tells them.
-fn utf8(bytes: &[u8]) -> Json {
-    Json::from(std::str::from_utf8(bytes).ok())
+    forms::file_with("show", shown.path, &State::Good(&shown.counts), &shown.warnings, contents)
 }
 
 fn rows(group: &Group, hiding: &Hiding) -> Json {
     Json::Object(group.rows.iter().flat_map(|(key, value)| value.members(key, hiding)).collect())
 }
 
-fn service(service: &Service, hiding: &Hiding) -> Json {
+fn service(shown: &ShownService, hiding: &Hiding) -> Json {
+    let service = &shown.service;
     let (found, refused) = match &service.record {
         Ok(found) => (record(found, hiding), Json::Null),
-        Err(finding) => (Json::Null, refusal(finding)),
+        Err(finding) => (Json::Null, forms::refusal(finding, None)),
     };
-    Json::object([
+    let mut form = members([
         ("number", Json::Number(service.number)),
         ("group", Json::text(&service.group)),
         ("line", Json::Number(service.line)),
-        ("settings", rows(&service.settings, hiding)),
+        ("settings", rows(&shown.settings, hiding)),
         ("record", found),
         ("record_refusal", refused),
-    ])
+        ("moves", Json::Bool(service.moved.is_ok())),
+        (
+            "move_refusals",
+            forms::refusals(service.moved.as_ref().err().map_or(&[], Vec::as_slice)),
+        ),
+    ]);
+    let name = service.moved.as_ref().ok().map(|iwd| Path::new(OsStr::from_bytes(&iwd.name)));
+    form.extend(path_members("iwd_name", name));
+    Json::Object(form)
 }
 
 fn record(record: &JoinRecord, hiding: &Hiding) -> Json {
-    let (credential, passphrase, key) = match &record.credential {
-        Credential::None => ("none", None, None),
-        Credential::Passphrase(passphrase) => ("passphrase", Some(passphrase.clone()), None),
-        Credential::Key(key) => ("key", None, Some(hex(key).into_bytes())),
+    let credential = record.credential.word();
+    let (passphrase, key) = match &record.credential {
+        Credential::Passphrase(passphrase) => (Some(passphrase.clone()), None),
+        Credential::Key(key) => (None, Some(hex(key).into_bytes())),
+        _ => (None, None),
     };
-    let mut found = members([
-        ("name", utf8(&record.name)),
-        ("name_hex", Json::text(hex(&record.name))),
+    let is_hidden = hiding.hides(&record.name);
+    let mut found = bytes_members("name", Some(record.name.as_slice()).filter(|_| !is_hidden));
+    found.extend(members([
+        ("name_hidden", Json::Bool(is_hidden)),
         ("credential", Json::text(credential)),
-    ]);
+    ]));
     found.extend(hiding.secret_members("passphrase", passphrase.as_deref()));
     found.extend(hiding.secret_members("key", key.as_deref()));
     let servers = record.name_servers.iter().map(Json::text).collect();
@@ -108,12 +81,13 @@ fn record(record: &JoinRecord, hiding: &Hiding) -> Json {
         ("ipv4", ipv4(&record.ipv4)),
         ("name_servers", Json::List(servers)),
         ("domain", Json::from(domain)),
-        ("ipv6", Json::text(if record.ipv6 == Ipv6::Off { "off" } else { "auto" })),
+        ("ipv6", Json::text(record.ipv6.word())),
     ]));
     Json::Object(found)
 }
 
-fn ipv4(ipv4: &Ipv4) -> Json {
+/// How a till gets its address.
+pub fn ipv4(ipv4: &Ipv4) -> Json {
     let (method, fixed) = match ipv4 {
         Ipv4::Dhcp => ("dhcp", None),
         Ipv4::Off => ("off", None),

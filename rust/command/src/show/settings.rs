@@ -1,6 +1,7 @@
 //! The typed settings of the library as rows of key and value, by group.
 
 use super::value::Value;
+use crate::forms::hex;
 use qewaris::{Ipv4, Ipv6Method, Privacy, Refusal, Security, ServiceType, Text};
 use std::net::Ipv4Addr;
 
@@ -57,7 +58,7 @@ pub fn service(name: &[u8], file: &[u8], number: usize) -> Result<Group, Refusal
     let rows = vec![
         ("Type", word(network.service_type.map(type_word))),
         ("IPv4", Value::Plain(addressing.ipv4.map(ipv4))),
-        ("IPv6", word(addressing.ipv6.map(ipv6_word))),
+        ("IPv6", word(addressing.ipv6.map(Ipv6Method::word))),
         ("IPv6.Privacy", word(addressing.privacy.map(privacy_word))),
         ("MAC", Value::Plain(addressing.mac.map(mac))),
         ("Nameservers", addresses(&addressing.nameservers)),
@@ -65,7 +66,7 @@ pub fn service(name: &[u8], file: &[u8], number: usize) -> Result<Group, Refusal
         ("Timeservers", entries(&addressing.timeservers)),
         ("Domain", Value::Text(text(qewaris::service_domain(name, file, number)?))),
         ("Name", Value::Name(text(qewaris::service_name(name, file, number)?))),
-        ("SSID", Value::Plain(network.ssid.map(|ssid| hex(&ssid)))),
+        ("SSID", Value::Hex(network.ssid)),
         ("Passphrase", Value::Secret(text(qewaris::service_passphrase(name, file, number)?))),
         ("Security", word(network.security.map(security_word))),
         ("Hidden", Value::Flag(network.hidden)),
@@ -91,11 +92,6 @@ fn addresses(addresses: &[Ipv4Addr]) -> Value {
 
 fn mac(mac: [u8; 6]) -> String {
     mac.map(|byte| format!("{byte:02x}")).join(":")
-}
-
-/// Bytes in lower-case hex.
-pub fn hex(bytes: &[u8]) -> String {
-    bytes.iter().map(|byte| format!("{byte:02x}")).collect()
 }
 
 /// The mask of a length of 1 to 32.
@@ -129,13 +125,6 @@ fn security_word(word: Security) -> &'static str {
         Security::Ieee8021x => "ieee8021x",
         Security::None => "none",
         Security::Wep => "wep",
-    }
-}
-
-fn ipv6_word(word: Ipv6Method) -> &'static str {
-    match word {
-        Ipv6Method::Off => "off",
-        Ipv6Method::Auto => "auto",
     }
 }
 

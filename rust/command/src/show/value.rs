@@ -1,7 +1,9 @@
 //! A setting's value as it is shown: in a table, in JSON, and hidden where it is a secret.
 
+use crate::forms::hex;
 use crate::json::{members, Json, Members};
-use crate::secrets::mark;
+use crate::report::HIDDEN;
+use crate::secrets::{mark, swallowed};
 use crate::visible::{pieces, visible};
 
 /// What is hidden: nothing, or passphrases and keys and every text that holds one of these.
@@ -18,8 +20,10 @@ pub enum Value {
     /// Addresses; none where it is absent.
     List(Vec<String>),
     Text(Option<Vec<u8>>),
-    /// The name of a network, which is no secret: it is on the air.
+    /// The name of a network, which is no secret, since it is on the air, unless it swallowed the next line.
     Name(Option<Vec<u8>>),
+    /// The same in hex.
+    Hex(Option<Vec<u8>>),
     /// Texts; none where it is absent.
     Texts(Vec<Vec<u8>>),
     Secret(Option<Vec<u8>>),
@@ -33,7 +37,9 @@ impl Value {
             Value::Plain(text) => text.clone(),
             Value::List(items) => (!items.is_empty()).then(|| items.join(", ")),
             Value::Text(text) => text.as_ref().map(|text| hiding.text(text)),
-            Value::Name(name) => name.as_deref().map(visible),
+            Value::Name(name) => name.as_deref().map(|name| hiding.name(name)),
+            Value::Hex(name) if name.as_deref().is_some_and(|name| hiding.hides(name)) => Some(HIDDEN.to_string()),
+            Value::Hex(name) => name.as_deref().map(hex),
             Value::Texts(texts) => {
                 let texts: Vec<String> = texts.iter().map(|text| hiding.text(text)).collect();
                 (!texts.is_empty()).then(|| texts.join(", "))
@@ -50,7 +56,8 @@ impl Value {
             Value::List(items) if items.is_empty() => Json::Null,
             Value::List(items) => Json::List(items.iter().map(Json::text).collect()),
             Value::Text(text) => Json::from(text.as_ref().map(|text| hiding.masked(text))),
-            Value::Name(name) => Json::from(name.as_deref().map(String::from_utf8_lossy)),
+            Value::Name(name) => Json::from(name.as_deref().filter(|name| !hiding.hides(name)).map(String::from_utf8_lossy)),
+            Value::Hex(name) => Json::from(name.as_deref().filter(|name| !hiding.hides(name)).map(hex)),
             Value::Texts(texts) if texts.is_empty() => Json::Null,
             Value::Texts(texts) => Json::List(texts.iter().map(|text| Json::text(hiding.masked(text))).collect()),
             Value::Secret(secret) => return hiding.secret_members(key, secret.as_deref()),
@@ -63,6 +70,20 @@ impl Hiding {
     /// A text for a terminal, with dots for the secrets that stand in it.
     pub fn text(&self, text: &[u8]) -> String {
         pieces(text, &self.marks(text)).into_iter().map(|piece| piece.text).collect()
+    }
+
+    /// Whether the name of a network is hidden.
+    pub fn hides(&self, name: &[u8]) -> bool {
+        matches!(self, Hiding::Secrets(_)) && swallowed(name).is_some()
+    }
+
+    /// The name of a network for a terminal.
+    pub fn name(&self, name: &[u8]) -> String {
+        if self.hides(name) {
+            HIDDEN.to_string()
+        } else {
+            visible(name)
+        }
     }
 
     /// A secret for a terminal.
@@ -80,14 +101,17 @@ impl Hiding {
         members([(key, Json::from(shown)), (&format!("{key}_hidden"), Json::Bool(is_hidden))])
     }
 
-    /// A text with dots for the secrets that stand in it.
+    /// A text with the secrets that stand in it left out, without their lengths.
     pub fn masked(&self, text: &[u8]) -> String {
         let marks = self.marks(text);
-        let bytes: Vec<u8> = text
-            .iter()
-            .zip(&marks)
-            .map(|(byte, hidden)| if *hidden { b'.' } else { *byte })
-            .collect();
+        let mut bytes = Vec::new();
+        for (place, byte) in text.iter().enumerate() {
+            match (marks[place], place > 0 && marks[place - 1]) {
+                (false, _) => bytes.push(*byte),
+                (true, false) => bytes.extend(HIDDEN.as_bytes()),
+                (true, true) => {}
+            }
+        }
         String::from_utf8_lossy(&bytes).into_owned()
     }
 

@@ -42,7 +42,9 @@ fn several_files_end_with_a_summary() {
     folder.write("Desk.psk", "");
     let run = folder.run(&["check", "shop.config", "Desk.psk", "Gone.psk"]);
     assert_eq!(run.code, Some(2));
-    assert_eq!(run.err, "qewaris: Gone.psk cannot be read: there is no such file or folder\n");
+    let told = "qewaris: Gone.psk cannot be read: there is no such file or folder\n\
+                qewaris: 2 of 3 files did not pass: Desk.psk, Gone.psk\n";
+    assert_eq!(run.err, told);
     assert!(
         run.out.ends_with("[14]\n1 good, 1 refused, 1 unreadable, 0 skipped\n"),
         "{}",
@@ -60,9 +62,13 @@ fn a_missing_file_is_an_error() {
     folder.write("a", "");
     let told = "qewaris: a/shop.config cannot be read: a part of its path is no folder\n";
     folder.run(&["check", "a/shop.config"]).gives(2, "", told);
-    folder
-        .run(&["show", "."])
-        .gives(2, "", "qewaris: . cannot be read: it is a folder\n");
+    fs::create_dir(folder.path().join("empty")).unwrap();
+    for command in ["check", "show", "move"] {
+        let told = format!("qewaris: empty has no iwd or ConnMan file in it: nothing to {command}\n");
+        let run = folder.run(&[command, "empty"]);
+        assert!(run.err.starts_with(&told), "{}", run.err);
+        assert_eq!((run.code, run.out.as_str()), (Some(2), ""));
+    }
 }
 
 #[test]
@@ -122,7 +128,7 @@ fn a_name_that_is_no_utf8_works() {
     folder.write(OsStr::from_bytes(name), DESK);
     let run = folder.run_bytes(&[b"check", name]);
     let told = "caf\\xe9\\x1b.psk: error: The network name has byte 233 in it; \
-                only letters, digits, space, _ and - stand plainly, other names are = and hex [2]\n";
+                only letters, digits, space, _ and - stand plainly, other names are = and hex [2]\n    The right name is =636166e91b.psk\n";
     run.gives(1, told, "");
     let run = folder.run_bytes(&[b"check", b"gone\xff.psk"]);
     run.gives(2, "", "qewaris: gone\\xff.psk cannot be read: there is no such file or folder\n");
@@ -132,7 +138,7 @@ fn a_name_that_is_no_utf8_works() {
     let run = folder.run_bytes(&[b"show", b"--json", b"f\xffg/Desk.psk"]);
     assert_eq!(run.code, Some(1));
     assert!(
-        run.out.contains("\"file\": null,\n  \"file_hex\": \"66ff672f4465736b2e70736b\","),
+        run.out.contains("\"file\":null,\"file_hex\":\"66ff672f4465736b2e70736b\","),
         "{}",
         run.out
     );

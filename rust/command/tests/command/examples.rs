@@ -53,7 +53,8 @@ fn each_example_is_answered_as_its_table_says() {
 fn each_example_stands_in_the_table() {
     let listed: BTreeSet<String> = rows().into_iter().map(|row| row.3).collect();
     let mut found = BTreeSet::new();
-    for part in names_in(&examples()) {
+    // The forty stand by themselves: list.rs has what is printed of them.
+    for part in names_in(&examples()).into_iter().filter(|part| part != "forty") {
         found.extend(names_in(&examples().join(&part)).into_iter().map(|name| format!("{part}/{name}")));
     }
     assert_eq!(found, listed);
@@ -68,7 +69,7 @@ fn every_refusal_of_a_file_has_an_example() {
 #[test]
 fn the_good_ones_are_passed_in_silence() {
     run(&["check", "good"]).gives(0, "", "");
-    let all = run(&["check", "."]);
+    let all = run(&["check", "good", "broken", "unmovable"]);
     assert_eq!(all.code, Some(1));
     let good = rows().iter().filter(|row| !row.0 && row.1 == 0).count();
     let bad = rows().iter().filter(|row| !row.0 && row.1 > 0).count();

@@ -19,16 +19,22 @@ fn a_folder_of_good_files_is_passed_in_silence() {
 }
 
 #[test]
-fn other_files_are_named_as_skipped() {
+fn other_files_are_skipped_in_one_line_and_named_where_asked() {
     let folder = Folder::new("skipped");
     folder.write("a/shop.config", SHOP);
     folder.write("a/notes.txt", "");
     folder.write("a/shop.config~", "");
     folder.write("a/Head office.8021x", "");
     folder.write("a/.git/config", "");
-    let told = "a/.git: skipped: a hidden folder\na/Head office.8021x: skipped: 802.1X files are not checked\n\
-                a/notes.txt: skipped: not an iwd or ConnMan file\na/shop.config~: skipped: not an iwd or ConnMan file\n\
-                1 good, 0 refused, 0 unreadable, 4 skipped\n";
+    folder.write("a/._shop.config", "");
+    let told = "a/._shop.config: skipped: a note that a Mac keeps beside a file\na/.git: skipped: a hidden folder\n\
+                a/Head office.8021x: skipped: 802.1X files are not checked\n\
+                a/notes.txt: skipped: not an iwd or ConnMan file\na/shop.config: good, 7 settings, 1 service\n\
+                a/shop.config~: skipped: not an iwd or ConnMan file\n\
+                1 good, 0 refused, 0 unreadable, 5 skipped\n";
+    folder.run(&["check", "-v", "a"]).gives(0, told, "");
+    let told = "skipped: 2 other files, 1 802.1X file, 1 hidden folder, 1 Mac note; --verbose names each\n\
+                1 good, 0 refused, 0 unreadable, 5 skipped\n";
     folder.run(&["check", "a"]).gives(0, told, "");
 }
 
@@ -36,15 +42,22 @@ fn other_files_are_named_as_skipped() {
 fn a_misspelled_suffix_is_judged_and_not_passed_over() {
     let folder = Folder::new("suffix");
     folder.write("a/Desk.PSK", DESK);
-    let told = "a/Desk.PSK: error: The file name ends in .PSK; it must end in .psk, in lower case [2]\n\
+    let told = "a/Desk.PSK: error: The file name ends in .PSK; it must end in .psk, in lower case [2]\n    The right name is Desk.psk\n\
                 0 good, 1 refused, 0 unreadable, 0 skipped\n";
     folder.run(&["check", "a"]).gives(1, told, "");
 }
 
 #[test]
-fn an_empty_folder_is_told() {
+fn a_folder_without_a_network_file_does_not_pass() {
     let folder = Folder::new("empty");
-    folder.run(&["check", "."]).gives(0, "no iwd or ConnMan file was found\n", "");
+    let told = "qewaris: stick has no iwd or ConnMan file in it: nothing to check\n";
+    folder.write("stick/notes.txt", "");
+    let counted = "skipped: 1 other file; --verbose names each\n0 good, 0 refused, 1 unreadable, 1 skipped\n";
+    folder.run(&["check", "stick"]).gives(2, counted, told);
+    folder.write("a/shop.config", SHOP);
+    let run = folder.run(&["check", "a", "stick"]);
+    assert_eq!(run.code, Some(2));
+    assert_eq!(run.err, format!("{told}qewaris: 1 of 2 files did not pass: stick\n"));
 }
 
 #[test]
@@ -58,7 +71,8 @@ fn a_thousand_files_are_checked() {
         folder.write(format!("many/Desk {number}.psk"), "");
     }
     let run = folder.run(&["check", "many"]);
-    assert_eq!((run.code, run.err.as_str()), (Some(1), ""));
+    let told = "qewaris: 3 of 1000 files did not pass: many/Desk 17.psk, many/Desk 500.psk, many/Desk 998.psk\n";
+    assert_eq!((run.code, run.err.as_str()), (Some(1), told));
     let lines: Vec<&str> = run.out.lines().collect();
     assert_eq!(lines.len(), 4);
     assert!(lines[0].starts_with("many/Desk 17.psk: error: "));
@@ -75,11 +89,17 @@ fn links_and_other_things_do_not_stop_the_walk() {
     symlink("gone", folder.path().join("a/dangling.psk")).unwrap();
     let made = Command::new("mkfifo").arg(folder.path().join("a/pipe.config")).status().unwrap();
     assert!(made.success());
-    let run = folder.run(&["check", "a"]);
-    assert_eq!(run.err, "qewaris: a/dangling.psk cannot be read: there is no such file or folder\n");
-    let told = "a/pipe.config: skipped: not a plain file\na/round: skipped: not an iwd or ConnMan file\n\
-                a/round.config: skipped: not a plain file\n2 good, 0 refused, 1 unreadable, 3 skipped\n";
+    let run = folder.run(&["check", "-v", "a"]);
+    let told = "qewaris: a/dangling.psk cannot be read: there is no such file or folder\n\
+                qewaris: 1 of 3 files did not pass: a/dangling.psk\n";
+    assert_eq!(run.err, told);
+    let told = "a/linked.config: good, 7 settings, 1 service\na/pipe.config: skipped: not a plain file\n\
+                a/round: skipped: a link to a folder, which is not followed\n\
+                a/round.config: skipped: a link to a folder, which is not followed\n\
+                a/shop.config: good, 7 settings, 1 service\n2 good, 0 refused, 1 unreadable, 3 skipped\n";
     assert_eq!((run.out.as_str(), run.code), (told, Some(2)));
+    let told = "skipped: 2 folder links, 1 special file; --verbose names each\n2 good, 0 refused, 1 unreadable, 3 skipped\n";
+    assert_eq!(folder.run(&["check", "a"]).out, told);
 }
 
 #[test]

@@ -5,7 +5,8 @@ use std::fs;
 use std::os::unix::fs::{symlink, PermissionsExt};
 use std::process::Command;
 
-const TWO: &str = "[service_a]\nType = wifi\nName = Left\nPassphrase = low tide 88\n[service_b]\nType = wifi\nName = Right\n";
+const TWO: &str =
+    "[service_a]\nType = wifi\nName = Left\nPassphrase = low tide 88\n[service_b]\nType = wifi\nName = Right\nSecurity = none\n";
 
 #[test]
 fn the_worked_move_is_written_for_its_owner_only() {
@@ -103,9 +104,9 @@ fn each_service_without_a_place_is_named_and_nothing_is_written() {
     let folder = Folder::new("unplaced");
     let file = format!("{TWO}MAC = 02:00:5e:10:00:01\n[service_c]\nType = ethernet\n");
     folder.write("three.config", file);
-    let told = "three.config:8: error: [service_b] has MAC, which picks an interface and has no place in iwd; \
+    let told = "three.config:9: error: [service_b] has MAC, which picks an interface and has no place in iwd; \
                 a service without it moves [16]\n    MAC = 02:00:5e:10:00:01\n    ^\n\
-                three.config:10: error: [service_c] is ethernet, which has no place in iwd; only wifi moves [16]\n\
+                three.config:11: error: [service_c] is ethernet, which has no place in iwd; only wifi moves [16]\n\
                 \x20   Type = ethernet\n           ^\n";
     folder
         .run(&["move", "three.config", "--all"])
@@ -116,7 +117,10 @@ fn each_service_without_a_place_is_named_and_nothing_is_written() {
 #[test]
 fn two_services_of_one_file_name_are_an_error() {
     let folder = Folder::new("clash");
-    folder.write("two.config", TWO.replace("Right", "Left\nPassphrase = high tide 99"));
+    folder.write(
+        "two.config",
+        TWO.replace("Right\nSecurity = none", "Left\nPassphrase = high tide 99"),
+    );
     let told = "qewaris: two.config: [service_a] on line 1 and [service_b] on line 5 would both be Left.psk; each file is of one service\n\
                 qewaris: nothing was written\n";
     folder.run(&["move", "two.config", "--all", "--force"]).gives(1, "", told);
@@ -142,10 +146,13 @@ fn a_dry_run_shows_all_but_secrets_and_writes_nothing() {
 #[test]
 fn a_name_of_any_bytes_has_a_plain_file_name() {
     let folder = Folder::new("hex-name");
-    folder.write("a.config", "[service_a]\nType = wifi\nSSID = 2e2e2f61ff\n");
-    let told = "=2e2e2f61ff.open: written from service 1, [service_a]\n";
+    folder.write("a.config", "[service_a]\nType = wifi\nSSID = 2e2e2f61c3a9\nSecurity = none\n");
+    let told = "=2e2e2f61c3a9.open: written from service 1, [service_a]\n";
     folder.run(&["move", "a.config"]).gives(0, told, "");
-    assert_eq!(folder.names(), ["=2e2e2f61ff.open", "a.config"]);
+    assert_eq!(folder.names(), ["=2e2e2f61c3a9.open", "a.config"]);
+    folder.write("b.config", "[service_b]\nType = wifi\nSSID = 2e2e2f61ff\nSecurity = none\n");
+    assert_eq!(folder.run(&["move", "b.config"]).code, Some(0));
+    assert_eq!(folder.read("=2e2e2f61ff.open"), b"");
 }
 
 #[test]
@@ -189,6 +196,8 @@ fn a_read_only_folder_is_left_as_it_is() {
     if let Some(run) = folder.run_bound(&["move", "shop.config", "--to", "closed"]) {
         let told = "qewaris: closed cannot be written: you have no permission for it\nqewaris: nothing was written\n";
         run.gives(2, "", told);
+        let dry = folder.run_bound(&["move", "--dry-run", "shop.config", "--to", "closed"]).unwrap();
+        assert_eq!((dry.code, dry.err.as_str()), (Some(2), told), "a dry run ends as the move would");
     }
     assert_eq!(crate::common::names_in(&closed), [""; 0]);
 }

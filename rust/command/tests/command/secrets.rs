@@ -106,7 +106,11 @@ fn random_bytes_are_answered() {
     }
     let run = folder.run(&["check", "-v", "."]);
     assert!(matches!(run.code, Some(0 | 1)), "{:?}: {}", run.code, run.err);
-    assert_eq!(run.err, "");
+    assert!(
+        run.err.starts_with("qewaris: ") && run.err.contains(" of 600 files did not pass: "),
+        "{}",
+        run.err
+    );
     assert!(run.out.ends_with("0 unreadable, 0 skipped\n"));
     assert!(run.out.chars().all(|character| character == '\n' || !character.is_control()));
 }

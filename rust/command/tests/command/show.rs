@@ -81,8 +81,9 @@ fn a_refused_file_is_told_as_by_check() {
     for number in ["0", "2", "99999999999999999999"] {
         let run = folder.run(&["show", "shop.config", number]);
         assert_eq!((run.code, run.err.as_str()), (Some(1), ""));
-        assert!(run.out.starts_with("shop.config: error: There is no service "), "{}", run.out);
-        assert!(run.out.ends_with("; the file has 1 [18]\n"), "{}", run.out);
+        let told = format!("shop.config: error: There is no service {number}; the file has 1 [18]\n");
+        assert_eq!(run.out, told);
+        assert_eq!(folder.run(&["move", "shop.config", "--service", number]).out, told);
     }
 }
 
@@ -101,7 +102,7 @@ fn json_has_every_member() {
     let run = folder.run(&["show", "--json", "shop.config"]);
     assert_eq!((run.code, run.err.as_str()), (Some(0), ""));
     let value = read(&run.out);
-    assert_eq!(*value.at("format"), Value::Number(1));
+    assert_eq!(*value.at("format"), Value::Number(2));
     assert_eq!(*value.at("file"), text("shop.config"));
     assert_eq!(*value.at("kind"), text("connman"));
     assert_eq!(*value.at("refusal"), Value::Null);
@@ -161,7 +162,10 @@ fn json_of_a_refused_file_tells_the_refusal() {
     let value = read(&run.out);
     assert_eq!(*value.at("refusal/number"), Value::Number(12));
     assert_eq!(*value.at("refusal/line"), Value::Number(2));
-    assert_eq!(*value.at("refusal/sentence"), text("Passphrase has 7 bytes; it needs 8 to 63"));
+    assert_eq!(
+        *value.at("refusal/sentence"),
+        text("Passphrase has too few bytes; it needs 8 to 63")
+    );
     folder.write("Desk.psk", "");
     assert_eq!(
         *read(&folder.run(&["show", "--json", "Desk.psk"]).out).at("refusal/line"),

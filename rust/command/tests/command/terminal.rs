@@ -39,6 +39,27 @@ fn colour_is_for_terminals_only() {
 }
 
 #[test]
+fn colour_is_as_it_is_asked_for() {
+    let folder = Folder::new("asked-colour");
+    folder.write("Desk.psk", "");
+    for arguments in [
+        &["check", "--color=always", "Desk.psk"][..],
+        &["list", "--color", "always", "Desk.psk"],
+    ] {
+        assert!(folder.run(arguments).out.contains("\x1b[1;31m"));
+    }
+    assert!(!folder.run(&["check", "--color=auto", "Desk.psk"]).out.contains('\x1b'));
+    if let Some(seen) = on_terminal(&folder, "check --color never Desk.psk", &[]) {
+        assert!(!seen.contains("\x1b[1"), "{seen:?}");
+    }
+    let loud = on_terminal(&folder, "check --color always Desk.psk", &[("NO_COLOR", "1")]);
+    assert!(
+        loud.is_none_or(|seen| seen.contains("\x1b[1;31m")),
+        "what is asked for comes before the variable"
+    );
+}
+
+#[test]
 fn progress_and_summary_are_for_many_files_on_terminals() {
     let folder = Folder::new("progress");
     for number in 0..1200 {

@@ -5,59 +5,87 @@ use crate::common::{Folder, SHOP};
 #[test]
 fn help_and_version_are_everywhere() {
     let folder = Folder::new("help");
-    for command in ["check", "show", "move", "explain"] {
+    for command in ["check", "show", "list", "move", "explain"] {
         for word in ["--help", "-h"] {
             let run = folder.run(&[command, word]);
             assert_eq!((run.code, run.err.as_str()), (Some(0), ""));
             assert!(run.out.contains(&format!("qewaris {command}")), "{}", run.out);
         }
         for word in ["--version", "-V"] {
-            folder.run(&[command, word]).gives(0, "qewaris 0.1.0\n", "");
+            folder.run(&[command, word]).gives(0, "qewaris 0.2.0\n", "");
         }
     }
     for word in ["--help", "-h", "help"] {
         let run = folder.run(&[word]);
         assert_eq!((run.code, run.err.as_str()), (Some(0), ""));
-        assert!(run.out.contains("qewaris explain [NUMBER]"));
+        assert!(run.out.contains("qewaris explain [NUMBER|WORD]"));
     }
-    folder.run(&["--version"]).gives(0, "qewaris 0.1.0\n", "");
+    folder.run(&["--version"]).gives(0, "qewaris 0.2.0\n", "");
+}
+
+#[test]
+fn help_of_a_command_is_its_help_and_narrow() {
+    let folder = Folder::new("narrow");
+    for command in ["check", "show", "list", "move", "explain"] {
+        let run = folder.run(&["help", command]);
+        run.gives(0, &folder.run(&[command, "--help"]).out, "");
+        assert!(run.out.lines().all(|line| line.len() <= 80), "{}", run.out);
+    }
+    assert!(folder.run(&["help"]).out.lines().all(|line| line.len() <= 80));
+    let told = "qewaris: There is no command moves; there are check, show, list, move and explain. Try qewaris --help\n";
+    folder.run(&["help", "moves"]).gives(3, "", told);
 }
 
 /// Words that are not understood, and what is said of them.
 const WRONG: &[(&[&str], &str)] = &[
-    (&[], "A command is needed: check, show, move or explain. Try qewaris --help"),
+    (&[], "A command is needed: check, show, list, move or explain. Try qewaris --help"),
     (
         &["chek"],
-        "There is no command chek; there are check, show, move and explain. Try qewaris --help",
+        "There is no command chek; there are check, show, list, move and explain. Try qewaris --help",
     ),
     (
         &["--json"],
-        "There is no command --json; there are check, show, move and explain. Try qewaris --help",
+        "There is no command --json; there are check, show, list, move and explain. Try qewaris --help",
     ),
     (&["check"], "A file or a folder is needed. Try qewaris check --help"),
     (
-        &["check", "--json", "shop.config"],
-        "There is no option --json. Try qewaris check --help",
+        &["check", "--secrets", "shop.config"],
+        "There is no option --secrets. Try qewaris check --help",
     ),
     (
         &["check", "--verbose=1", "shop.config"],
         "There is no option --verbose=1. Try qewaris check --help",
     ),
-    (&["show"], "A file is needed. Try qewaris show --help"),
+    (&["show"], "A file or a folder is needed. Try qewaris show --help"),
     (
-        &["show", "shop.config", "one"],
-        "A service is given by its number, and one is none. Try qewaris show --help",
+        &["show", "shop.config", "--service", "one"],
+        "--service is given by its number, and one is none. Try qewaris show --help",
     ),
     (
-        &["show", "shop.config", "+1"],
-        "A service is given by its number, and +1 is none. Try qewaris show --help",
+        &["show", "shop.config", "--service=+1"],
+        "--service is given by its number, and +1 is none. Try qewaris show --help",
+    ),
+    (&["move"], "A file or a folder is needed. Try qewaris move --help"),
+    (
+        &["check", "--color=blue", "shop.config"],
+        "--color is auto, always or never, and not blue. Try qewaris check --help",
     ),
     (
-        &["show", "shop.config", "1", "2"],
-        "One file and at most one service are taken. Try qewaris show --help",
+        &["check", "-"],
+        "- is standard input; --stdin-name NAME says how the file is called. Try qewaris check --help",
     ),
-    (&["move"], "A file is needed. Try qewaris move --help"),
-    (&["move", "a.config", "b.config"], "One file is taken. Try qewaris move --help"),
+    (
+        &["check", "shop.config", "--stdin-name", "shop.config"],
+        "--stdin-name names standard input, which is read where - stands for a file. Try qewaris check --help",
+    ),
+    (
+        &["check", "-", "--stdin-name", "a/shop.config"],
+        "--stdin-name is the name of a file without a folder. Try qewaris check --help",
+    ),
+    (
+        &["move", "shop.config", "--service=1", "--service=x"],
+        "--service is given by its number, and x is none. Try qewaris move --help",
+    ),
     (
         &["move", "shop.config", "--service"],
         "--service needs a value. Try qewaris move --help",
@@ -71,8 +99,8 @@ const WRONG: &[(&[&str], &str)] = &[
         "Only one of --service and --all can be given. Try qewaris move --help",
     ),
     (
-        &["move", "shop.config", "--service=1", "--service=2"],
-        "--service is given twice. Try qewaris move --help",
+        &["move", "shop.config", "--to=a", "--to=b"],
+        "--to is given twice. Try qewaris move --help",
     ),
     (&["move", "shop.config", "--to="], "--to needs a folder. Try qewaris move --help"),
     (
@@ -85,9 +113,9 @@ const WRONG: &[(&[&str], &str)] = &[
     ),
     (
         &["explain", "twelve"],
-        "A refusal is given by its number, and twelve is none. Try qewaris explain --help",
+        "There is no refusal and no warning twelve. Try qewaris explain --help",
     ),
-    (&["explain", "1", "2"], "One number is taken. Try qewaris explain --help"),
+    (&["explain", "1", "2"], "One number or word is taken. Try qewaris explain --help"),
 ];
 
 #[test]
@@ -127,7 +155,7 @@ fn every_refusal_is_explained() {
         assert!(run.out.contains(&format!(" [{number}]\n")), "the example earns it: {}", run.out);
     }
     let run = folder.run(&["explain"]);
-    assert_eq!((run.code, run.out.lines().count()), (Some(0), 19));
+    assert_eq!((run.code, run.out.lines().count()), (Some(0), 19 + 17));
 }
 
 #[test]
@@ -145,6 +173,7 @@ fn a_reader_that_goes_away_is_no_failure() {
         .unwrap();
     drop(child.stdout.take());
     let output = child.wait_with_output().unwrap();
-    assert_eq!(String::from_utf8_lossy(&output.stderr), "");
-    assert!(output.status.code().is_some());
+    let told = String::from_utf8_lossy(&output.stderr);
+    assert!(!told.contains("cannot be written"), "{told}");
+    assert_eq!(output.status.code(), Some(1), "the files were judged all the same");
 }

@@ -1,0 +1,113 @@
+//! The list as a page of its own, to print or to mail: no script, nothing from outside, and every byte of a file escaped.
+
+use super::rows::{Rank, Row};
+use super::table::{cells, counts};
+use super::Listed;
+use crate::report::shown_path;
+use std::fmt::Write;
+use std::path::PathBuf;
+
+const TITLES: [&str; 8] = ["State", "File", "Network", "Key", "Hidden", "Address", "Moves to iwd", "What to do"];
+
+/// What the page looks like: a table at the width of a desk and on paper, cards at that of a phone.
+const STYLE: &str = "\
+:root{color-scheme:light}
+body{font:15px/1.45 system-ui,sans-serif;margin:1.5rem auto;max-width:82rem;padding:0 1rem;color:#1a1a1a;background:#fff}
+h1{font-size:1.4rem;margin:0 0 .3rem}
+p{margin:.2rem 0}
+.note{color:#555}
+ul{margin:1rem 0;padding:.6rem 1rem .6rem 2rem;background:#fff4d6;border-left:.3rem solid #b26a00}
+table{border-collapse:collapse;width:100%;margin:1rem 0}
+th,td{text-align:left;vertical-align:top;padding:.35rem .6rem;border-bottom:1px solid #ccc;overflow-wrap:break-word}
+li{overflow-wrap:anywhere}
+th{border-bottom:2px solid #444;white-space:nowrap}
+td:nth-child(1){white-space:nowrap;font-weight:600}
+td:nth-child(4),td:nth-child(5),td:nth-child(6){white-space:nowrap}
+td:nth-child(2){min-width:9rem;max-width:24rem}
+td:nth-child(8){min-width:16rem}
+.worst td:nth-child(1),.open{color:#a30000;font-weight:700}
+.warned td:nth-child(1){color:#8a4b00}
+.worst{background:#ffecec}
+.warned{background:#fff9e8}
+@media screen and (max-width:46rem){
+thead{display:none}
+table,tbody,tr,td{display:block;width:auto}
+tr{border:1px solid #999;border-radius:.4rem;margin:.7rem 0;padding:.3rem 0}
+td{border:0;padding:.15rem .7rem .15rem 8rem;position:relative;white-space:normal!important;min-width:0!important;max-width:none!important;\
+overflow-wrap:anywhere}
+td::before{content:attr(data-label);position:absolute;left:.7rem;width:7rem;color:#555;font-weight:400}
+td.none{display:none}
+}
+@media print{
+@page{size:A4 landscape;margin:12mm}
+body{font-size:10px;margin:0;max-width:none;padding:0}
+tr{break-inside:avoid}
+thead{display:table-header-group}
+ul,.worst,.warned{background:none}
+}
+";
+
+/// The page of a list of these paths.
+pub fn page(paths: &[PathBuf], listed: &Listed) -> String {
+    let names: Vec<String> = paths.iter().map(|path| escaped(&shown_path(path))).collect();
+    let mut page = format!(
+        "<!DOCTYPE html>\n<html lang=\"en\">\n<head>\n<meta charset=\"utf-8\">\n\
+         <meta http-equiv=\"Content-Security-Policy\" content=\"default-src 'none'; style-src 'unsafe-inline'\">\n\
+         <meta name=\"viewport\" content=\"width=device-width, initial-scale=1\">\n\
+         <title>Network files of {names}</title>\n<style>\n{STYLE}</style>\n</head>\n<body>\n\
+         <h1>Network files of {names}</h1>\n",
+        names = names.join(", ")
+    );
+    for line in counts(listed) {
+        let _ = writeln!(page, "<p>{}</p>", escaped(&line));
+    }
+    if !listed.across.is_empty() {
+        page.push_str("<ul>\n");
+        for found in &listed.across {
+            let _ = writeln!(page, "<li>{}</li>", escaped(&found.warning.sentence));
+        }
+        page.push_str("</ul>\n");
+    }
+    page.push_str("<table>\n<thead><tr>");
+    TITLES.iter().for_each(|title| page.push_str(&format!("<th>{title}</th>")));
+    page.push_str("</tr></thead>\n<tbody>\n");
+    listed.rows.iter().for_each(|found| page.push_str(&row(found)));
+    page.push_str("</tbody>\n</table>\n<p class=\"note\">No passphrase and no key stands on this page. Made by qewaris ");
+    page.push_str(concat!(env!("CARGO_PKG_VERSION"), ".</p>\n</body>\n</html>\n"));
+    page
+}
+
+fn row(row: &Row) -> String {
+    let class = match row.rank {
+        Rank::OpenBySilence | Rank::Refused | Rank::Unreadable => " class=\"worst\"",
+        Rank::Warned | Rank::Unmovable => " class=\"warned\"",
+        Rank::Good => "",
+    };
+    let mut text = format!("<tr{class}>");
+    for (title, cell) in TITLES.iter().zip(cells(row)) {
+        let class = match cell.as_str() {
+            "-" => " class=\"none\"",
+            "OPEN" => " class=\"open\"",
+            _ => "",
+        };
+        let _ = write!(text, "<td data-label=\"{title}\"{class}>{}</td>", escaped(&cell));
+    }
+    text.push_str("</tr>\n");
+    text
+}
+
+/// Text that a browser takes for nothing but text.
+fn escaped(text: &str) -> String {
+    let mut found = String::new();
+    for character in text.chars() {
+        match character {
+            '&' => found.push_str("&amp;"),
+            '<' => found.push_str("&lt;"),
+            '>' => found.push_str("&gt;"),
+            '"' => found.push_str("&quot;"),
+            '\'' => found.push_str("&#39;"),
+            plain => found.push(plain),
+        }
+    }
+    found
+}

@@ -1,0 +1,161 @@
+//! `qewaris list`: all files at a glance, as a table, as JSON and as a page.
+
+use crate::common::json::{read, text, Value};
+use crate::common::{names_in, Folder, Run, DESK, SHOP};
+use std::path::Path;
+use std::process::Command;
+
+fn forty(arguments: &[&str]) -> Run {
+    let examples = Path::new(env!("CARGO_MANIFEST_DIR")).join("../../examples");
+    let mut command = Command::new(env!("CARGO_BIN_EXE_qewaris"));
+    Run::of(command.current_dir(examples).args(arguments).output().unwrap())
+}
+
+#[test]
+fn forty_files_of_which_eleven_are_odd() {
+    let told = include_str!("forty.txt");
+    let failed = "qewaris: 2 of 40 files did not pass: forty/till07.config, forty/till18.config\n";
+    forty(&["list", "forty"]).gives(1, told, failed);
+    let good = told.lines().filter(|line| line.starts_with("good ")).count();
+    assert_eq!(good, 29, "eleven are odd");
+    let using = include_str!("../../../../docs/USING.md");
+    assert!(using.contains(told), "docs/USING.md shows what is printed today");
+}
+
+#[test]
+fn the_worst_stand_first_and_each_says_what_to_do() {
+    let folder = Folder::new("worst");
+    folder.write("a/a good.psk", DESK);
+    folder.write("a/bad.psk", "");
+    folder.write(
+        "a/mac.config",
+        "[service_a]\nType = wifi\nName = Mac\nPassphrase = low tide 88\nMAC = 02:00:5e:10:00:01\n",
+    );
+    folder.write("a/quotes.psk", "[Security]\nPassphrase='low tide 88'\n");
+    folder.write("a/silent.config", "[service_a]\nType = wifi\nName = Silent\n");
+    let run = folder.run(&["list", "a", "gone.psk"]);
+    assert_eq!(run.code, Some(2));
+    let rows: Vec<&str> = run.out.lines().skip_while(|line| !line.starts_with("STATE")).skip(1).collect();
+    let starts = [
+        "OPEN by silence  a/silent.config",
+        "refused          a/bad.psk",
+        "unreadable       gone.psk",
+    ];
+    let ends = [
+        "warning          a/quotes.psk",
+        "does not move    a/mac.config",
+        "good             a/a good.psk",
+    ];
+    assert_eq!(rows.len(), 6, "{}", run.out);
+    for (row, start) in rows.iter().zip(starts.iter().chain(&ends)) {
+        assert!(row.starts_with(start), "{row} and not {start}");
+    }
+    assert!(
+        run.out.starts_with("6 files: 4 good, 1 refused, 1 unreadable, 0 skipped\n"),
+        "{}",
+        run.out
+    );
+    assert!(run
+        .out
+        .contains("6 rows: 1 OPEN by silence, 1 refused, 1 unreadable, 1 with a warning, 1 not to be moved, 1 good\n"));
+    assert_eq!(folder.run(&["list", "a/a good.psk"]).code, Some(0));
+    assert_eq!(folder.run(&["list", "a/quotes.psk"]).code, Some(0));
+    assert_eq!(folder.run(&["list", "--strict", "a/quotes.psk"]).code, Some(1));
+    assert!(folder.run(&["list", "--no-warnings", "a/quotes.psk"]).out.contains("\ngood "));
+}
+
+/// A ConnMan file of the network `Quay`, with this passphrase and address.
+fn quay(passphrase: &str, address: usize) -> String {
+    format!("[service_a]\nType = wifi\nName = Quay\nPassphrase = {passphrase}\nIPv4 = 10.0.0.{address}/24/10.0.0.1\n")
+}
+
+#[test]
+fn what_only_several_files_tell_is_told() {
+    let folder = Folder::new("across");
+    for (name, passphrase, address) in [
+        ("a", "herring gull", 2),
+        ("b", "herring gull", 3),
+        ("c", "kittiwakes", 3),
+        ("d", "cormorant", 4),
+    ] {
+        folder.write(format!("tills/{name}.config"), quay(passphrase, address));
+    }
+    folder.write("tills/iwd/Quay.open", "");
+    std::fs::create_dir(folder.path().join("empty")).unwrap();
+    let run = folder.run(&["list", "tills", "empty"]);
+    assert_eq!(run.code, Some(2));
+    for told in [
+        "\nwarning: empty: There is no iwd or ConnMan file in it; is a stick not mounted? [empty-folder]\n",
+        "\nwarning: The network \"Quay\" has 3 different passphrases: 2 have one, 1 has another, 1 has another [two-keys]\n",
+        "\nwarning: The network \"Quay\" has a key in 4 and is OPEN in 1: tills/iwd/Quay.open; keep the one that is meant [both-suffixes]\n",
+        "\nwarning: 10.0.0.3 is the address of 2 tills in the network \"Quay\": tills/b.config, tills/c.config [one-address]\n",
+    ] {
+        assert!(run.out.contains(told), "{told}{}", run.out);
+    }
+    assert_eq!(folder.run(&["list", "tills"]).code, Some(0));
+    assert_eq!(folder.run(&["list", "--strict", "tills"]).code, Some(1));
+    let run = folder.run(&["list", "tills/a.config", "tills/b.config"]);
+    assert!(!run.out.contains("warning"), "{}", run.out);
+}
+
+#[test]
+fn an_old_file_and_its_move_are_one_till() {
+    let folder = Folder::new("one-till");
+    folder.write("shop.config", SHOP);
+    assert_eq!(folder.run(&["move", "shop.config"]).code, Some(0));
+    let run = folder.run(&["list", "."]);
+    assert!(run.out.contains("2 rows: 2 good\n") && !run.out.contains("warning"), "{}", run.out);
+}
+
+#[test]
+fn json_is_an_object_a_line() {
+    let run = forty(&["list", "--json", "forty"]);
+    assert_eq!(run.code, Some(1));
+    let objects: Vec<Value> = run.out.lines().map(read).collect();
+    let of = |name: &str| objects.iter().filter(|object| *object.at("type") == text(name)).count();
+    assert_eq!((of("row"), of("finding"), of("counts")), (40, 4, 1));
+    assert!(objects.iter().all(|object| *object.at("format") == Value::Number(2)));
+    let first = &objects[0];
+    assert_eq!(*first.at("file"), text("forty/till03.config"));
+    assert_eq!(*first.at("state"), text("open-by-silence"));
+    assert_eq!(*first.at("credential"), text("none"));
+    assert_eq!(*first.at("ipv4/address"), text("10.20.0.13"));
+    assert_eq!((first.at("moves"), first.at("iwd_name")), (&Value::Bool(true), &text("Quay.open")));
+    assert_eq!(*first.at("warnings/0/word"), text("open-by-silence"));
+    let refused = objects.iter().find(|object| *object.at("state") == text("refused")).unwrap();
+    assert_eq!(*refused.at("refusals/0/number"), Value::Number(12));
+    assert_eq!(*refused.at("network"), Value::Null);
+    let counts = objects.last().unwrap();
+    assert_eq!((counts.at("good"), counts.at("refused")), (&Value::Number(38), &Value::Number(2)));
+}
+
+#[test]
+fn the_page_stands_by_itself_and_is_for_its_owner() {
+    let folder = Folder::new("page");
+    let odd = "[service_a]\nType = wifi\nName = <script>alert(1)</script>\nPassphrase = low tide 88\n";
+    folder.write("<b>&\"'/a.config", odd);
+    folder
+        .run(&["list", "<b>&\"'", "--html", "tills.html"])
+        .gives(0, "tills.html: written\n", "");
+    assert_eq!(folder.mode("tills.html"), 0o600);
+    let page = String::from_utf8(folder.read("tills.html")).unwrap();
+    assert!(page.starts_with("<!DOCTYPE html>") && page.ends_with("</html>\n"));
+    assert!(page.contains("&lt;script&gt;alert(1)&lt;/script&gt;"), "{page}");
+    assert!(page.contains("&lt;b&gt;&amp;&quot;&#39;/a.config"), "{page}");
+    for harm in [
+        "<script", "<b>", "src=", "href=", "url(", "http:", "https:", "@import", "onload", "low tide",
+    ] {
+        assert!(!page.contains(harm), "{harm} in {page}");
+    }
+    let told = "qewaris: tills.html is there already; --force overwrites it\n";
+    folder.run(&["list", ".", "--html", "tills.html"]).gives(1, "", told);
+    assert_eq!(folder.read("tills.html"), page.as_bytes());
+    folder.write("tills.html", "mine");
+    folder
+        .run(&["list", ".", "--html", "tills.html", "--force"])
+        .gives(0, "tills.html: written\n", "");
+    assert_ne!(folder.read("tills.html"), b"mine");
+    let told = "qewaris: gone cannot be written: there is no such file or folder\n";
+    folder.run(&["list", ".", "--html", "gone/tills.html"]).gives(2, "", told);
+    assert_eq!(names_in(folder.path()), ["<b>&\"'", "tills.html"]);
+}
