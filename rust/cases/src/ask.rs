@@ -50,6 +50,7 @@ pub fn move_service(from: (&[u8], &[u8]), service: usize, name: &mut [u8], file:
 /// Every member is a number, or an array or struct of numbers: zero bytes are a value of it.
 pub unsafe trait Plain: Copy + PartialEq {}
 
+unsafe impl Plain for raw::Reading {}
 unsafe impl Plain for raw::IwdSettings {}
 unsafe impl Plain for raw::ServiceSettings {}
 unsafe impl Plain for raw::Text {}

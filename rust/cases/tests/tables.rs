@@ -20,4 +20,4 @@ macro_rules! tables {
     )*};
 }
 
-tables!(leaves settings records writing moving);
+tables!(leaves files settings records writing moving);

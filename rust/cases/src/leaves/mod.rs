@@ -1,4 +1,4 @@
-//! Cases of the leaves: texts, words, numbers, lists, hex and file names, each tried through a whole file or a written record.
+//! Cases of the leaves: texts, words, numbers, lists, hex, lines and file names, each tried through a whole file or a written record.
 //!
 //! A case is a kind, a blank and an input. The input stands as a value of a file that is otherwise good, or in a record that is
 //! otherwise good, and the answer is what the library then says of that value: what it was read or written as, or that it is
@@ -7,6 +7,7 @@
 mod files;
 mod hexes;
 mod judging;
+mod lines;
 mod lists;
 mod names;
 mod numbers;
@@ -56,6 +57,8 @@ fn leaf(kind: &str) -> Option<Leaf> {
         "mac" => hexes::mac,
         "key" => hexes::key,
         "ssid" => hexes::ssid,
+        "line-iwd" => lines::line_iwd,
+        "line-connman" => lines::line_connman,
         "iwd-name" => names::iwd_name,
         "connman-name" => names::connman_name,
         "open-name" => names::open_name,
