@@ -5,7 +5,7 @@
 //! number, line and bytes. A refusal whose other places are all zero has the line `nothing` for its keys.
 
 use crate::ask::{read, read_service, zero};
-use crate::show::{dotted, four, hex_front, is_zero, servers, unused, word, Ipv4, Lines};
+use crate::show::{dotted, hex_front, is_zero, servers, unused, word, Ipv4, Lines};
 use crate::written::{decoded, encoded, hex, number, parts};
 use qewaris::raw;
 
@@ -147,7 +147,7 @@ fn ssid(network: &raw::ServiceNetwork) -> String {
     }
 }
 
-fn ipv4(addresses: &raw::ServiceAddresses) -> String {
+pub(crate) fn ipv4(addresses: &raw::ServiceAddresses) -> String {
     let shown = Ipv4 {
         method: addresses.ipv4.saturating_sub(1),
         address: addresses.address,
@@ -162,7 +162,7 @@ fn ipv4(addresses: &raw::ServiceAddresses) -> String {
 }
 
 /// How many entries there are, and where in the file each of them stands.
-pub(crate) fn entries(found: &raw::Entries) -> String {
+fn entries(found: &raw::Entries) -> String {
     let places: Vec<(usize, usize)> = found.start.into_iter().zip(found.length).collect();
     let (used, behind) = places.split_at(found.count.min(4));
     let zero = unused(behind.iter().all(|place| *place == (0, 0)));
@@ -206,12 +206,4 @@ fn bytes_of(text: raw::Text, file: &[u8]) -> String {
         Some(bytes) => format!(" {}", encoded(bytes)),
         None => " no place".to_string(),
     }
-}
-
-/// The first `count` of sixteen bytes' addresses; those behind them are not in use.
-pub(crate) fn addresses(bytes: &[u8; 16], count: usize) -> String {
-    let all = four(bytes);
-    let (used, behind) = all.split_at(count.min(4));
-    let shown: String = used.iter().map(|address| format!(" {}", dotted(*address))).collect();
-    format!("{count}{shown}{}", unused(behind.iter().all(|address| is_zero(address))))
 }

@@ -1,7 +1,7 @@
 //! Lists of addresses and of entries. A broken list has no entry.
 
 use super::files::{Told, DNS, NAMESERVERS, SEARCH_DOMAINS};
-use crate::settings::addresses;
+use crate::show::{dotted, four, is_zero, unused};
 use qewaris::raw;
 
 /// How many addresses there are, and each of them.
@@ -10,6 +10,14 @@ fn list(found: Result<(usize, [u8; 16]), Told>) -> Vec<u8> {
         Ok((count, bytes)) => addresses(&bytes, count).into_bytes(),
         Err(told) => told.broken("0"),
     }
+}
+
+/// The first `count` of sixteen bytes' addresses; those behind them are not in use.
+fn addresses(bytes: &[u8; 16], count: usize) -> String {
+    let all = four(bytes);
+    let (used, behind) = all.split_at(count.min(4));
+    let shown: String = used.iter().map(|address| format!(" {}", dotted(*address))).collect();
+    format!("{count}{shown}{}", unused(behind.iter().all(|address| is_zero(address))))
 }
 
 pub fn dns(input: &[u8]) -> Vec<u8> {

@@ -2,7 +2,8 @@
 
 use super::files::{shown, ADDRESS, NETMASK, SERVICE_IPV4, SERVICE_MASK};
 use super::names::written;
-use crate::show::{dotted, unused, Ipv4};
+use crate::settings;
+use crate::show::dotted;
 use crate::written::number;
 use qewaris::raw;
 
@@ -42,14 +43,5 @@ pub fn mask_of(input: &[u8]) -> Vec<u8> {
 }
 
 pub fn ipv4(input: &[u8]) -> Vec<u8> {
-    shown(SERVICE_IPV4.service_settings(input), |found| {
-        let ipv4 = Ipv4 {
-            method: found.addresses.ipv4.wrapping_sub(1),
-            address: found.addresses.address,
-            prefix_length: found.addresses.prefix_length,
-            has_gateway: found.addresses.has_gateway,
-            gateway: found.addresses.gateway,
-        };
-        ipv4.shown() + unused(found.addresses.ipv4 != 0)
-    })
+    shown(SERVICE_IPV4.service_settings(input), |found| settings::ipv4(&found.addresses))
 }
