@@ -1,75 +1,127 @@
-// Cases of whole files: reads a table of names and files, and writes each line again with its answer behind it.
+// Cases of whole files, checked and moved: reads a table, and writes each line again with its answer behind it.
 //
-// A line that is empty or begins with `#` is written as it stands. Any other is a file name, a space and a file; with no
-// space the file is empty. Both are written as crate `cases` says. Behind it come ` = ` and what the library answers:
-// `accepted` with the numbers of settings and services, or `refused` with the number and the line. The expected side, the
-// file stdout, is written by hand from document 01 and docs/DECISIONS.md.
-use cases::show;
+// A case is what document 01's programs read, with `|` for the end of a line: a file name and the file, or the digit of a
+// service and the file, which is shop.config then. A line without `|` is no case. Behind a case come ` = ` and the answer:
+// `accepted` with the numbers of settings and services, the new name and the new file as the moving program writes them, or
+// `refused` with the number and the line. The expected side, the file stdout, is written by hand from document 01 and
+// docs/DECISIONS.md.
+ghost use Prim.Native.Nat.{_≤_};
+ghost use lib.ListN.{length};
+use libc::STDOUT_FILENO;
+use rules::Answer;
 use rules::Reading;
+use rules::Refusal;
 
-fn say_reading(r: Reading) {
-    match r {
-        Reading::Accepted(settings, services) => show::numbers(b"accepted", settings, services),
-        Reading::Refused(refusal, line) => {
-            let number = rules::numbers::number_of(refusal);
-            show::numbers(b"refused", number as usize, line)
+fn say(s: &[u8]) {
+    io::write_all(STDOUT_FILENO, s);
+}
+
+// A word and two numbers.
+fn say_numbers(word: &[u8], first: usize, second: usize) {
+    say(word);
+    io::print_decimal(STDOUT_FILENO, first as u64);
+    say(b" ");
+    io::print_decimal(STDOUT_FILENO, second as u64);
+}
+
+fn say_refused(refusal: Refusal, line: usize) {
+    say_numbers(
+        b" = refused ",
+        rules::numbers::number_of(refusal) as usize,
+        line,
+    );
+}
+
+fn check(name: &[u8], file: &[u8]) {
+    let read = qewaris::check(names::dialects::dialect_of(name), name, file);
+    match read {
+        Reading::Accepted(settings, services) => say_numbers(b" = accepted ", settings, services),
+        Reading::Refused(refusal, line) => say_refused(refusal, line),
+    }
+}
+
+// The new bytes of the two buffers.
+fn say_moved(name: &[u8], name_len: usize, file: &[u8], file_len: usize) {
+    if name.len() < name_len {
+        return;
+    }
+    if file.len() < file_len {
+        return;
+    }
+    say(b" = ");
+    say(&name[0..name_len]);
+    say(b"\n");
+    say(&file[0..file_len]);
+}
+
+fn move_service(file: &[u8], service: usize) {
+    let mut name_out = [0u8; 70];
+    let mut file_out = [0u8; 858];
+    let written = qewaris::files::move_service(
+        b"shop.config",
+        file,
+        service,
+        &mut name_out,
+        &mut file_out,
+    );
+    let answer = written.answer;
+    match answer {
+        Answer::Good => say_moved(&name_out, written.name_len, &file_out, written.file_len),
+        Answer::Refused(refusal, line) => say_refused(refusal, line),
+    }
+}
+
+// The answer to the input of a program, which is the moving one where the first line is a digit.
+fn answer(input: &[u8]) {
+    let end = text::scan::line_end(input, 0);
+    if end == input.len() {
+        return;
+    }
+    let from = end + 1;
+    if end == 1 {
+        move_service(&input[from..], hex::value(input[0]) as usize);
+    } else {
+        check(&input[0..end], &input[from..]);
+    }
+}
+
+// The byte that stands for itself or, as `|`, for the end of a line.
+fn byte_of(written: u8) -> u8 {
+    if written == 124 {
+        return 10;
+    }
+    written
+}
+
+// Writes the bytes that s stands for at the front of out, as far as there is room, and returns how many.
+fn decode(out: &mut [u8], s: &[u8]) -> usize
+    ensures { λ r. ⌜ r ≤ length (now (out .exit)) ⌝ }
+{
+    let mut i = 0;
+    while i < s.len() {
+        if out.len() <= i {
+            return i;
         }
+        out[i] = byte_of(s[i]);
+        i += 1;
     }
-}
-
-// The answer to a name and the first n bytes of s, which may be too few.
-fn answer_file(name: &[u8], s: &[u8], n: usize) {
-    if s.len() < n {
-        show::say(b"too long");
-        return;
-    }
-    let d = names::dialects::dialect_of(name);
-    say_reading(qewaris::check(d, name, &s[0..n]));
-}
-
-// The answer to a file, as it is written, and to the first n bytes of s as its name.
-fn answer_case(s: &[u8], n: usize, written: &[u8]) {
-    if s.len() < n {
-        show::say(b"too long");
-        return;
-    }
-    let mut file = [0u8; 16448];
-    let k = cases::decode(&mut file, written);
-    answer_file(&s[0..n], &file, k);
-}
-
-// The answer to a name and a file, both as they are written.
-fn answer(written_name: &[u8], written: &[u8]) {
-    let mut name = [0u8; 640];
-    let n = cases::decode(&mut name, written_name);
-    answer_case(&name, n, written);
+    i
 }
 
 // A line, and its answer where it is a case.
-fn show_line(line: &[u8]) {
-    show::say(line);
-    if line.len() == 0 {
-        return;
-    }
-    if line[0] == 35 {
-        return;
-    }
-    show::say(b" = ");
-    let space = text::scan::find(line, 0, 32);
-    if space == line.len() {
-        answer(line, b"");
-        return;
-    }
-    let from = space + 1;
-    answer(&line[0..space], &line[from..]);
+fn answer_line(line: &[u8]) {
+    let mut input = [0u8; 1024];
+    let n = decode(&mut input, line);
+    say(line);
+    answer(&input[0..n]);
+    say(b"\n");
 }
 
-fn show_lines(s: &[u8]) {
+fn answer_lines(s: &[u8]) {
     let mut at = 0;
     while at < s.len() {
         let end = text::scan::line_end(s, at);
-        show_line(&s[at..end]);
-        show::say(b"\n");
+        answer_line(&s[at..end]);
         at = end + 1;
     }
 }
@@ -77,9 +129,5 @@ fn show_lines(s: &[u8]) {
 fn main() {
     let mut buf = io::large_buffer();
     let n = io::read_full(0, &mut buf);
-    if n == buf.len() {
-        show::say(b"the table is too long\n");
-        return;
-    }
-    show_lines(&buf[..n]);
+    answer_lines(&buf[..n]);
 }

@@ -1,0 +1,68 @@
+//! Cases of the leaves: texts, words, numbers, lists, hex, lines and file names, each tried through a whole file or a written record.
+//!
+//! A case is a kind, a blank and an input. The input stands as a value of a file that is otherwise good, or in a record that is
+//! otherwise good, and the answer is what the library then says of that value: what it was read or written as, or that it is
+//! broken. A refusal for anything else is shown with its number and its line, which no row expects.
+
+mod files;
+mod hexes;
+mod judging;
+mod lines;
+mod lists;
+mod names;
+mod numbers;
+mod texts;
+mod words;
+
+use crate::written::{decoded, parts};
+
+/// What answers an input.
+type Leaf = fn(&[u8]) -> Vec<u8>;
+
+/// The answer to a case.
+pub fn answer(case: &[u8]) -> Result<Vec<u8>, String> {
+    let [kind, input] = parts(case)?;
+    let kind = String::from_utf8_lossy(kind);
+    let input = decoded(input);
+    if let Some(leaf) = leaf(&kind) {
+        return Ok(leaf(&input));
+    }
+    match kind.strip_prefix("judge-").and_then(judging::place) {
+        Some(place) => Ok(judging::judged(place, &input)),
+        None => Err(format!("there is no kind {kind}")),
+    }
+}
+
+fn leaf(kind: &str) -> Option<Leaf> {
+    Some(match kind {
+        "value-text" => texts::value_text,
+        "record-text" => texts::record_text,
+        "string-iwd" => texts::string_iwd,
+        "string-connman" => texts::string_connman,
+        "escape" => texts::escape,
+        "flag-iwd" => words::flag_iwd,
+        "flag-connman" => words::flag_connman,
+        "type" => words::service_type,
+        "ipv6" => words::ipv6,
+        "privacy" => words::privacy,
+        "security" => words::security,
+        "address" => numbers::address,
+        "netmask" => numbers::netmask,
+        "prefix-length" => numbers::prefix_length,
+        "mask-of" => numbers::mask_of,
+        "ipv4" => numbers::ipv4,
+        "dns" => lists::dns,
+        "nameservers" => lists::nameservers,
+        "entries" => lists::entries,
+        "mac" => hexes::mac,
+        "key" => hexes::key,
+        "ssid" => hexes::ssid,
+        "line-iwd" => lines::line_iwd,
+        "line-connman" => lines::line_connman,
+        "iwd-name" => names::iwd_name,
+        "connman-name" => names::connman_name,
+        "open-name" => names::open_name,
+        "psk-name" => names::psk_name,
+        _ => return None,
+    })
+}
