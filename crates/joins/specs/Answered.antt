@@ -1,13 +1,13 @@
 -- Every join record that is answered is well-formed: of an iwd file, and of a ConnMan service.
-use Prim.Native.Nat.{ℕ, zero, suc, _≤_}
+use Prim.Native.Nat.{ℕ, _≤_}
 use native.Mathlib.Omega.{arith}
 use mathlib.Core.Path.{_≡_, refl, ap, sym, _∙_, subst}
 use mathlib.Core.Bool.{Bool, true, false, cond, not, _&&_, _||_, true≢false}
-use mathlib.Core.List.{List, [], _∷_}
-use mathlib.Core.Option.{Option, none, some, Option·none-ne-some, Option·some-injective}
+use mathlib.Core.List.{List}
+use mathlib.Core.Option.{Option, none, some, Option·none-ne-some}
 use Rattle.text.specs.Words.{word, same}
 use Rattle.text.specs.Options.{isSome, andThen, mapped, orElse, only, plain}
-use Rattle.text.specs.OptionLaws.{Holds, only-some, sized-some}
+use Rattle.text.specs.OptionLaws.{Holds, sized-some}
 use Rattle.text.specs.declared.Dialect.{Dialect}
 use Rattle.text.specs.declared.Dialect.the-variants as D
 use Rattle.utf8.specs.Utf8.{utf8From, text, valueText}
@@ -25,35 +25,24 @@ use Rattle.kinds.specs.declared.Kind.the-variants as Kind
 use Rattle.kinds.specs.declared.Word.{Word}
 use Rattle.kinds.specs.declared.Word.the-variants as W
 use Rattle.kinds.specs.declared.WordList.the-variants as L
-use Rattle.names.specs.Names.{NetworkName, Network, networkOf, connmanName}
+use Rattle.names.specs.Names.{NetworkName, Network, networkOf}
 use Rattle.names.specs.Laws.{network-bytes}
 use Rattle.rules.specs.Tables.{groupOf, keysOf}
-use Rattle.rules.specs.Faults.{Entry, Section, given, serves, services}
-use Rattle.rules.specs.Groups.{faultAt, entryOf, isWord, typeIs, securityIs, lacks, clashes, lackOrClash, serviceFault, servicesFault}
-use Rattle.rules.specs.Reading.{Name, iwdName, connmanFile, nameIn, groupsFault, sectionsOf, settings, reading}
-use Rattle.rules.specs.Asking.{iwdEntry, firstOr, serviceAt, readAs, lineIn, asked, askedOf}
-use Rattle.rules.specs.Acceptance.{obeys-accepted, accepted-obeys}
-use Rattle.rules.specs.GoodAnswers.{asked-reading, asked-service}
+use Rattle.rules.specs.Faults.{Entry, given}
+use Rattle.rules.specs.Groups.{entryOf, isWord, typeIs, securityIs, lacks}
+use Rattle.rules.specs.Reading.{Name, iwdName, sectionsOf, reading}
+use Rattle.rules.specs.Asking.{iwdEntry, serviceAt, readAs, lineIn, asked}
+use Rattle.rules.specs.Acceptance.{accepted-obeys}
+use Rattle.rules.specs.GoodAnswers.{asked-reading}
 use Rattle.rules.specs.GoodValues.{GoodValue, group-value, service-value}
-use Rattle.rules.specs.GivenValues.{entry-given}
+use Rattle.rules.specs.GivenValues.{read-holds, entry-given}
 use Rattle.rules.specs.declared.Reading.the-variants.{Accepted}
-use Rattle.rules.specs.declared.Refusal.{Refusal}
-use Rattle.rules.specs.declared.Refusal.the-variants.{Missing}
 use Rattle.records.specs.Record.{Join}
 use Rattle.records.specs.Formed.{GoodPassphrase, GoodKey, GoodSecret, GoodIpv4, GoodServers, GoodDomain, WellFormed}
 use Rattle.joins.specs.Joins.{joined, secretFrom, staticOrDhcp, ipv4OrDhcp, nameFrom, iwdJoin, serviceJoin, wired, foreign, noRecord, networkName, iwdJoined, settingOf, serviceJoined}
 use Rattle.joins.specs.Joining.{or-false, joined-good, service-joining}
 
 -- ---- what is read from a setting
-
--- it has a property that its kind gives to all it reads
-read-holds : {A : Type 0} (P : A → Type 0) (f : List ℕ → Option A) (o : Option Entry) → ((e : Entry) → o ≡ some e → (a : A) → f (e .value) ≡ some a → P a) → Holds P (readAs f o)
-read-holds P f none h = tt
-read-holds {A} P f (some e) h = go (f (e .value)) refl
-  where
-    go : (o : Option A) → f (e .value) ≡ o → Holds P o
-    go none q = tt
-    go (some a) q = h e refl a q
 
 string-of : (d : Dialect) (low high : ℕ) (v : List ℕ) {t : List ℕ} → string d low high v ≡ some t → stringOf d v ≡ some t
 unfolding string

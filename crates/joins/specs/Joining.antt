@@ -1,4 +1,4 @@
--- What a join record that is answered rests on: an accepted file and, of a service, that it obeys the rules over a group.
+-- What a service's record that is answered rests on: an accepted file, and a service that obeys the rules over a group.
 use Prim.Native.Nat.{ℕ, zero, suc, _≤_}
 use native.Mathlib.Omega.{arith}
 use mathlib.Core.Path.{_≡_, refl, sym, _∙_, subst}

@@ -1,5 +1,5 @@
--- The join record of an iwd file and of a ConnMan service, as document 01 says it under "The join record". A value is asked for
--- by its group and key; which kind reads it stands in the table of keys.
+-- The join record of an iwd file and of a ConnMan service, as document 01 says it under "The join record". A value is
+-- asked for by its group and key; which kind reads it stands in the table of keys.
 use Prim.Native.Nat.{ℕ}
 use mathlib.Core.Bool.{Bool, true, false, cond, _||_}
 use mathlib.Core.List.{List, []}
@@ -87,8 +87,8 @@ iwdIpv4 at =
     let value = valueOf G.Ipv4 at in
     staticOrDhcp (value (word "Address")) (value (word "Netmask")) (value (word "Gateway"))
 
--- "iwd: the name from the file name; a Passphrase wins over a PreSharedKey; Netmask absent means 24; no Address means dhcp;
--- Enabled absent or true means auto (house); Hidden absent means false."
+-- "iwd: the name from the file name; a Passphrase wins over a PreSharedKey; Netmask absent means 24; no Address means
+-- dhcp; Enabled absent or true means auto (house); Hidden absent means false."
 abbrev pub iwdJoin : List ℕ → (List ℕ → List ℕ → Option Entry) → Join
 unfolding keysOf
 iwdJoin name at =
@@ -104,9 +104,9 @@ iwdJoin name at =
 
 -- ---- the record of a ConnMan service, at giving the setting with a key
 
--- "ConnMan: SSID, if present, is the name and Name is ignored, though its line is still judged; Security absent means psk with
--- a Passphrase, none without; IPv4 absent is dhcp, IPv6 absent auto, Hidden absent false.": the credential is the Passphrase, if
--- there is one. Security psk has one (14), Security none has none (15), and the other two have no record.
+-- "ConnMan: SSID, if present, is the name and Name is ignored, though its line is still judged; Security absent means
+-- psk with a Passphrase, none without; IPv4 absent is dhcp, IPv6 absent auto, Hidden absent false.": the credential is
+-- the Passphrase, if there is one. Security psk has one (14), Security none has none (15), the others have no record.
 abbrev pub serviceJoin : (List ℕ → Option Entry) → Join
 unfolding keysOf
 serviceJoin at =

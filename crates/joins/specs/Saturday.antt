@@ -1,5 +1,5 @@
--- "A faulty Passphrase line treated as absent, so the service reads as open": what is said of such a line, wherever it stands in a file of
--- either kind, and of a good one. That it holds is shown in SaturdayHolds; of the move, in crate `mover`.
+-- "A faulty Passphrase line treated as absent, so the service reads as open": what is said of such a line, wherever it
+-- stands in a file of either kind, and of a good one. That it holds is shown in SaturdayHolds; of the move, in `mover`.
 use Prim.Native.Nat.{ℕ, suc, _≤_}
 use mathlib.Core.Path.{_≡_}
 use mathlib.Core.Bool.{true, false}
@@ -9,7 +9,6 @@ use lib.ListN.{length}
 use Rattle.text.specs.Parts.{lines}
 use Rattle.text.specs.Words.{word}
 use Rattle.text.specs.declared.Dialect.{Dialect}
-use Rattle.text.specs.declared.Dialect.the-variants as D
 use Rattle.utf8.specs.Utf8.{valueText}
 use Rattle.lines.specs.Lines.{setting, lineOf}
 use Rattle.kinds.specs.Kinds as K
@@ -44,7 +43,9 @@ pub record FaultyPassphrase (d : Dialect) (file : List ℕ) (n : ℕ) : Type 0 w
   pub reads : lineOf d line ≡ setting (word "Passphrase") value
   pub faulty : NoPassphrase d value
 
--- ---- what is answered: a refusal, that of this line or of one before it (line 0 where the size or the name is refused)
+-- ---- what is answered
+
+-- a refusal, that of this line or of one before it, or line 0 where the size or the name is refused
 
 pub record RefusedBy (d : Dialect) (name file : List ℕ) (n : ℕ) : Type 0 where
   pub refusal : Refusal

@@ -1,5 +1,5 @@
--- What `Saturday` says holds: a file with a faulty Passphrase line is refused, by every entry point alike; and an iwd file or a
--- service with a Passphrase line has that passphrase as its credential.
+-- What `Saturday` says holds: a file with a faulty Passphrase line is refused, by every entry point alike; and an iwd
+-- file or a service with a Passphrase line has that passphrase as its credential.
 use Prim.Native.Nat.{ℕ, suc, _+_, _≤_}
 use native.Mathlib.Omega.{arith}
 use mathlib.Core.Path.{_≡_, refl, ap, sym, _∙_, subst}
@@ -24,11 +24,9 @@ use Rattle.rules.specs.Tables.{groupOf, keysOf, kindOf}
 use Rattle.rules.specs.Faults.{Entry, Section, given, keyFault, valueFault, fault}
 use Rattle.rules.specs.Groups.{Fault}
 use Rattle.rules.specs.Reading.{Name, nameIn, afterLine, lineFault, sectionsOf, reading}
-use Rattle.rules.specs.Asking.{iwdEntry, readAs, asked, askedOf}
+use Rattle.rules.specs.Asking.{iwdEntry, readAs, asked}
 use Rattle.rules.specs.GoodAnswers.{asked-reading}
 use Rattle.rules.specs.GoodValues.{GoodValue, group-value, service-value}
-use Rattle.rules.specs.declared.Answer.{Answer}
-use Rattle.rules.specs.declared.Answer.the-variants as A
 use Rattle.rules.specs.declared.Group.{Group}
 use Rattle.rules.specs.declared.Group.the-variants.{Settings, Security, Ipv4, Ipv6, Global, Service}
 use Rattle.rules.specs.declared.Reading.the-variants.{Refused}
@@ -36,9 +34,9 @@ use Rattle.rules.specs.declared.Refusal.{Refusal}
 use Rattle.rules.specs.declared.Refusal.the-variants.{Size, FileName, NoGroup, UnknownKey, RepeatedKey, ValueText, ValueKind}
 use Rattle.settings.specs.Absent.{iwd-absent-zero, service-absent-zero}
 use Rattle.records.specs.Record.{Join, passphrase}
-use Rattle.joins.specs.Joins.{Joined, joined, secretFrom, secretGiven, networkName, iwdJoin, iwdJoined, serviceJoin, noRecord, orNoPlace, orRefused, settingOf, serviceJoined, iwdRecord, iwdRecordServers, serviceRecord, serviceRecordServers}
+use Rattle.joins.specs.Joins.{joined, secretFrom, secretGiven, networkName, iwdJoin, iwdJoined, settingOf, serviceJoined, iwdRecord, iwdRecordServers, serviceRecord, serviceRecordServers}
 use Rattle.joins.specs.Joining.{joined-good, service-joining}
-use Rattle.joins.specs.Saturday.{NoPassphrase, broken-text, no-string, LineAt, FaultyPassphrase, RefusedBy, IwdRefuses, ServiceRefuses, Read, Kept}
+use Rattle.joins.specs.Saturday.{NoPassphrase, broken-text, no-string, FaultyPassphrase, RefusedBy, IwdRefuses, ServiceRefuses, Read, Kept}
 
 -- ---- such a value is faulty, wherever the key is listed
 

@@ -1,5 +1,6 @@
--- "Security absent means psk with a Passphrase, none without", and Security psk or none means what it says, of every record that
--- is answered: a service needs a key exactly when it has a Passphrase line, with psk it needs one, and with none it needs none.
+-- "Security absent means psk with a Passphrase, none without", and Security psk or none means what it says, of every
+-- record that is answered: a service needs a key exactly when it has a Passphrase line; with psk it needs one, and with
+-- none it needs none.
 use Prim.Native.Nat.{ℕ}
 use mathlib.Core.Path.{_≡_, refl, ap, sym, _∙_}
 use mathlib.Core.Bool.{Bool, true, false, not, _&&_, _||_}
@@ -14,7 +15,7 @@ use Rattle.kinds.specs.declared.Word.the-variants as W
 use Rattle.kinds.specs.declared.WordList.the-variants as L
 use Rattle.rules.specs.Tables.{keysOf}
 use Rattle.rules.specs.Faults.{Entry, given}
-use Rattle.rules.specs.Groups.{entryOf, isWord, typeIs, securityIs, wireless}
+use Rattle.rules.specs.Groups.{isWord, typeIs, securityIs, wireless}
 use Rattle.rules.specs.Reading.{sectionsOf}
 use Rattle.rules.specs.Asking.{serviceAt}
 use Rattle.rules.specs.ListedValues.{valueOf}

@@ -1,5 +1,5 @@
--- "No service that needs a key becomes one that needs none", of every move that answers 0, with nothing else supposed: of file, service
--- and buffers; what the answer and the buffers are is the contract of the move.
+-- "No service that needs a key becomes one that needs none", of every move that answers 0, with nothing else supposed of
+-- the file, the service and the buffers.
 use Prim.Native.Nat.{ℕ}
 use mathlib.Core.Path.{_≡_, refl}
 use mathlib.Core.List.{List}
@@ -17,7 +17,8 @@ use Rattle.mover.specs.Demand.{Moved}
 use Rattle.mover.specs.Theorem.{demand-3}
 use Rattle.mover.specs.Order.{good-movable}
 
--- the service has a record; what is written, the new bytes of the buffers x and y, is accepted and has a record; the two are the same
+-- the service has a record; what is written, the new bytes of the buffers x and y, is accepted and has a record; and
+-- the two are the same
 pub record KeyKept (name file : List ℕ) (w : ℕ) (x y : List ℕ) (a : Written) : Type 0 where
   pub service-join : Join
   pub service : serviceJoined name file w ≡ joined service-join

@@ -1,4 +1,5 @@
--- What the move of a ConnMan service to iwd answers: the file's own refusals, "18 next, then 16, then 17", or the file name and the file of the service's record.
+-- What the move of a ConnMan service to iwd answers: the file's own refusals, "18 next, then 16, then 17", or the file
+-- name and the file of the service's record.
 use Prim.Native.Nat.{ℕ}
 use mathlib.Core.Bool.{Bool, true, false, cond, not}
 use mathlib.Core.List.{List, [], _∷_, _++_}

@@ -1,7 +1,8 @@
--- The Saturday, whole for a ConnMan file: one with a faulty Passphrase line is refused with the number and line of that line or of
--- one before it; settings, record and move of every service answer exactly that, with zeros for all else and nothing written.
+-- The Saturday, whole for a ConnMan file: one with a faulty Passphrase line is refused with the number and line of that
+-- line or of one before it; settings, record and move of every service answer exactly that, with zeros for all else and
+-- nothing written.
 use Prim.Native.Nat.{ℕ, _≤_}
-use mathlib.Core.Path.{_≡_, refl, ap, _∙_}
+use mathlib.Core.Path.{_≡_, ap, _∙_}
 use mathlib.Core.List.{List}
 use Rattle.text.specs.declared.Dialect.the-variants as D
 use Rattle.rules.specs.Asking.{askedOf}
