@@ -11,8 +11,8 @@ use Rattle.intake.specs.declared.Kept.{Kept}
 use Rattle.intake.specs.Forms.{formFrom}
 use Rattle.intake.specs.Input.{firstLine, behind}
 
--- a buffer held o with its front up to a, and holds x with its front up to r: behind the old front stands as much of s as there
--- is room for, and behind the new one the old bytes
+-- a buffer held o with its front up to a, and holds x with its front up to r: behind the old front stands as much of s
+-- as there is room for, and behind the new one the old bytes
 pub record Appended (s : List ℕ) (a : ℕ) (o x : List ℕ) (r : ℕ) : Type 0 where
   pub wrote : Wrote (take (length o - a) s) a o x r
 

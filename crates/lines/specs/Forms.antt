@@ -1,4 +1,4 @@
--- A line by the places in it: which form the code answers, as a definition, and what each of its private steps answers.
+-- A line by the places in it: which form the code answers, as a definition, and what its private steps answer.
 use Prim.Native.Nat.{ℕ, _+_, _≤_}
 use mathlib.Core.Path.{_≡_}
 use mathlib.Core.Bool.{Bool}
@@ -27,8 +27,8 @@ valueFrom l k = runEnd isBlank l (runEnd isBlank l k + 1)
 abbrev pub valueAt : Dialect → List ℕ → ℕ → Place
 valueAt d l v = record { start = v; end = v + length (ended d (drop v l)) }
 
--- what a line is, by places in l, where its first byte that is no blank is at i: a header's name stands behind its `[`, a
--- setting's key at i, and its value behind the `=` and its whitespace
+-- what a line is, by places in l, where its first byte that is no blank is at i: a header's name stands behind its
+-- `[`, a setting's key at i, and its value behind the `=` and its whitespace
 abbrev pub formIn : Dialect → List ℕ → ℕ → Line → Form
 formIn d l i blank = Blank
 formIn d l i comment = Comment

@@ -101,8 +101,8 @@ fn read_kind(kind: FileKind, d: Dialect, file: &[u8], x: &mut [u16; 384], wanted
     }
 }
 
-// Reads a file, and leaves where its settings stand and those of the service asked for, counted from 1, in the table. A refusal
-// leaves the table as it was, empty.
+// Reads a file, and leaves where its settings stand and those of the service asked for, counted from 1, in the table. A
+// refusal leaves the table as it was, empty.
 pub fn read(d: Dialect, name: &[u8], file: &[u8], x: &mut [u16; 384], wanted: usize) -> Reading
     requires empty { ⌜ now x ≡ replicate 384 0 ⌝ }
     ensures { λ r. ⌜ Reads d (now (name .entry)) (now (file .entry)) wanted (now (x .exit)) r ⌝ }

@@ -15,11 +15,12 @@ use Rattle.round_trip.specs.declared.Back.{Back}
 abbrev pub readSame : List ℕ → List ℕ → JoinRecord → List (List ℕ) → Bool
 readSame name file r s = sameAnswer (iwdRecord name file) (iwdRecordServers name file (replicate 4 noAddress)) r s
 
--- the record r and its servers s are written into the buffers, which held n and f and hold x and y; what is compared is read from
--- the new bytes, and it is the same whenever something is written
+-- the record r and its servers s are written into the buffers, which held n and f and hold x and y; what is compared is
+-- read from the new bytes, and it is the same whenever something is written
 pub record ReadsBack (r : JoinRecord) (s : List (List ℕ)) (n f x y : List ℕ) (b : Back) : Type 0 where
   pub writes : Writes (writing r s n f) n f x y (b .written)
   pub compared :
       b .same
-      ≡ (isGood (b .written .answer) && readSame (take (b .written .«name_len») x) (take (b .written .«file_len») y) r s)
+      ≡ (isGood (b .written .answer)
+      && readSame (take (b .written .«name_len») x) (take (b .written .«file_len») y) r s)
   pub same : b .same ≡ isGood (b .written .answer)

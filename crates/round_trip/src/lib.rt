@@ -33,9 +33,9 @@ fn is_record(name: &[u8], file: &[u8], r: JoinRecord, servers: [[u8; 4]; 4]) -> 
     }
 }
 
-// Writes a record's name and file into the lent buffers as `writer::write_iwd` does, reads these bytes back, and says whether the
-// record that they give and its servers are those that were written, in every place: they are whenever something is written. A
-// refusal leaves both buffers as they were, and nothing is read.
+// Writes a record's name and file into the lent buffers as `writer::write_iwd` does, reads these bytes back, and says
+// whether the record that they give and its servers are those that were written, in every place: they are whenever
+// something is written. A refusal leaves both buffers as they were, and nothing is read.
 pub fn reads_back(r: JoinRecord, servers: [[u8; 4]; 4], name: &mut [u8], file: &mut [u8]) -> Back
     ensures { λ b. ⌜ ReadsBack r servers (now (name .entry)) (now (file .entry)) (now (name .exit)) (now (file .exit)) b ⌝ }
 {
