@@ -3,30 +3,33 @@
 -- proofs, and `Exports` says the demands of the exported functions.
 use Prim.Native.Nat.{ℕ, _≤_}
 use mathlib.Core.Path.{_≡_}
-use mathlib.Core.Bool.{true}
+use mathlib.Core.Bool.{true, false}
 use mathlib.Core.List.{List, [], _∷_, _++_}
+use mathlib.Core.Logic.{_↔_}
 use mathlib.Core.Option.{none, some}
 use lib.ListN.{length, take}
 use Rattle.text.specs.Parts.{lines}
+use Rattle.text.specs.Words.{word}
 use Rattle.text.specs.declared.Dialect.{Dialect}
 use Rattle.text.specs.declared.Dialect.the-variants.{Iwd, ConnMan}
-use Rattle.kinds.specs.declared.Kind.{Kind}
 use Rattle.rules.specs.AnswerRows.{Row, bare, lined, listed, ownRows}
 use Rattle.rules.specs.Tables.{groupOf, kindOf}
-use Rattle.rules.specs.Faults.{Entry, services}
-use Rattle.rules.specs.Groups.{entryOf, entriesIn}
+use Rattle.rules.specs.Faults.{Entry, given}
 use Rattle.rules.specs.Numbers.{numberOf, seenOf, answerNumber, answerLine}
-use Rattle.rules.specs.Reading.{sectionsOf, settings, reading}
-use Rattle.rules.specs.Asking.{serviceAt, asked}
-use Rattle.rules.specs.Acceptance.{Obeys, Offends}
-use Rattle.rules.specs.GoodValues.{GoodValue}
+use Rattle.rules.specs.Reading.{sectionsOf, reading}
+use Rattle.rules.specs.Asking.{iwdEntry, serviceAt, asked}
+use Rattle.rules.specs.FileRules.{AcceptedFile, Answers}
+use Rattle.rules.specs.ListedValues.{valueOf}
+use Rattle.rules.specs.GivenValues.{Gives, serviceEntry}
 use Rattle.rules.specs.declared.Answer.{Answer}
 use Rattle.rules.specs.declared.Answer.the-variants.{Good, Refused}
 use Rattle.rules.specs.declared.Group.{Group}
 use Rattle.rules.specs.declared.Group.the-variants.{Service}
+use Rattle.rules.specs.declared.Reading.{Reading}
 use Rattle.rules.specs.declared.Reading.the-variants as R
 use Rattle.rules.specs.declared.Refusal.{Refusal}
 use Rattle.settings.specs.Settings.{iwdSettings, serviceSettings}
+use Rattle.settings.specs.Given.{IwdGiven, ServiceGiven}
 use Rattle.settings.specs.Asked.{iwdAnswered, iwdServersAfter, serviceAnswered, serviceServersAfter}
 use Rattle.lookups.specs.Lookups.{iwdLookup, globalLookup, serviceLookup}
 use Rattle.records.specs.Record.{Join, joined}
@@ -36,13 +39,15 @@ use Rattle.written.specs.Written.{hasPlace, nameText, fileText}
 use Rattle.writer.specs.Writing.{Writing, writes, writing, writtenAnswer, nameAfter, fileAfter, Writes}
 use Rattle.writer.specs.declared.Written.{Written}
 use Rattle.joins.specs.Joins as J
-use Rattle.joins.specs.Joins.{zeroRecord, iwdJoined, serviceJoined, iwdRecord, iwdRecordServers, serviceRecord, serviceRecordServers, needsKey}
+use Rattle.joins.specs.Joins.{zeroRecord, serviceJoined, iwdRecord, iwdRecordServers, serviceRecord, serviceRecordServers, needsKey, settingOf}
+use Rattle.joins.specs.Saturday.{FaultyPassphrase}
 use Rattle.mover.specs.Moves.{moving}
 use Rattle.mover.specs.Demand.{Movable, Moved}
+use Rattle.mover.specs.GoodMoves.{KeyKept}
 
 -- ==== 1. "Whatever bytes, name, service number, record or buffers come in, each entry point ends with an answer from
--- document 01's table. A refusal gives its number and line, zeros for all else, and changes no byte of any lent buffer,
--- whatever they held before."
+-- document 01's table. A refusal gives its number and line, zeros for all else, and changes no byte of any lent buffer."
+-- Buffers are lists of bytes, whatever they held before.
 
 -- a call of an entry point with all that it is given, what lent arrays and buffers hold included; a string is asked for
 -- by its group and key (`is_well_formed` answers yes or no)
@@ -156,48 +161,56 @@ Demand-1-refusal = (c : Call) (r : Refusal) (l : ℕ) → answerOf c ≡ Refused
 -- line is named. Accepted settings have the values those rules give. A well-formed record that iwd has a place for,
 -- written with room, reads back as itself."
 
--- `Obeys` and `Offends` of rules Acceptance say what it is to obey, and which fault is the first
-pub record Accepts (d : Dialect) (name file : List ℕ) : Type 0 where
-  pub obeying :
-      Obeys d name file
-      → reading d name file ≡ R.Accepted (settings (sectionsOf d file)) (services (sectionsOf d file))
-  pub accepted : {n m : ℕ} → reading d name file ≡ R.Accepted n m → Obeys d name file
-  pub offending : {r : Refusal} {l : ℕ} → Offends d name file r l → reading d name file ≡ R.Refused r l
-  pub refused : {r : Refusal} {l : ℕ} → reading d name file ≡ R.Refused r l → Offends d name file r l
+-- `Answers` of rules `FileRules` states 01's rules of the file's own lines, with nothing of the reading in them: accepted
+-- with these counts where no line is faulty and then no group, else refused with the number and line of the first fault.
+-- The reading gives exactly that answer; every input has one, and no input two.
+pub record ReadsByTheRules (d : Dialect) (name file : List ℕ) : Type 0 where
+  pub exactly : (r : Reading) → Answers d name file r ↔ (reading d name file ≡ r)
+  pub answer : (r : Reading) × Answers d name file r
+  pub one : (r q : Reading) → Answers d name file r → Answers d name file q → r ≡ q
 
 abbrev pub Demand-2-acceptance : Type 0
-Demand-2-acceptance = (d : Dialect) (name file : List ℕ) → Accepts d name file
+Demand-2-acceptance = (d : Dialect) (name file : List ℕ) → ReadsByTheRules d name file
 
--- "Accepted settings have the values those rules give": each setting of an accepted file reads as a value of its key's
--- kind, in a group by its name and in a service by its number; the typed settings, the strings and the join record are
--- read from these settings by these kinds (their definitions)
-pub record GroupSetting (d : Dialect) (name file group key : List ℕ) (k : Kind) (e : Entry) : Type 0 where
-  pub count : ℕ
+-- a file that obeys every rule, whatever its counts
+pub record ObeysTheRules (d : Dialect) (name file : List ℕ) : Type 0 where
+  pub settings : ℕ
   pub services : ℕ
-  pub accepted : reading d name file ≡ R.Accepted count services
-  pub named : Group
-  pub is-named : groupOf d group ≡ some named
-  pub kind : kindOf named key ≡ some k
-  pub given : entryOf key (entriesIn group (sectionsOf d file)) ≡ some e
+  pub accepted : AcceptedFile d name file settings services
 
-pub record ServiceSetting (name file : List ℕ) (w : ℕ) (key : List ℕ) (k : Kind) (e : Entry) : Type 0 where
-  pub count : ℕ
-  pub services : ℕ
-  pub accepted : reading ConnMan name file ≡ R.Accepted count services
-  pub kind : kindOf Service key ≡ some k
-  pub given : entryOf key (serviceAt w (sectionsOf ConnMan file)) ≡ some e
-
+-- "Accepted settings have the values those rules give": of each group and each service, a key's value is absent exactly
+-- where no line gives the key, and else what the rules of the kind that is listed for the key give (`Gives` of rules
+-- `GivenValues`); the typed settings, the strings and the join record are made of these values (their definitions)
 abbrev pub Demand-2-group-values : Type 0
 Demand-2-group-values =
-    (d : Dialect) (name file group key : List ℕ) (k : Kind) (e : Entry)
-    → GroupSetting d name file group key k e
-    → GoodValue d k (e .value)
+    (d : Dialect) (name file : List ℕ) (n m : ℕ)
+    → reading d name file ≡ R.Accepted n m
+    → (group : List ℕ) (g : Group)
+    → groupOf d group ≡ some g
+    → (key : List ℕ)
+    → Gives d (kindOf g key) (iwdEntry (sectionsOf d file) group key)
+    (valueOf g (iwdEntry (sectionsOf d file) group) key)
 
 abbrev pub Demand-2-service-values : Type 0
 Demand-2-service-values =
-    (name file : List ℕ) (w : ℕ) (key : List ℕ) (k : Kind) (e : Entry)
-    → ServiceSetting name file w key k e
-    → GoodValue ConnMan k (e .value)
+    (name file : List ℕ) (n m : ℕ)
+    → reading ConnMan name file ≡ R.Accepted n m
+    → (w : ℕ) (key : List ℕ)
+    → Gives ConnMan (kindOf Service key) (serviceEntry (sectionsOf ConnMan file) w key)
+    (valueOf Service (serviceEntry (sectionsOf ConnMan file) w) key)
+
+-- each field of the typed settings is absent exactly where no line of the accepted file gives its key
+abbrev pub Demand-2-iwd-fields : Type 0
+Demand-2-iwd-fields =
+    (name file : List ℕ)
+    → iwdAnswered name file .answer ≡ Good
+    → IwdGiven (sectionsOf Iwd file) (iwdAnswered name file .settings)
+
+abbrev pub Demand-2-service-fields : Type 0
+Demand-2-service-fields =
+    (name file : List ℕ) (w : ℕ)
+    → serviceAnswered name file w .answer ≡ Good
+    → ServiceGiven (serviceAt w (sectionsOf ConnMan file)) (serviceAnswered name file w .settings)
 
 -- a struct that is formed, with a place in iwd, and buffers with room; `Arrays` is what the struct's types say of its
 -- arrays
@@ -250,13 +263,48 @@ Demand-3-record =
     → Move name file w n f x y a
     → SameRecord name file w x y a
 
--- "No service that needs a key becomes one that needs none."
+-- "No service that needs a key becomes one that needs none.": of every move that answers 0, with nothing else supposed
 abbrev pub Demand-3-key : Type 0
 Demand-3-key =
     (name file : List ℕ) (w : ℕ) (n f x y : List ℕ) (a : Written)
-    → Move name file w n f x y a
-    → (i j : Join)
-    → serviceJoined name file w ≡ J.joined i
-    → iwdJoined (take (a .«name_len») x) (take (a .«file_len») y) ≡ J.joined j
-    → needsKey i ≡ true
-    → needsKey j ≡ true
+    → Writes (moving name file w n f) n f x y a
+    → a .answer ≡ Good
+    → KeyKept name file w x y a
+
+-- ==== that Saturday: "A faulty Passphrase line treated as absent, so the service reads as open"
+
+-- the calls that read a file of a dialect under a name
+pub data ReadsFile (name file : List ℕ) : Dialect → Call → Type 0 where
+  by-check : (d : Dialect) → ReadsFile name file d (check d name file)
+  by-iwd-settings : (s : List (List ℕ)) → ReadsFile name file Iwd (iwd-settings name file s)
+  by-service-settings : (w : ℕ) (s : List (List ℕ)) → ReadsFile name file ConnMan (service-settings name file w s)
+  by-iwd-string : (group key : List ℕ) → ReadsFile name file Iwd (iwd-string group key name file)
+  by-global-string : (key : List ℕ) → ReadsFile name file ConnMan (global-string key name file)
+  by-service-string : (w : ℕ) (key : List ℕ) → ReadsFile name file ConnMan (service-string w key name file)
+  by-iwd-record : (s : List (List ℕ)) → ReadsFile name file Iwd (iwd-record name file s)
+  by-service-record : (w : ℕ) (s : List (List ℕ)) → ReadsFile name file ConnMan (service-record name file w s)
+  by-move : (w : ℕ) (n f : List ℕ) → ReadsFile name file ConnMan (move name file w n f)
+
+-- a refusal, at line n or before it, that every one of them answers, with zeros for all else and every lent byte as it was
+pub record AllRefuse (d : Dialect) (name file : List ℕ) (n : ℕ) : Type 0 where
+  pub refusal : Refusal
+  pub line : ℕ
+  pub early : line ≤ n
+  pub answers : (c : Call) → ReadsFile name file d c → answerOf c ≡ Refused refusal line
+  pub zeros : (c : Call) → ReadsFile name file d c → Zeroed c refusal line
+
+-- a file whose line n, wherever it stands, is a Passphrase line with broken text or no passphrase
+abbrev pub Saturday : Type 0
+Saturday = (d : Dialect) (name file : List ℕ) (n : ℕ) → FaultyPassphrase d file n → AllRefuse d name file n
+
+-- of a service whose record is answered: `Security = psk` needs a key, `Security = none` needs none, and where no
+-- line gives Security it needs one exactly when a line gives Passphrase
+pub record SecurityKept (name file : List ℕ) (w : ℕ) (j : Join) : Type 0 where
+  pub psk : (e : Entry) → settingOf w file (word "Security") ≡ some e → e .value ≡ word "psk" → needsKey j ≡ true
+  pub open-network : (e : Entry) → settingOf w file (word "Security") ≡ some e → e .value ≡ word "none" → needsKey j ≡ false
+  pub absent :
+      settingOf w file (word "Security") ≡ none
+      → needsKey j ≡ given (word "Passphrase") (serviceAt w (sectionsOf ConnMan file))
+
+abbrev pub Security : Type 0
+Security = (name file : List ℕ) (w : ℕ) (j : Join) → serviceJoined name file w ≡ J.joined j → SecurityKept name file w j

@@ -1,26 +1,29 @@
 -- The three demands hold: the theorems whose types `Demands` gives.
 use Prim.Native.Nat.{ℕ}
 use native.Mathlib.Omega.{arith}
-use mathlib.Core.Path.{_≡_, refl, ap, _∙_}
+use mathlib.Core.Path.{_≡_, refl, ap, sym, _∙_}
 use mathlib.Core.List.{List}
 use mathlib.Core.Option.{Option, none}
 use borrow.Author.Tests.{le-leb}
 use lib.ListN.{length}
 use Rattle.text.specs.Words.{word}
+use Rattle.text.specs.declared.Dialect.{Dialect}
 use Rattle.text.specs.declared.Dialect.the-variants.{Iwd, ConnMan}
+use Rattle.names.specs.Names.{networkOf}
 use Rattle.rules.specs.Faults.{Entry}
 use Rattle.rules.specs.Groups.{entryOf, entriesIn}
 use Rattle.rules.specs.Numbers.{numberOf, seenOf, answerNumber, answerLine}
 use Rattle.rules.specs.Reading.{sectionsOf, reading}
-use Rattle.rules.specs.Asking.{serviceAt, asked, askedOf}
-use Rattle.rules.specs.Acceptance.{obeys-accepted, accepted-obeys, offends-refused, refused-offends}
-use Rattle.rules.specs.GoodValues.{group-value, service-value}
+use Rattle.rules.specs.Asking.{iwdEntry, serviceAt, asked, askedOf}
+use Rattle.rules.specs.Exactly.{every-input-answered, one-answer, answers-exactly}
+use Rattle.rules.specs.GivenValues.{group-gives, service-gives}
 use Rattle.rules.specs.declared.Answer.{Answer}
 use Rattle.rules.specs.declared.Answer.the-variants.{Good, Refused}
 use Rattle.rules.specs.declared.Reading.{Reading}
 use Rattle.rules.specs.declared.Reading.the-variants as R
 use Rattle.rules.specs.declared.Refusal.{Refusal}
 use Rattle.settings.specs.Settings.{iwdSettings, serviceSettings}
+use Rattle.settings.specs.GivenHolds.{iwd-settings-given, service-settings-given}
 use Rattle.settings.specs.Asked.{iwdAnswerOf, iwdServersOf, serviceAnswerOf, serviceServersOf}
 use Rattle.lookups.specs.Lookups.{lookupOf}
 use Rattle.records.specs.Record.{joined}
@@ -28,12 +31,16 @@ use Rattle.records.specs.Laws.{joined-good}
 use Rattle.written.specs.Written.{nameText, fileText}
 use Rattle.writer.specs.Writing.{Writing, writes, refuses, writing, writtenAnswer}
 use Rattle.joins.specs.Joins as J
-use Rattle.joins.specs.Joins.{Joined, zeroRecord, iwdJoined, serviceJoined, iwdRecord, iwdRecordServers, serviceRecord, serviceRecordServers, recordAnswer, serversAfter}
+use Rattle.joins.specs.Security.{key-needed, psk-needs-key, none-needs-no-key}
+use Rattle.joins.specs.SaturdayHolds.{faulty-refused}
+use Rattle.joins.specs.Joins.{iwdJoin, networkName, orNoPlace, noRecord, serviceJoin, settingOf, Joined, zeroRecord, iwdJoined, serviceJoined, iwdRecord, iwdRecordServers, serviceRecord, serviceRecordServers, recordAnswer, serversAfter}
 use Rattle.round_trip.specs.RoundTrip.{written-accepted}
 use Rattle.round_trip.specs.Structs.{writing-record, writing-servers}
-use Rattle.mover.specs.Moves.{moving}
+use Rattle.mover.specs.GoodMoves.{good-key-kept}
+use Rattle.mover.specs.Moves.{orRefused, movingOf, moving}
 use Rattle.mover.specs.Theorem as M
 use Rattle.qewaris.specs.Demands
+use Rattle.qewaris.specs.TableHolds.{settings-answer, service-answer}
 
 -- ---- demand 1; `TableHolds` has `demand-1-table`
 
@@ -82,17 +89,23 @@ demand-1-refusal (Demands.move name file w n f) r l e = unwritten (moving name f
 pub demand-2-acceptance : Demands.Demand-2-acceptance
 demand-2-acceptance d name file =
     record {
-      obeying = obeys-accepted d name file;
-      accepted = accepted-obeys d name file;
-      offending = offends-refused d name file;
-      refused = refused-offends d name file;
+      exactly = answers-exactly d name file;
+      answer = every-input-answered d name file;
+      one = one-answer d name file;
     }
 
 pub demand-2-group-values : Demands.Demand-2-group-values
-demand-2-group-values d name file group key k e h = group-value d name file (h .accepted) group key (h .is-named) (h .kind) (h .given)
+demand-2-group-values d name file n m e group g q key = group-gives d name file e group q key
 
 pub demand-2-service-values : Demands.Demand-2-service-values
-demand-2-service-values name file w key k e h = service-value ConnMan name file (h .accepted) w key (h .kind) (h .given)
+demand-2-service-values name file n m e w key = service-gives name file e w key
+
+pub demand-2-iwd-fields : Demands.Demand-2-iwd-fields
+demand-2-iwd-fields name file e = iwd-settings-given name file (sym (settings-answer (asked (reading Iwd name file)) (sectionsOf Iwd file)) ∙ e)
+
+pub demand-2-service-fields : Demands.Demand-2-service-fields
+demand-2-service-fields name file w e =
+    service-settings-given name file w (sym (service-answer (askedOf w (reading ConnMan name file)) (serviceAt w (sectionsOf ConnMan file))) ∙ e)
 
 pub demand-2-round-trip : Demands.Demand-2-round-trip
 unfolding writing
@@ -119,4 +132,38 @@ pub demand-3-record : Demands.Demand-3-record
 demand-3-record name file w n f x y a m = record { struct = M.record-kept (m .movable) (m .writes); servers = M.servers-kept (m .movable) (m .writes) }
 
 pub demand-3-key : Demands.Demand-3-key
-demand-3-key name file w n f x y a m i j p q e = M.key-kept (m .movable) (m .writes) p q ∙ e
+demand-3-key name file w n f x y a h e = good-key-kept name file w n f h e
+
+-- ---- that Saturday
+
+-- the refusal of a file is the answer of every call that reads it
+all-refuse : (name file : List ℕ) {d : Dialect} {r : Refusal} {l : ℕ} → reading d name file ≡ R.Refused r l → (c : Demands.Call) → Demands.ReadsFile name file d c → Demands.answerOf c ≡ Refused r l
+unfolding iwdRecord serviceRecord moving
+all-refuse name file e c (Demands.by-check d) = ap asked e
+all-refuse name file e c (Demands.by-iwd-settings s) = ap (λ (q : Reading). iwdAnswerOf (asked q) (sectionsOf Iwd file) .answer) e
+all-refuse name file e c (Demands.by-service-settings w s) = ap (λ (q : Reading). serviceAnswerOf (askedOf w q) (serviceAt w (sectionsOf ConnMan file)) .answer) e
+all-refuse name file e c (Demands.by-iwd-string group key) = ap (λ (q : Reading). lookupOf (asked q) (entryOf key (entriesIn group (sectionsOf Iwd file))) .answer) e
+all-refuse name file e c (Demands.by-global-string key) = ap (λ (q : Reading). lookupOf (asked q) (entryOf key (entriesIn (word "global") (sectionsOf ConnMan file))) .answer) e
+all-refuse name file e c (Demands.by-service-string w key) = ap (λ (q : Reading). lookupOf (askedOf w q) (entryOf key (serviceAt w (sectionsOf ConnMan file))) .answer) e
+all-refuse name file e c (Demands.by-iwd-record s) = ap (λ (q : Reading). recordAnswer (J.orRefused (asked q) (J.joined (iwdJoin (networkName (networkOf name)) (iwdEntry (sectionsOf Iwd file))))) .answer) e
+all-refuse name file e c (Demands.by-service-record w s) = ap (λ (q : Reading). recordAnswer (J.orRefused (askedOf w q) (orNoPlace (noRecord (settingOf w file)) (serviceJoin (settingOf w file)))) .answer) e
+all-refuse name file e c (Demands.by-move w n f) = ap (λ (q : Reading). writtenAnswer (orRefused (askedOf w q) (movingOf (settingOf w file) n f)) .answer) e
+
+pub saturday : Demands.Saturday
+saturday d name file n p =
+    let h = faulty-refused d name file p in
+    record {
+      refusal = h .refusal;
+      line = h .line;
+      early = h .early;
+      answers = all-refuse name file (h .is);
+      zeros = λ c u. demand-1-refusal c (h .refusal) (h .line) (all-refuse name file (h .is) c u);
+    }
+
+pub security : Demands.Security
+security name file w j a =
+    record {
+      psk = λ e l q. psk-needs-key name file w a l q;
+      open-network = λ e l q. none-needs-no-key name file w a l q;
+      absent = λ l. key-needed name file w a;
+    }

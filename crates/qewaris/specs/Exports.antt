@@ -13,7 +13,6 @@ use Rattle.text.specs.Options.{plain}
 use Rattle.text.specs.declared.Dialect.the-variants.{Iwd, ConnMan}
 use Rattle.kinds.specs.Kinds.{entries}
 use Rattle.rules.specs.AnswerRows.{Row, bare, placed, listed, ownRows}
-use Rattle.rules.specs.Acceptance.{Obeys}
 use Rattle.rules.specs.Asking.{readAs}
 use Rattle.lookups.specs.Lookups.{Lookup, iwdLookup, globalLookup, serviceLookup, valueIn}
 use Rattle.records.specs.Record.{joined}
@@ -33,7 +32,7 @@ use Rattle.boundary.specs.declared.CIwdSettings.{CIwdSettings}
 use Rattle.boundary.specs.declared.CServiceSettings.{CServiceSettings}
 use Rattle.qewaris.specs.Calls
 use Rattle.qewaris.specs.Zeros.{zeroReading, zeroText, zeroIwd, zeroService, zeroAnswer, zeroWritten}
-use Rattle.qewaris.specs.Demands.{serviceRefusals, serviceRows, serviceRecordRows, writerRows, moveRows}
+use Rattle.qewaris.specs.Demands.{ObeysTheRules, serviceRefusals, serviceRows, serviceRecordRows, writerRows, moveRows}
 
 -- ==== the calls, and the parts of an answer
 
@@ -190,18 +189,18 @@ pub record Joinable (name file : List ℕ) (w : ℕ) : Type 0 where
 
 -- what a call asks for is there
 abbrev pub Success : Call → Type 0
-Success (check-iwd name file) = Obeys Iwd name file
-Success (check-connman name file) = Obeys ConnMan name file
-Success (iwd-settings-of name file) = Obeys Iwd name file
+Success (check-iwd name file) = ObeysTheRules Iwd name file
+Success (check-connman name file) = ObeysTheRules ConnMan name file
+Success (iwd-settings-of name file) = ObeysTheRules Iwd name file
 Success (service-settings-of name file w) = Service name file w
-Success (iwd-passphrase name file) = Obeys Iwd name file
-Success (iwd-domain-name name file) = Obeys Iwd name file
-Success (global-name name file) = Obeys ConnMan name file
-Success (global-description name file) = Obeys ConnMan name file
+Success (iwd-passphrase name file) = ObeysTheRules Iwd name file
+Success (iwd-domain-name name file) = ObeysTheRules Iwd name file
+Success (global-name name file) = ObeysTheRules ConnMan name file
+Success (global-description name file) = ObeysTheRules ConnMan name file
 Success (service-name name file w) = Service name file w
 Success (service-passphrase name file w) = Service name file w
 Success (service-domain name file w) = Service name file w
-Success (iwd-record name file) = Obeys Iwd name file
+Success (iwd-record name file) = ObeysTheRules Iwd name file
 Success (service-record name file w) = Joinable name file w
 Success (write-iwd c n f) = Writable c n f
 Success (move-service name file w n f) = Movable name file w n f

@@ -19,6 +19,7 @@ use Rattle.rules.specs.Faults.{Entry, Section}
 use Rattle.rules.specs.Numbers.{numberOf, answerNumber, answerLine}
 use Rattle.rules.specs.Reading.{sectionsOf, reading}
 use Rattle.rules.specs.Asking.{iwdEntry, serviceAt, lineIn, asked, askedOf}
+use Rattle.rules.specs.Tables.{keysOf}
 use Rattle.rules.specs.Places.{EntryStands, group-stands, service-stands}
 use Rattle.rules.specs.AnswerRows.{Row, bare, placed, fits, listed, ownRows}
 use Rattle.rules.specs.declared.Answer.{Answer}
@@ -115,10 +116,12 @@ text-zeros Good o h = absurd (omega arith)
 text-zeros (Refused r l) o h = refl
 
 iwd-zeros : (a : Answer) (gs : List Section) → 0 < iwdSettingsAt (iwdAnswerOf a gs) (iwdServersOf a gs noServers) .number → iwd-settings (iwdSettingsAt (iwdAnswerOf a gs) (iwdServersOf a gs noServers)) ≡ zeroed (iwd-settings (iwdSettingsAt (iwdAnswerOf a gs) (iwdServersOf a gs noServers)))
+unfolding keysOf
 iwd-zeros Good gs h = absurd (omega arith)
 iwd-zeros (Refused r l) gs h = refl
 
 service-zeros : (a : Answer) (es : List Entry) → 0 < serviceSettingsAt (serviceAnswerOf a es) (serviceServersOf a es noServers) .number → service-settings (serviceSettingsAt (serviceAnswerOf a es) (serviceServersOf a es noServers)) ≡ zeroed (service-settings (serviceSettingsAt (serviceAnswerOf a es) (serviceServersOf a es noServers)))
+unfolding keysOf
 service-zeros Good es h = absurd (omega arith)
 service-zeros (Refused r l) es h = refl
 

@@ -23,6 +23,7 @@ use Rattle.kinds.specs.declared.Entries.{Entries}
 use Rattle.rules.specs.Faults.{Entry}
 use Rattle.rules.specs.Reading.{sectionsOf, reading}
 use Rattle.rules.specs.Asking.{iwdEntry, serviceAt, readAs, startIn, asked, askedOf}
+use Rattle.rules.specs.Tables.{keysOf}
 use Rattle.rules.specs.Places.{EntryStands, group-stands, service-stands}
 use Rattle.rules.specs.Numbers.{numberOf, answerNumber}
 use Rattle.rules.specs.declared.Answer.{Answer}
@@ -135,7 +136,8 @@ each-entry : (ps : List (List ℕ)) {es : List (List ℕ)} → each entry ps ≡
 each-entry [] {es} e = Option·some-injective [] es e
 each-entry (p ∷ ps) {es} e =
     let t = then-some (entry p) (λ a. prepend a (each entry ps)) e in
-    let o = only-some (between 1 253 (length p) && all isEntryByte p) (some p) (t .1) in
+    let z = sized-some 1 253 (only (all isEntryByte p) (some p)) (t .1) in
+    let o = only-some (all isEntryByte p) (some p) (z .1) in
     go (t .0) (Option·some-injective p (t .0) (o .1)) (each entry ps) refl (λ t k. each-entry ps k) (t .2)
   where
     go : (a : List ℕ) → p ≡ a → (o : Option (List (List ℕ))) → each entry ps ≡ o → ((t : List (List ℕ)) → each entry ps ≡ some t → ps ≡ t) → prepend a o ≡ some es → p ∷ ps ≡ es
@@ -158,6 +160,7 @@ list-stands file (some e) h = go (entries (e .value)) refl
         record { count = refl; each = laid-entry file (e .start) es (between-high {x = length es} 1 4 (s .0)) w }
 
 pub exported-lists : Exported-lists
+unfolding keysOf
 exported-lists name file w e = go (askedOf w (reading ConnMan name file)) e
   where
     stands : (key : List ℕ) → ListStands file (entriesOf file w key) (entriesAt (entriesAnswer (startIn (settingOf w file key)) (readAs entries (settingOf w file key))))

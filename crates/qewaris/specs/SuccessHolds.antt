@@ -18,7 +18,7 @@ use Rattle.names.specs.Names.{networkOf}
 use Rattle.rules.specs.Numbers.{numberOf, answerNumber}
 use Rattle.rules.specs.Reading.{sectionsOf, reading}
 use Rattle.rules.specs.Asking.{iwdEntry, serviceAt, asked, askedOf}
-use Rattle.rules.specs.Acceptance.{Obeys, obeys-accepted, accepted-obeys}
+use Rattle.rules.specs.Exactly.{accepted-exactly}
 use Rattle.rules.specs.GoodAnswers.{asked-reading, asked-service}
 use Rattle.rules.specs.declared.Answer.{Answer}
 use Rattle.rules.specs.declared.Answer.the-variants.{Good, Refused}
@@ -45,6 +45,7 @@ use Rattle.boundary.specs.Laws.{brought-back, brought-arrays}
 use Rattle.boundary.specs.declared.CRecord.{CRecord}
 use Rattle.boundary.specs.declared.CRecordAnswer.{CRecordAnswer}
 use Rattle.qewaris.specs.Calls
+use Rattle.qewaris.specs.Demands.{ObeysTheRules}
 use Rattle.qewaris.specs.TableHolds.{settings-answer, service-answer, lookup-answer, joined-answer}
 use Rattle.qewaris.specs.Exports as E
 use Rattle.qewaris.specs.Exports.{Writable, Joinable, newName, newFile, OldBehind, Exported-success, Exported-write, Exported-move}
@@ -66,10 +67,10 @@ reading-number : (r : Reading) → readingAt r .number ≡ answerNumber (asked r
 reading-number (R.Accepted n m) = refl
 reading-number (R.Refused r l) = refl
 
-file-success : (d : Dialect) (name file : List ℕ) → Obeys d name file ↔ (answerNumber (asked (reading d name file)) ≡ 0)
+file-success : (d : Dialect) (name file : List ℕ) → ObeysTheRules d name file ↔ (answerNumber (asked (reading d name file)) ≡ 0)
 file-success d name file = (
-  λ o. ap (λ (r : Reading). answerNumber (asked r)) (obeys-accepted d name file o),
-  λ e. accepted-obeys d name file (asked-reading (reading d name file) (number-good (asked (reading d name file)) e) .1 .1),
+  λ o. ap (λ (r : Reading). answerNumber (asked r)) (accepted-exactly d name file (o .settings) (o .services) .1 (o .accepted)),
+  λ e. let h = asked-reading (reading d name file) (number-good (asked (reading d name file)) e) in record { settings = h .0; services = h .1 .0; accepted = accepted-exactly d name file (h .0) (h .1 .0) .0 (h .1 .1) },
 )
 
 service-success : (name file : List ℕ) (w : ℕ) → Service name file w ↔ (answerNumber (askedOf w (reading ConnMan name file)) ≡ 0)
@@ -142,7 +143,7 @@ module _ (name file : List ℕ) (w : ℕ) (n f : List ℕ) where
 -- ---- every call
 
 module _ (name file : List ℕ) where
-  group-text-success : (d : Dialect) (group key : List ℕ) → Obeys d name file ↔ (answerNumber (lookupOf (asked (reading d name file)) (iwdEntry (sectionsOf d file) group key) .answer) ≡ 0)
+  group-text-success : (d : Dialect) (group key : List ℕ) → ObeysTheRules d name file ↔ (answerNumber (lookupOf (asked (reading d name file)) (iwdEntry (sectionsOf d file) group key) .answer) ≡ 0)
   group-text-success d group key = of-number (ap answerNumber (lookup-answer (asked (reading d name file)) (iwdEntry (sectionsOf d file) group key))) (file-success d name file)
 
   service-text-success : (w : ℕ) (key : List ℕ) → Service name file w ↔ (answerNumber (lookupOf (askedOf w (reading ConnMan name file)) (settingOf w file key) .answer) ≡ 0)

@@ -4,7 +4,7 @@ use mathlib.Core.Path.{_≡_, refl, subst}
 use mathlib.Core.Bool.{true}
 use mathlib.Core.List.{List, [], _∷_, map, map-id}
 use native.Mathlib.Omega.{arith}
-use borrow.Author.Tests.{lt-ltb, eq-eqb}
+use borrow.Author.Tests.{lt-ltb}
 use lib.ListN.{length}
 use mir.Syntax.{w8}
 use mir.Val.{Val}
@@ -42,7 +42,7 @@ module _ (n : ℕ) (xs : List ℕ) (vs : List Val) (p : Is (Array (UInt w8) n) x
   bytes = each-bytes xs (p .0) (p .1 .1)
 
 address : (xs : List ℕ) (vs : List Val) → Is (Array (UInt w8) 4) xs vs → isAddress xs ≡ true
-address xs vs p = rw (eq-eqb (length xs) 4 (long 4 xs vs p)) (each-between xs (p .0) (p .1 .1))
+address xs vs p = rw (long 4 xs vs p) (each-between xs (p .0) (p .1 .1))
 
 each-address : (s : List (List ℕ)) (us : List Val) → shadow (each (List ℕ) (Array (UInt w8) 4 .own) s us) → areAddresses s ≡ true
 each-address [] us p = refl
