@@ -5,6 +5,7 @@ use mathlib.Core.List.{List}
 use mathlib.Core.Option.{Option}
 use lib.ListN.{replicate}
 use Rattle.rules.specs.Numbers.{numberOf}
+use Rattle.rules.specs.Tables.{keysOf}
 use Rattle.rules.specs.Faults.{Entry, Section}
 use Rattle.rules.specs.declared.Refusal.{Refusal}
 use Rattle.rules.specs.declared.Answer.the-variants.{Refused}
@@ -112,9 +113,11 @@ module _ (r : Refusal) (l : ℕ) where
   refused-reading = refl
 
   pub refused-iwd-settings : (gs : List Section) → iwdSettingsAt (iwdAnswerOf (Refused r l) gs) (iwdServersOf (Refused r l) gs noServers) ≡ zeroIwd (numberOf r) l
+  unfolding keysOf
   refused-iwd-settings gs = refl
 
   pub refused-service-settings : (es : List Entry) → serviceSettingsAt (serviceAnswerOf (Refused r l) es) (serviceServersOf (Refused r l) es noServers) ≡ zeroService (numberOf r) l
+  unfolding keysOf
   refused-service-settings es = refl
 
   pub refused-text : (o : Option Entry) → textAt (placeOf (lookupOf (Refused r l) o)) ≡ record { line = l; start = 0; length = 0; number = numberOf r }
