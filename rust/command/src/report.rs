@@ -5,7 +5,7 @@ use crate::advice::advice;
 use crate::diagnosis::{Excerpt, Finding};
 use crate::input::Input;
 use crate::output::{Output, Style};
-use crate::secrets::swallowed;
+use crate::secrets::swallowed_secret;
 use crate::visible::{visible, Piece};
 use crate::warnings::Warning;
 use std::ffi::OsStr;
@@ -40,7 +40,7 @@ pub fn is_telling_name(name: &[u8]) -> bool {
         .chunks_exact(2)
         .map(|pair| Some(digit(pair[0])? * 16 + digit(pair[1])?))
         .collect();
-    decoded.is_some_and(|text| swallowed(&text).is_some())
+    decoded.is_some_and(|text| swallowed_secret(&text).is_some())
 }
 
 /// A file and a line of it, as they stand before what is found there.

@@ -4,7 +4,7 @@ use super::rows::{Moves, Rank, Row};
 use super::Listed;
 use crate::forms::{self, bytes_members, head, kind, path_members};
 use crate::json::{members, number, Json};
-use crate::secrets::swallowed;
+use crate::secrets::swallowed_secret;
 use crate::show::form::ipv4;
 use std::ffi::OsStr;
 use std::os::unix::ffi::OsStrExt;
@@ -14,7 +14,7 @@ use std::path::Path;
 pub fn lines(listed: &Listed) -> Vec<String> {
     let rows = listed.rows.iter().map(row);
     let across = listed.across.iter().map(|found| {
-        let network = found.network.as_deref().filter(|network| swallowed(network).is_none());
+        let network = found.network.as_deref().filter(|network| swallowed_secret(network).is_none());
         forms::finding("list", &found.files, &found.warning, network)
     });
     let warnings = listed.tally.warnings + listed.across.len();
@@ -34,7 +34,10 @@ fn row(row: &Row) -> Json {
         ("state", Json::text(state(row.rank))),
     ]));
     let network = row.network.as_deref();
-    found.extend(bytes_members("network", network.filter(|network| swallowed(network).is_none())));
+    found.extend(bytes_members(
+        "network",
+        network.filter(|network| swallowed_secret(network).is_none()),
+    ));
     let record = row.record.as_ref();
     let moves = match &row.moves {
         Moves::Yes(_) => Json::Bool(true),

@@ -6,7 +6,7 @@ use crate::diagnosis::{finding, Finding};
 use crate::input::Input;
 use crate::layout;
 use crate::report::{shown_path, HIDDEN};
-use crate::secrets::swallowed;
+use crate::secrets::swallowed_secret;
 use crate::services::Service;
 use crate::visible::visible;
 use crate::warnings::{found_in, Warning, Word};
@@ -119,7 +119,7 @@ impl Row {
     /// The name of the network as it is shown; hidden where it seems to have swallowed a line.
     pub fn shown_network(&self) -> Option<String> {
         let name = self.network.as_deref()?;
-        match swallowed(name) {
+        match swallowed_secret(name) {
             Some(_) => Some(HIDDEN.to_string()),
             None => Some(visible(name)),
         }

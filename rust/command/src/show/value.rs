@@ -3,7 +3,7 @@
 use crate::forms::hex;
 use crate::json::{members, Json, Members};
 use crate::report::HIDDEN;
-use crate::secrets::{mark, swallowed};
+use crate::secrets::{mark, swallowed_secret};
 use crate::visible::{pieces, visible};
 
 /// What is hidden: nothing, or passphrases and keys and every text that holds one of these.
@@ -74,7 +74,7 @@ impl Hiding {
 
     /// Whether the name of a network is hidden.
     pub fn hides(&self, name: &[u8]) -> bool {
-        matches!(self, Hiding::Secrets(_)) && swallowed(name).is_some()
+        matches!(self, Hiding::Secrets(_)) && swallowed_secret(name).is_some()
     }
 
     /// The name of a network for a terminal.

@@ -22,7 +22,7 @@ pub fn warnings(keys: Keys, section: &Section<'_>) -> Vec<Warning> {
 fn about(setting: &Setting<'_>, is_read: bool) -> Option<Warning> {
     let key = ("key", visible(setting.key));
     let warning = |word, parts: &[(&str, String)]| Some(Warning::new(word, Some(setting.line), parts));
-    if let Some((inner, _)) = swallowed(setting.value) {
+    if let Some(inner) = swallowed(setting.value) {
         return warning(Word::SwallowedLine, &[key, ("found", inner.to_string())]);
     }
     if !is_read {

@@ -18,8 +18,6 @@ fn forty_files_of_which_eleven_are_odd() {
     forty(&["list", "forty"]).gives(1, told, failed);
     let good = told.lines().filter(|line| line.starts_with("good ")).count();
     assert_eq!(good, 29, "eleven are odd");
-    let using = include_str!("../../../../docs/USING.md");
-    assert!(using.contains(told), "docs/USING.md shows what is printed today");
 }
 
 #[test]

@@ -32,15 +32,26 @@ fn no_output_shows_a_secret() {
     for number in 0..COUNT {
         let made = generated(&mut random, number);
         folder.write(&made.name, &made.file);
-        let runs: [(&str, &[&str]); 5] = [
+        let runs: [(&str, &[&str]); 10] = [
             ("check", &["check", "-v", &made.name]),
+            ("check --json", &["check", "--json", &made.name]),
             ("show", &["show", &made.name]),
             ("show --json", &["show", "--json", &made.name]),
+            ("list", &["list", &made.name]),
+            ("list --json", &["list", "--json", &made.name]),
+            ("a page", &["list", "--html", "page.html", "--force", &made.name]),
             ("a dry run", &["move", "--dry-run", "--all", &made.name]),
             ("a move", &["move", "--all", "--force", &made.name]),
+            (
+                "move --json",
+                &["move", "--json", "--all", "--force", "--skip-unplaced", &made.name],
+            ),
         ];
         for (what, arguments) in runs {
-            let run = folder.run(arguments);
+            let mut run = folder.run(arguments);
+            if what == "a page" {
+                run.out.push_str(&String::from_utf8(folder.read("page.html")).unwrap());
+            }
             has_no_secret(&run, &made, what);
             if what == "check" {
                 answers[usize::try_from(run.code.unwrap()).unwrap()] += 1;
@@ -51,6 +62,62 @@ fn no_output_shows_a_secret() {
     assert!(
         answers[0] > COUNT / 20 && answers[1] > COUNT / 2,
         "good and broken files are made: {answers:?}"
+    );
+}
+
+/// What is told of a file where no length of a secret may be told: warnings, lists, pages and JSON.
+fn told_without_lengths(folder: &Folder, name: &str) -> Vec<String> {
+    let warnings = folder.run(&["check", name]).out;
+    let warnings = warnings.lines().filter(|line| line.contains(": warning: "));
+    let mut told = vec![warnings.collect::<Vec<&str>>().join("\n")];
+    let runs: [&[&str]; 6] = [
+        &["check", "--json", name],
+        &["show", "--json", name],
+        &["list", name],
+        &["list", "--json", name],
+        &["list", "--html", "page.html", "--force", name],
+        &["move", "--json", "--dry-run", "--all", name],
+    ];
+    told.extend(runs.map(|arguments| folder.run(arguments).out));
+    told.push(String::from_utf8(folder.read("page.html")).unwrap());
+    told
+}
+
+#[test]
+fn no_length_of_a_secret_is_told() {
+    let folder = Folder::new("lengths");
+    let mut random = Random(17);
+    let mut compared = [0; 2];
+    for number in 0..COUNT / 2 {
+        let made = generated(&mut random, number);
+        let answer = |file: &[u8]| {
+            folder.write(&made.name, file);
+            let run = folder.run(&["check", "--no-warnings", &made.name]);
+            let ending = run
+                .out
+                .lines()
+                .next()
+                .and_then(|line| line.rsplit_once(" ["))
+                .map(|(_, number)| number.to_string());
+            (run.code, ending)
+        };
+        let longer = made.lengthened();
+        // A name or a passphrase that is too long now is another fault.
+        let is_same_answer = answer(&longer) == answer(&made.file);
+        if longer == made.file || !is_same_answer {
+            continue;
+        }
+        let told = told_without_lengths(&folder, &made.name);
+        folder.write(&made.name, &longer);
+        let file = String::from_utf8_lossy(&made.file);
+        assert_eq!(told_without_lengths(&folder, &made.name), told, "{}:\n{file}", made.name);
+        let is_good = folder.run(&["check", "-q", &made.name]).code == Some(0);
+        compared[usize::from(is_good)] += 1;
+        std::fs::remove_file(folder.path().join(&made.name)).unwrap();
+    }
+    assert!(
+        compared[0] > 50 && compared[1] > 30,
+        "broken and good files are compared: {compared:?}"
     );
 }
 

@@ -2,7 +2,7 @@
 
 use super::words::{is_telling_key, leading_word, mentions_secret};
 use crate::catalogue::{all_keys, kind_anywhere, Kind};
-use crate::layout::{blanks, lines, trimmed};
+use crate::layout::{is_blank, lines, trimmed};
 
 /// A text that is shorter is not looked for elsewhere: it would be found in any word.
 const LEAST: usize = 6;
@@ -30,9 +30,9 @@ fn secret_in(line: &[u8]) -> Option<&[u8]> {
     Some(trimmed(text).strip_suffix(b"\r").unwrap_or(trimmed(text)))
 }
 
-/// The texts of a line whose string seems to have swallowed the next line: all of the string, and what stands behind the key in it.
+/// The texts of a line whose string seems to have swallowed a secret: all of the string, and what stands behind the key in it.
 fn swallowed_in(line: &[u8]) -> impl Iterator<Item = &[u8]> {
-    let found = string_of(line).and_then(|value| Some((value, swallowed(value)?.1)));
+    let found = string_of(line).and_then(|value| Some((value, swallowed_secret(value)?)));
     found.into_iter().flat_map(|(value, behind)| [value, behind])
 }
 
@@ -44,21 +44,34 @@ fn string_of(line: &[u8]) -> Option<&[u8]> {
     is_text.then(|| trimmed(&line[equal + 1..]))
 }
 
-/// The key that stands in a text with an equal sign behind it, as if the text had swallowed the line below, and what is behind it.
-pub fn swallowed(text: &[u8]) -> Option<(&'static str, &[u8])> {
-    let key_at = |place: usize, key: &str| {
-        let rest = text.get(place..)?;
-        let behind = rest.get(key.len()..)?;
-        let is_key = match key {
-            "Passphrase" | "PreSharedKey" => rest[..key.len()].eq_ignore_ascii_case(key.as_bytes()),
-            _ => rest.starts_with(key.as_bytes()),
-        };
-        let value = behind[blanks(behind)..].strip_prefix(b"=")?;
-        is_key.then(|| trimmed(value))
+/// The key that stands in a text with an equal sign behind it, as if the text had swallowed the line below.
+pub fn swallowed(text: &[u8]) -> Option<&'static str> {
+    let before_equal = |front: &[u8]| all_keys().map(|(key, _)| key).find(|key| ends_with_key(front, key));
+    equals(text).find_map(|place| before_equal(trimmed(&text[..place])))
+}
+
+fn ends_with_key(front: &[u8], key: &str) -> bool {
+    let end = front.len().checked_sub(key.len()).map_or(&[][..], |start| &front[start..]);
+    match key {
+        "Passphrase" | "PreSharedKey" => end.eq_ignore_ascii_case(key.as_bytes()),
+        _ => end == key.as_bytes(),
+    }
+}
+
+/// What stands in a text behind a key, or behind a word that tells of a secret, and an equal sign; such a text is hidden.
+pub fn swallowed_secret(text: &[u8]) -> Option<&[u8]> {
+    let is_key = |front: &[u8]| {
+        let word = front.rsplit(|byte| is_blank(*byte)).next().unwrap_or(front);
+        is_telling_key(word) || all_keys().any(|(key, _)| ends_with_key(front, key))
     };
-    let places = 0..text.len();
-    let mut found = places.flat_map(|place| all_keys().filter_map(move |(key, _)| Some((key, key_at(place, key)?))));
-    found.next()
+    let place = equals(text).find(|place| is_key(trimmed(&text[..*place])))?;
+    Some(trimmed(&text[place + 1..]))
+}
+
+/// The places of the equal signs.
+fn equals(text: &[u8]) -> impl Iterator<Item = usize> + '_ {
+    let numbered = text.iter().enumerate();
+    numbered.filter(|(_, byte)| **byte == b'=').map(|(place, _)| place)
 }
 
 /// A text as it may stand elsewhere: in either case, with escapes and without, and in hex.

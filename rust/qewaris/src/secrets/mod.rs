@@ -2,14 +2,15 @@
 //!
 //! A line is shown only as far as it is sure to hold no secret: an exact key that takes none, with a value that looks like its
 //! kind; a group's name that is one; a key's name before its `=`. All behind that is hidden, and so is, anywhere, a text that
-//! stands elsewhere in the file as a passphrase or a key. A string that seems to have swallowed the next line is hidden whole.
+//! stands elsewhere in the file as a passphrase or a key. A string that seems to have swallowed the next line
+//! is hidden whole.
 
 mod known;
 #[cfg(test)]
 mod tests;
 mod words;
 
-pub use known::{mark, secrets_of, swallowed, unescaped};
+pub use known::{mark, secrets_of, swallowed, swallowed_secret, unescaped};
 
 use crate::catalogue::{keys_of, kind_anywhere, Dialect, Kind};
 use crate::layout::{blanks, is_blank, line, lines, trimmed};
@@ -118,7 +119,7 @@ fn may_be_shown(kind: Kind, value: &[u8]) -> bool {
     match kind {
         Kind::Passphrase | Kind::Key => false,
         Kind::Security => value.len() < 8 || words::is_security(value),
-        _ if mentions_secret(value) || swallowed(value).is_some() => false,
+        _ if mentions_secret(value) || swallowed_secret(value).is_some() => false,
         _ if kind.is_free() || value.len() < 8 => true,
         Kind::Type | Kind::Ipv6 | Kind::Privacy => words::is_near(value, kind.words().iter().copied()),
         Kind::Mac => is_pairs(value),

@@ -118,6 +118,17 @@ fn a_string_that_swallowed_the_next_line_is_hidden() {
     assert_eq!(shown(b"Name = Desk 4", 1), "Name = Desk 4");
     let file = b"[service_a]\nName = Desk 4 passphrase=lowtide88\nDomain = lowtide88\n";
     assert_eq!(shown(file, 3), "Domain = .........");
-    assert_eq!(swallowed(b"Desk 4 IPv4 = off"), Some(("IPv4", &b"off"[..])));
+    assert_eq!(
+        shown(b"Domain = shop PreShearedKey = lowtide88", 1),
+        "Domain = .............................."
+    );
+    assert_eq!(
+        (swallowed(b"Desk 4 IPv4 = off"), swallowed_secret(b"Desk 4 IPv4 = off")),
+        (Some("IPv4"), Some(&b"off"[..]))
+    );
     assert_eq!((swallowed(b"a = b"), swallowed(b"Desk Hidden")), (None, None));
+    assert_eq!(
+        (swallowed(b"Pasphrase = b"), swallowed_secret(b"Pasphrase = b")),
+        (None, Some(&b"b"[..]))
+    );
 }

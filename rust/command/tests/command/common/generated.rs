@@ -7,10 +7,36 @@ pub struct Generated {
     pub name: String,
     pub file: Vec<u8>,
     pub secrets: Vec<String>,
+    /// The part of the passphrase that is in no other file.
+    pub core: String,
+}
+
+impl Generated {
+    /// The same file with a longer passphrase.
+    pub fn lengthened(&self) -> Vec<u8> {
+        let (core, longer) = (self.core.as_bytes(), format!("{}kz", self.core));
+        let mut found = Vec::new();
+        let mut rest = self.file.as_slice();
+        while let Some(place) = rest.windows(core.len()).position(|window| window == core) {
+            found.extend(&rest[..place]);
+            found.extend(longer.as_bytes());
+            rest = &rest[place + core.len()..];
+        }
+        found.extend(rest);
+        found
+    }
 }
 
 /// The lines that a secret is put into, the passphrase in place of `%` and the key of `$`; what is behind `|` stands on the next line.
-const PLACES: [&str; 62] = [
+const PLACES: [&str; 70] = [
+    "Name = Till Passphrase = %",
+    "Name = Till Passphrase=%|Security = none",
+    "Domain = shop passphrase = %",
+    "Description = the till Passphrase = %",
+    "DomainName=shop PreSharedKey = $",
+    "SearchDomains = a,Passphrase=%",
+    "Passphrase = % Name = Desk",
+    "#Passphrase = %",
     "Passphrase=%",
     "Passphrase = %",
     "\t Passphrase\t=\t% \t",
@@ -106,6 +132,7 @@ pub fn generated(random: &mut Random, number: usize) -> Generated {
         name,
         file,
         secrets: told_of(&core, &key),
+        core,
     }
 }
 
