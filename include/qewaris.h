@@ -1,4 +1,4 @@
-/* Qewaris: the wireless files of shop tills, for programs in C and C++.
+/* Qewaris: the wireless files of shop tills, for programs in C and C++ on x86-64.
  *
  * Reads iwd's and ConnMan's network files, answers each broken one with a number and a line, gives typed settings and a join
  * record, writes iwd files, and moves ConnMan services to iwd. Link with libqewaris.a, which `rt staticlib qewaris` makes; it
@@ -7,7 +7,7 @@
  * Answers. Every answer has a `number`: QEWARIS_OK, or the refusal. With a refusal comes the `line` that is to blame, counted
  * from 1, or 0 where no line is; every other member is then 0, and no byte of any lent buffer has changed. The answer to any
  * bytes, any service number, any record and any buffers is one of these numbers, and the functions are proved to give the one
- * that the rules give.
+ * that the rules give. No struct has padding, and `reserved` is always 0: an answer may be compared and kept as bytes.
  *
  * Bytes in and out. A file, its name and a buffer are each a pointer and a length; a null pointer with length 0 is an empty
  * one. Beyond that the caller owes what C asks of any such call: a pointer with a length above 0 points to that many bytes,
@@ -25,6 +25,25 @@
 #ifdef __cplusplus
 extern "C" {
 #endif
+
+/* ---- Version */
+
+/* The version of this header, 0.2.0: two digits for each of the last two parts. The function answers that of the library, which
+ * may be another one as long as the layout is the same. */
+#define QEWARIS_VERSION 200
+uint32_t qewaris_version(void);
+
+/* The layout of the structs. The library has a function whose name ends in its number, and every file that includes this header
+ * refers to it, so that a program does not link with a library of another layout. The function answers the number. */
+uint32_t qewaris_layout_1(void);
+#if defined(__has_attribute) && __has_attribute(retain)
+__attribute__((used, retain))
+#else
+__attribute__((used))
+#endif
+static uint32_t (*const qewaris_layout)(void) = qewaris_layout_1;
+
+/* ---- Answers */
 
 /* The numbers of the answers. */
 enum {
@@ -57,6 +76,7 @@ typedef struct qewaris_reading {
     size_t settings;              /* how many setting lines an accepted file has */
     size_t services;              /* how many services; 0 for iwd */
     uint8_t number;
+    uint8_t reserved[7];
 } qewaris_reading;
 
 /* Reads an iwd file under its name: accepted, or the first fault. */
@@ -91,6 +111,7 @@ typedef struct qewaris_iwd_security {
     size_t passphrase_line;
     uint8_t has_pre_shared_key;
     uint8_t pre_shared_key[32];
+    uint8_t reserved[7];
 } qewaris_iwd_security;
 
 /* iwd's group IPv4. */
@@ -106,6 +127,7 @@ typedef struct qewaris_iwd_ipv4 {
     uint8_t broadcast[4];
     uint8_t netmask_length;       /* 1 to 32 */
     uint8_t send_hostname;
+    uint8_t reserved[7];
 } qewaris_iwd_ipv4;
 
 /* The settings of an iwd file, by its groups. What is absent is 0; of an address, a MAC or a key `has_..` says whether it is
@@ -113,10 +135,11 @@ typedef struct qewaris_iwd_ipv4 {
 typedef struct qewaris_iwd_settings {
     size_t line;                  /* of the refusal */
     uint8_t number;
+    uint8_t ipv6_enabled;
     qewaris_iwd_general general;
+    uint8_t reserved[4];
     qewaris_iwd_security security;
     qewaris_iwd_ipv4 ipv4;
-    uint8_t ipv6_enabled;
 } qewaris_iwd_settings;
 
 qewaris_iwd_settings qewaris_iwd_settings_of(const uint8_t *name, size_t name_len, const uint8_t *file, size_t file_len);
@@ -137,6 +160,7 @@ typedef struct qewaris_service_network {
     uint8_t service_type;         /* QEWARIS_TYPE_.. */
     uint8_t security;             /* QEWARIS_SECURITY_.. */
     uint8_t hidden;
+    uint8_t reserved[5];
 } qewaris_service_network;
 
 /* The addresses of a ConnMan service. */
@@ -155,12 +179,14 @@ typedef struct qewaris_service_addresses {
     uint8_t privacy;              /* QEWARIS_PRIVACY_.. */
     uint8_t has_mac;
     uint8_t mac[6];
+    uint8_t reserved[4];
 } qewaris_service_addresses;
 
 /* The settings of a ConnMan service; what is absent is as in iwd's. */
 typedef struct qewaris_service_settings {
     size_t line;                  /* of the refusal */
     uint8_t number;
+    uint8_t reserved[7];
     qewaris_service_network network;
     qewaris_service_addresses addresses;
 } qewaris_service_settings;
@@ -177,6 +203,7 @@ typedef struct qewaris_text {
     size_t start;
     size_t length;
     uint8_t number;
+    uint8_t reserved[7];
 } qewaris_text;
 
 /* Of an iwd file. */
@@ -199,8 +226,8 @@ enum { QEWARIS_IPV4_DHCP = 0, QEWARIS_IPV4_OFF = 1, QEWARIS_IPV4_STATIC = 2 };
 enum { QEWARIS_IPV6_AUTO = 0, QEWARIS_IPV6_OFF = 1 };
 
 /* What a till needs to join a network. Places not in use are 0: the bytes behind a length, the servers behind the count, the
- * places of another credential, and address, prefix length and gateway where they are not in use. The struct is bytes only
- * and has no padding, so two records are equal exactly when memcmp finds no difference. */
+ * places of another credential, and address, prefix length and gateway where they are not in use. The struct is bytes only,
+ * so two records are equal exactly when memcmp finds no difference. */
 typedef struct qewaris_record {
     uint8_t name_len;             /* 1 to 32 */
     uint8_t name[32];             /* the network name (SSID) */
@@ -225,6 +252,7 @@ typedef struct qewaris_record_answer {
     size_t line;                  /* of the refusal */
     uint8_t number;
     qewaris_record record;        /* all 0 with a refusal */
+    uint8_t reserved[1];
 } qewaris_record_answer;
 
 /* The join record of an iwd file. */
@@ -244,6 +272,7 @@ typedef struct qewaris_written {
     size_t name_len;
     size_t file_len;
     uint8_t number;
+    uint8_t reserved[7];
 } qewaris_written;
 
 /* Writes the iwd file of a record, and its name. Refuses a malformed record, a code out of range among its members included
@@ -266,103 +295,70 @@ qewaris_written qewaris_move_service(const uint8_t *name, size_t name_len, const
 #define QEWARIS_PLACE_IS(type, member, place) QEWARIS_ASSERT(offsetof(type, member) == (place))
 
 QEWARIS_SIZE_IS(qewaris_reading, 32);
-QEWARIS_PLACE_IS(qewaris_reading, line, 0);
-QEWARIS_PLACE_IS(qewaris_reading, settings, 8);
-QEWARIS_PLACE_IS(qewaris_reading, services, 16);
-QEWARIS_PLACE_IS(qewaris_reading, number, 24);
+QEWARIS_PLACE_IS(qewaris_reading, line, 0); QEWARIS_PLACE_IS(qewaris_reading, settings, 8);
+QEWARIS_PLACE_IS(qewaris_reading, services, 16); QEWARIS_PLACE_IS(qewaris_reading, number, 24);
+QEWARIS_PLACE_IS(qewaris_reading, reserved, 25);
 QEWARIS_SIZE_IS(qewaris_iwd_general, 10);
-QEWARIS_PLACE_IS(qewaris_iwd_general, auto_connect, 0);
-QEWARIS_PLACE_IS(qewaris_iwd_general, hidden, 1);
+QEWARIS_PLACE_IS(qewaris_iwd_general, auto_connect, 0); QEWARIS_PLACE_IS(qewaris_iwd_general, hidden, 1);
 QEWARIS_PLACE_IS(qewaris_iwd_general, always_randomize_address, 2);
-QEWARIS_PLACE_IS(qewaris_iwd_general, has_address_override, 3);
-QEWARIS_PLACE_IS(qewaris_iwd_general, address_override, 4);
+QEWARIS_PLACE_IS(qewaris_iwd_general, has_address_override, 3); QEWARIS_PLACE_IS(qewaris_iwd_general, address_override, 4);
 QEWARIS_SIZE_IS(qewaris_iwd_security, 48);
-QEWARIS_PLACE_IS(qewaris_iwd_security, passphrase_line, 0);
-QEWARIS_PLACE_IS(qewaris_iwd_security, has_pre_shared_key, 8);
-QEWARIS_PLACE_IS(qewaris_iwd_security, pre_shared_key, 9);
+QEWARIS_PLACE_IS(qewaris_iwd_security, passphrase_line, 0); QEWARIS_PLACE_IS(qewaris_iwd_security, has_pre_shared_key, 8);
+QEWARIS_PLACE_IS(qewaris_iwd_security, pre_shared_key, 9); QEWARIS_PLACE_IS(qewaris_iwd_security, reserved, 41);
 QEWARIS_SIZE_IS(qewaris_iwd_ipv4, 56);
-QEWARIS_PLACE_IS(qewaris_iwd_ipv4, domain_name_line, 0);
-QEWARIS_PLACE_IS(qewaris_iwd_ipv4, dns_count, 8);
-QEWARIS_PLACE_IS(qewaris_iwd_ipv4, dns, 16);
-QEWARIS_PLACE_IS(qewaris_iwd_ipv4, has_address, 32);
-QEWARIS_PLACE_IS(qewaris_iwd_ipv4, address, 33);
-QEWARIS_PLACE_IS(qewaris_iwd_ipv4, has_gateway, 37);
-QEWARIS_PLACE_IS(qewaris_iwd_ipv4, gateway, 38);
-QEWARIS_PLACE_IS(qewaris_iwd_ipv4, has_broadcast, 42);
-QEWARIS_PLACE_IS(qewaris_iwd_ipv4, broadcast, 43);
-QEWARIS_PLACE_IS(qewaris_iwd_ipv4, netmask_length, 47);
-QEWARIS_PLACE_IS(qewaris_iwd_ipv4, send_hostname, 48);
-QEWARIS_SIZE_IS(qewaris_iwd_settings, 136);
-QEWARIS_PLACE_IS(qewaris_iwd_settings, line, 0);
-QEWARIS_PLACE_IS(qewaris_iwd_settings, number, 8);
-QEWARIS_PLACE_IS(qewaris_iwd_settings, general, 9);
-QEWARIS_PLACE_IS(qewaris_iwd_settings, security, 24);
+QEWARIS_PLACE_IS(qewaris_iwd_ipv4, domain_name_line, 0); QEWARIS_PLACE_IS(qewaris_iwd_ipv4, dns_count, 8);
+QEWARIS_PLACE_IS(qewaris_iwd_ipv4, dns, 16); QEWARIS_PLACE_IS(qewaris_iwd_ipv4, has_address, 32);
+QEWARIS_PLACE_IS(qewaris_iwd_ipv4, address, 33); QEWARIS_PLACE_IS(qewaris_iwd_ipv4, has_gateway, 37);
+QEWARIS_PLACE_IS(qewaris_iwd_ipv4, gateway, 38); QEWARIS_PLACE_IS(qewaris_iwd_ipv4, has_broadcast, 42);
+QEWARIS_PLACE_IS(qewaris_iwd_ipv4, broadcast, 43); QEWARIS_PLACE_IS(qewaris_iwd_ipv4, netmask_length, 47);
+QEWARIS_PLACE_IS(qewaris_iwd_ipv4, send_hostname, 48); QEWARIS_PLACE_IS(qewaris_iwd_ipv4, reserved, 49);
+QEWARIS_SIZE_IS(qewaris_iwd_settings, 128);
+QEWARIS_PLACE_IS(qewaris_iwd_settings, line, 0); QEWARIS_PLACE_IS(qewaris_iwd_settings, number, 8);
+QEWARIS_PLACE_IS(qewaris_iwd_settings, ipv6_enabled, 9); QEWARIS_PLACE_IS(qewaris_iwd_settings, general, 10);
+QEWARIS_PLACE_IS(qewaris_iwd_settings, reserved, 20); QEWARIS_PLACE_IS(qewaris_iwd_settings, security, 24);
 QEWARIS_PLACE_IS(qewaris_iwd_settings, ipv4, 72);
-QEWARIS_PLACE_IS(qewaris_iwd_settings, ipv6_enabled, 128);
 QEWARIS_SIZE_IS(qewaris_entries, 72);
-QEWARIS_PLACE_IS(qewaris_entries, count, 0);
-QEWARIS_PLACE_IS(qewaris_entries, start, 8);
+QEWARIS_PLACE_IS(qewaris_entries, count, 0); QEWARIS_PLACE_IS(qewaris_entries, start, 8);
 QEWARIS_PLACE_IS(qewaris_entries, length, 40);
 QEWARIS_SIZE_IS(qewaris_service_network, 64);
-QEWARIS_PLACE_IS(qewaris_service_network, name_line, 0);
-QEWARIS_PLACE_IS(qewaris_service_network, passphrase_line, 8);
-QEWARIS_PLACE_IS(qewaris_service_network, ssid_len, 16);
-QEWARIS_PLACE_IS(qewaris_service_network, ssid, 24);
-QEWARIS_PLACE_IS(qewaris_service_network, service_type, 56);
-QEWARIS_PLACE_IS(qewaris_service_network, security, 57);
-QEWARIS_PLACE_IS(qewaris_service_network, hidden, 58);
+QEWARIS_PLACE_IS(qewaris_service_network, name_line, 0); QEWARIS_PLACE_IS(qewaris_service_network, passphrase_line, 8);
+QEWARIS_PLACE_IS(qewaris_service_network, ssid_len, 16); QEWARIS_PLACE_IS(qewaris_service_network, ssid, 24);
+QEWARIS_PLACE_IS(qewaris_service_network, service_type, 56); QEWARIS_PLACE_IS(qewaris_service_network, security, 57);
+QEWARIS_PLACE_IS(qewaris_service_network, hidden, 58); QEWARIS_PLACE_IS(qewaris_service_network, reserved, 59);
 QEWARIS_SIZE_IS(qewaris_service_addresses, 200);
-QEWARIS_PLACE_IS(qewaris_service_addresses, domain_line, 0);
-QEWARIS_PLACE_IS(qewaris_service_addresses, search_domains, 8);
+QEWARIS_PLACE_IS(qewaris_service_addresses, domain_line, 0); QEWARIS_PLACE_IS(qewaris_service_addresses, search_domains, 8);
 QEWARIS_PLACE_IS(qewaris_service_addresses, timeservers, 80);
 QEWARIS_PLACE_IS(qewaris_service_addresses, nameserver_count, 152);
-QEWARIS_PLACE_IS(qewaris_service_addresses, nameservers, 160);
-QEWARIS_PLACE_IS(qewaris_service_addresses, ipv4, 176);
-QEWARIS_PLACE_IS(qewaris_service_addresses, address, 177);
-QEWARIS_PLACE_IS(qewaris_service_addresses, prefix_length, 181);
-QEWARIS_PLACE_IS(qewaris_service_addresses, has_gateway, 182);
-QEWARIS_PLACE_IS(qewaris_service_addresses, gateway, 183);
-QEWARIS_PLACE_IS(qewaris_service_addresses, ipv6, 187);
-QEWARIS_PLACE_IS(qewaris_service_addresses, privacy, 188);
-QEWARIS_PLACE_IS(qewaris_service_addresses, has_mac, 189);
-QEWARIS_PLACE_IS(qewaris_service_addresses, mac, 190);
+QEWARIS_PLACE_IS(qewaris_service_addresses, nameservers, 160); QEWARIS_PLACE_IS(qewaris_service_addresses, ipv4, 176);
+QEWARIS_PLACE_IS(qewaris_service_addresses, address, 177); QEWARIS_PLACE_IS(qewaris_service_addresses, prefix_length, 181);
+QEWARIS_PLACE_IS(qewaris_service_addresses, has_gateway, 182); QEWARIS_PLACE_IS(qewaris_service_addresses, gateway, 183);
+QEWARIS_PLACE_IS(qewaris_service_addresses, ipv6, 187); QEWARIS_PLACE_IS(qewaris_service_addresses, privacy, 188);
+QEWARIS_PLACE_IS(qewaris_service_addresses, has_mac, 189); QEWARIS_PLACE_IS(qewaris_service_addresses, mac, 190);
+QEWARIS_PLACE_IS(qewaris_service_addresses, reserved, 196);
 QEWARIS_SIZE_IS(qewaris_service_settings, 280);
-QEWARIS_PLACE_IS(qewaris_service_settings, line, 0);
-QEWARIS_PLACE_IS(qewaris_service_settings, number, 8);
-QEWARIS_PLACE_IS(qewaris_service_settings, network, 16);
+QEWARIS_PLACE_IS(qewaris_service_settings, line, 0); QEWARIS_PLACE_IS(qewaris_service_settings, number, 8);
+QEWARIS_PLACE_IS(qewaris_service_settings, reserved, 9); QEWARIS_PLACE_IS(qewaris_service_settings, network, 16);
 QEWARIS_PLACE_IS(qewaris_service_settings, addresses, 80);
 QEWARIS_SIZE_IS(qewaris_text, 32);
-QEWARIS_PLACE_IS(qewaris_text, line, 0);
-QEWARIS_PLACE_IS(qewaris_text, start, 8);
-QEWARIS_PLACE_IS(qewaris_text, length, 16);
-QEWARIS_PLACE_IS(qewaris_text, number, 24);
+QEWARIS_PLACE_IS(qewaris_text, line, 0); QEWARIS_PLACE_IS(qewaris_text, start, 8); QEWARIS_PLACE_IS(qewaris_text, length, 16);
+QEWARIS_PLACE_IS(qewaris_text, number, 24); QEWARIS_PLACE_IS(qewaris_text, reserved, 25);
 QEWARIS_SIZE_IS(qewaris_record, 414);
-QEWARIS_PLACE_IS(qewaris_record, name_len, 0);
-QEWARIS_PLACE_IS(qewaris_record, name, 1);
-QEWARIS_PLACE_IS(qewaris_record, credential, 33);
-QEWARIS_PLACE_IS(qewaris_record, passphrase_len, 34);
-QEWARIS_PLACE_IS(qewaris_record, passphrase, 35);
-QEWARIS_PLACE_IS(qewaris_record, key, 98);
-QEWARIS_PLACE_IS(qewaris_record, hidden, 130);
-QEWARIS_PLACE_IS(qewaris_record, ipv4, 131);
-QEWARIS_PLACE_IS(qewaris_record, address, 132);
-QEWARIS_PLACE_IS(qewaris_record, prefix_length, 136);
-QEWARIS_PLACE_IS(qewaris_record, has_gateway, 137);
-QEWARIS_PLACE_IS(qewaris_record, gateway, 138);
-QEWARIS_PLACE_IS(qewaris_record, server_count, 142);
-QEWARIS_PLACE_IS(qewaris_record, servers, 143);
-QEWARIS_PLACE_IS(qewaris_record, domain_len, 159);
-QEWARIS_PLACE_IS(qewaris_record, domain, 160);
+QEWARIS_PLACE_IS(qewaris_record, name_len, 0); QEWARIS_PLACE_IS(qewaris_record, name, 1);
+QEWARIS_PLACE_IS(qewaris_record, credential, 33); QEWARIS_PLACE_IS(qewaris_record, passphrase_len, 34);
+QEWARIS_PLACE_IS(qewaris_record, passphrase, 35); QEWARIS_PLACE_IS(qewaris_record, key, 98);
+QEWARIS_PLACE_IS(qewaris_record, hidden, 130); QEWARIS_PLACE_IS(qewaris_record, ipv4, 131);
+QEWARIS_PLACE_IS(qewaris_record, address, 132); QEWARIS_PLACE_IS(qewaris_record, prefix_length, 136);
+QEWARIS_PLACE_IS(qewaris_record, has_gateway, 137); QEWARIS_PLACE_IS(qewaris_record, gateway, 138);
+QEWARIS_PLACE_IS(qewaris_record, server_count, 142); QEWARIS_PLACE_IS(qewaris_record, servers, 143);
+QEWARIS_PLACE_IS(qewaris_record, domain_len, 159); QEWARIS_PLACE_IS(qewaris_record, domain, 160);
 QEWARIS_PLACE_IS(qewaris_record, ipv6, 413);
 QEWARIS_SIZE_IS(qewaris_record_answer, 424);
-QEWARIS_PLACE_IS(qewaris_record_answer, line, 0);
-QEWARIS_PLACE_IS(qewaris_record_answer, number, 8);
-QEWARIS_PLACE_IS(qewaris_record_answer, record, 9);
+QEWARIS_PLACE_IS(qewaris_record_answer, line, 0); QEWARIS_PLACE_IS(qewaris_record_answer, number, 8);
+QEWARIS_PLACE_IS(qewaris_record_answer, record, 9); QEWARIS_PLACE_IS(qewaris_record_answer, reserved, 423);
 QEWARIS_SIZE_IS(qewaris_written, 32);
-QEWARIS_PLACE_IS(qewaris_written, line, 0);
-QEWARIS_PLACE_IS(qewaris_written, name_len, 8);
-QEWARIS_PLACE_IS(qewaris_written, file_len, 16);
-QEWARIS_PLACE_IS(qewaris_written, number, 24);
+QEWARIS_PLACE_IS(qewaris_written, line, 0); QEWARIS_PLACE_IS(qewaris_written, name_len, 8);
+QEWARIS_PLACE_IS(qewaris_written, file_len, 16); QEWARIS_PLACE_IS(qewaris_written, number, 24);
+QEWARIS_PLACE_IS(qewaris_written, reserved, 25);
 
 #undef QEWARIS_ASSERT
 #undef QEWARIS_SIZE_IS

@@ -1,60 +1,55 @@
-//! Finds the archive `libqewaris.a`, or has it made, and takes the layout of its structs from the header.
+//! Finds the archive `libqewaris.a`, or has it made, and sees that it has the layout that this crate knows.
 //!
-//! `QEWARIS_LIB_DIR` names a folder that has the archive. Without that variable `rt staticlib qewaris` makes it in the
-//! repository, from proofs that it checks first.
+//! `QEWARIS_LIB_DIR` names a folder that has the archive; then nothing else is needed, and nothing is written beside the build's
+//! own folder. Without that variable `rt staticlib qewaris` makes it in the repository, from proofs that it checks first, unless
+//! it is there and newer than all that it is made of.
 
 use std::env;
 use std::fs;
 use std::path::{Path, PathBuf};
 use std::process::{exit, Command};
+use std::time::SystemTime;
+
+/// The function that an archive with this crate's layout has.
+const LAYOUT: &str = "qewaris_layout_1";
 
 fn main() {
     println!("cargo:rerun-if-env-changed=QEWARIS_LIB_DIR");
-    let folder = match env::var_os("QEWARIS_LIB_DIR") {
-        Some(folder) => given(PathBuf::from(folder)),
+    if env::var("CARGO_CFG_TARGET_ARCH").as_deref() != Ok("x86_64") {
+        stop("the library is for x86-64 only.");
+    }
+    let archive = match env::var_os("QEWARIS_LIB_DIR") {
+        Some(folder) => given(Path::new(&folder)),
         None => made(),
     };
-    println!("cargo:rustc-link-search=native={}", folder.display());
-    println!("cargo:rustc-link-lib=static=qewaris");
-    layout();
-}
-
-/// Writes an assertion about the structs of `raw` for each size and place that the header asserts.
-fn layout() {
-    let header = root().join("include/qewaris.h");
-    println!("cargo:rerun-if-changed={}", header.display());
-    let text = match fs::read_to_string(&header) {
-        Ok(text) => text,
-        Err(error) => stop(&format!("{} cannot be read: {error}.", header.display())),
-    };
-    let asserts: Vec<String> = text.lines().filter_map(assertion).collect();
-    if asserts.is_empty() {
-        stop(&format!("{} asserts no layout.", header.display()));
-    }
     let out = PathBuf::from(env::var_os("OUT_DIR").expect("cargo names the build's folder"));
-    let file = format!("const _: () = {{\n{}\n}};\n", asserts.join("\n"));
-    if let Err(error) = fs::write(out.join("layout.rs"), file) {
-        stop(&format!("the layout cannot be written: {error}."));
-    }
+    keep(&archive, &out);
+    println!("cargo:rustc-link-search=native={}", out.display());
+    println!("cargo:rustc-link-lib=static=qewaris");
 }
 
-/// A line of the header such as `QEWARIS_PLACE_IS(qewaris_record, name, 1);` as an assertion in Rust.
-fn assertion(line: &str) -> Option<String> {
-    let (call, arguments) = line.strip_suffix(");")?.split_once('(')?;
-    let parts: Vec<&str> = arguments.split(", ").collect();
-    match (call, parts.as_slice()) {
-        ("QEWARIS_SIZE_IS", [name, size]) => Some(format!("assert!(std::mem::size_of::<{}>() == {size});", rust_name(name)?)),
-        ("QEWARIS_PLACE_IS", [name, member, place]) => {
-            Some(format!("assert!(std::mem::offset_of!({}, {member}) == {place});", rust_name(name)?))
-        }
-        _ => None,
+/// The archive in the folder that the caller named.
+fn given(folder: &Path) -> PathBuf {
+    let archive = folder.join("libqewaris.a");
+    println!("cargo:rerun-if-changed={}", archive.display());
+    if !archive.is_file() {
+        stop(&format!("QEWARIS_LIB_DIR is set, but there is no {}.", archive.display()));
     }
+    archive
 }
 
-/// The Rust name of one of the header's structs: `RecordAnswer` of `qewaris_record_answer`.
-fn rust_name(name: &str) -> Option<String> {
-    let words = name.strip_prefix("qewaris_")?.split('_');
-    Some(words.map(|word| word[..1].to_uppercase() + &word[1..]).collect())
+/// The archive that `rt` makes in the repository. What is watched is what it is made of, and not itself.
+fn made() -> PathBuf {
+    let root = root();
+    let sources = [root.join("crates.txt"), root.join("crates")];
+    for source in &sources {
+        println!("cargo:rerun-if-changed={}", source.display());
+    }
+    let archive = root.join("target/staticlib/libqewaris.a");
+    if sources.iter().filter_map(|source| newest(source)).max() >= changed(&archive) {
+        make(&root);
+    }
+    archive
 }
 
 /// The repository that this package stands in.
@@ -62,29 +57,22 @@ fn root() -> PathBuf {
     let package = PathBuf::from(env::var_os("CARGO_MANIFEST_DIR").expect("cargo names the package's folder"));
     match package.ancestors().nth(2) {
         Some(root) if root.join("crates.txt").is_file() => root.to_path_buf(),
-        _ => stop("this package must stand in its repository, at rust/qewaris, for the header and the archive."),
+        _ => stop(
+            "this package stands outside its repository, and so cannot make libqewaris.a. Set QEWARIS_LIB_DIR to a folder that has it.",
+        ),
     }
 }
 
-/// The folder that the caller named, if it has the archive.
-fn given(folder: PathBuf) -> PathBuf {
-    let archive = folder.join("libqewaris.a");
-    println!("cargo:rerun-if-changed={}", archive.display());
-    if !archive.is_file() {
-        stop(&format!("QEWARIS_LIB_DIR is set, but there is no {}.", archive.display()));
-    }
-    folder
+/// When a file was changed; never, where there is none.
+fn changed(path: &Path) -> Option<SystemTime> {
+    path.metadata().and_then(|about| about.modified()).ok()
 }
 
-/// The archive that `rt` makes in the repository.
-fn made() -> PathBuf {
-    let root = root();
-    println!("cargo:rerun-if-changed={}", root.join("crates.txt").display());
-    println!("cargo:rerun-if-changed={}", root.join("crates").display());
-    make(&root);
-    let folder = root.join("target/staticlib");
-    println!("cargo:rerun-if-changed={}", folder.join("libqewaris.a").display());
-    folder
+/// When a file, or the last one in a folder, was changed.
+fn newest(path: &Path) -> Option<SystemTime> {
+    let entries = fs::read_dir(path).into_iter().flatten().flatten();
+    let within = entries.filter_map(|entry| newest(&entry.path())).max();
+    within.max(changed(path))
 }
 
 fn make(root: &Path) {
@@ -96,10 +84,38 @@ fn make(root: &Path) {
             String::from_utf8_lossy(&done.stderr)
         )),
         Err(error) => stop(&format!(
-            "The Rattle kit is needed to make libqewaris.a, and its command `rt` cannot be run ({error}). Install the kit and \
+            "the Rattle kit is needed to make libqewaris.a, and its command `rt` cannot be run ({error}). Install the kit and \
              put `rt` on the path, or set QEWARIS_LIB_DIR to a folder that has libqewaris.a."
         )),
     }
+}
+
+/// Copies the archive into the build's folder, if its structs are those that this crate has.
+fn keep(archive: &Path, out: &Path) {
+    let bytes = match fs::read(archive) {
+        Ok(bytes) => bytes,
+        Err(error) => stop(&format!("{} cannot be read: {error}.", archive.display())),
+    };
+    if !symbols(&bytes).is_some_and(|names| names.split(|byte| *byte == 0).any(|name| name == LAYOUT.as_bytes())) {
+        stop(&format!(
+            "{} has another layout than version {} of this crate: it has no {LAYOUT}. Take the archive of this version.",
+            archive.display(),
+            env!("CARGO_PKG_VERSION")
+        ));
+    }
+    if let Err(error) = fs::write(out.join("libqewaris.a"), bytes) {
+        stop(&format!("the archive cannot be copied: {error}."));
+    }
+}
+
+/// The names in an archive's table of symbols, each with a byte 0 behind it. The table is the archive's first member: its header of
+/// 60 bytes, the count of symbols, four bytes for each, and then the names.
+fn symbols(archive: &[u8]) -> Option<&[u8]> {
+    let member = archive.strip_prefix(b"!<arch>\n/ ")?;
+    let size = std::str::from_utf8(member.get(46..56)?).ok()?.trim_end().parse().ok()?;
+    let table = member.get(58..)?.get(..size)?;
+    let count = u32::from_be_bytes(table.get(..4)?.try_into().ok()?);
+    table.get(4 + 4 * usize::try_from(count).ok()?..)
 }
 
 fn stop(message: &str) -> ! {

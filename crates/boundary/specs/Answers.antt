@@ -2,6 +2,7 @@
 use Prim.Native.Nat.{ℕ, _-_}
 use mathlib.Core.Path.{_≡_}
 use mathlib.Core.List.{List}
+use lib.ListN.{replicate}
 use Rattle.rules.specs.Numbers.{Seen, seenOf, answerNumber, answerLine}
 use Rattle.rules.specs.declared.Reading.{Reading}
 use Rattle.writer.specs.Writing.{Writing, writtenAnswer, nameAfter, fileAfter}
@@ -12,17 +13,24 @@ use Rattle.boundary.specs.declared.CText.{CText}
 use Rattle.boundary.specs.declared.CWritten.{CWritten}
 
 abbrev pub seenAt : Seen → CReading
-seenAt s = record { line = s .line; settings = s .settings; services = s .services; number = s .number }
+seenAt s = record { line = s .line; settings = s .settings; services = s .services; number = s .number; reserved = replicate 7 0 }
 
 abbrev pub readingAt : Reading → CReading
 readingAt r = seenAt (seenOf r)
 
 -- "the stretch of the lent file where it stands", by its start and its length
 abbrev pub textAt : TextPlace → CText
-textAt p = record { line = p .line; start = p .start; length = p .end - p .start; number = p .number }
+textAt p = record { line = p .line; start = p .start; length = p .end - p .start; number = p .number; reserved = replicate 7 0 }
 
 abbrev pub writtenAt : Written → CWritten
-writtenAt a = record { line = answerLine (a .answer); «name_len» = a .«name_len»; «file_len» = a .«file_len»; number = answerNumber (a .answer) }
+writtenAt a =
+    record {
+      line = answerLine (a .answer);
+      «name_len» = a .«name_len»;
+      «file_len» = a .«file_len»;
+      number = answerNumber (a .answer);
+      reserved = replicate 7 0;
+    }
 
 -- the answer a, and the buffers x and y, which held n and f, are those of w
 pub record WritesAt (w : Writing) (n f x y : List ℕ) (a : CWritten) : Type 0 where

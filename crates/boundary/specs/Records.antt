@@ -62,7 +62,13 @@ pub record Short (r : JoinRecord) : Type 0 where
   pub domain : r .«domain_len» < 256
 
 abbrev pub recordAnswerAt : RecordAnswer → List (List ℕ) → CRecordAnswer
-recordAnswerAt a s = record { line = answerLine (a .answer); number = answerNumber (a .answer); «record» = recordAt (a .«record») s }
+recordAnswerAt a s =
+    record {
+      line = answerLine (a .answer);
+      number = answerNumber (a .answer);
+      «record» = recordAt (a .«record») s;
+      reserved = replicate 1 0;
+    }
 
 -- ---- what is brought in
 

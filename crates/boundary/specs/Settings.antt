@@ -1,7 +1,7 @@
 -- The typed settings in the C boundary's structs.
 use Prim.Native.Nat.{ℕ, _-_}
 use mathlib.Core.List.{List, [], _∷_}
-use lib.ListN.{getD}
+use lib.ListN.{getD, replicate}
 use Rattle.kinds.specs.declared.Entries.{Entries}
 use Rattle.rules.specs.Numbers.{answerNumber, answerLine}
 use Rattle.settings.specs.declared.GeneralSettings.{GeneralSettings}
@@ -40,6 +40,7 @@ securityAt s =
       «passphrase_line» = s .passphrase;
       «has_pre_shared_key» = bitOf (s .«pre_shared_key» .ok);
       «pre_shared_key» = s .«pre_shared_key» .bytes;
+      reserved = replicate 7 0;
     }
 
 abbrev pub ipv4At : Ipv4Settings → List (List ℕ) → CIpv4
@@ -56,6 +57,7 @@ ipv4At s servers =
       broadcast = s .broadcast .bytes;
       «netmask_length» = s .netmask;
       «send_hostname» = choiceCode (s .«send_hostname»);
+      reserved = replicate 7 0;
     }
 
 abbrev pub iwdSettingsAt : IwdAnswer → List (List ℕ) → CIwdSettings
@@ -63,10 +65,11 @@ iwdSettingsAt a servers =
     record {
       line = answerLine (a .answer);
       number = answerNumber (a .answer);
+      «ipv6_enabled» = choiceCode (a .settings .enabled);
       general = generalAt (a .settings .general);
+      reserved = replicate 4 0;
       security = securityAt (a .settings .security);
       ipv4 = ipv4At (a .settings .ipv4) servers;
-      «ipv6_enabled» = choiceCode (a .settings .enabled);
     }
 
 -- ---- a ConnMan service
@@ -88,6 +91,7 @@ networkAt s =
       «service_type» = chosenCode (s .«service_type»);
       security = chosenCode (s .security);
       hidden = choiceCode (s .hidden);
+      reserved = replicate 5 0;
     }
 
 abbrev pub addressesAt : AddressSettings → List (List ℕ) → CAddresses
@@ -107,6 +111,7 @@ addressesAt s servers =
       privacy = chosenCode (s .privacy);
       «has_mac» = bitOf (s .mac .ok);
       mac = s .mac .bytes;
+      reserved = replicate 4 0;
     }
 
 abbrev pub serviceSettingsAt : ServiceAnswer → List (List ℕ) → CServiceSettings
@@ -114,6 +119,7 @@ serviceSettingsAt a servers =
     record {
       line = answerLine (a .answer);
       number = answerNumber (a .answer);
+      reserved = replicate 7 0;
       network = networkAt (a .settings .network);
       addresses = addressesAt (a .settings .addresses) servers;
     }

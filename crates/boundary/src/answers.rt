@@ -51,12 +51,14 @@ pub fn reading_at(r: Reading) -> CReading
             settings,
             services,
             number: 0,
+            reserved: [0; 7],
         },
         Reading::Refused(refusal, line) => CReading {
             line,
             settings: 0,
             services: 0,
             number: number_of(refusal),
+            reserved: [0; 7],
         },
     }
 }
@@ -69,6 +71,7 @@ pub fn text_at(p: TextPlace) -> CText
         start: p.start,
         length: distance(p.start, p.end),
         number: p.number,
+        reserved: [0; 7],
     }
 }
 
@@ -81,5 +84,6 @@ pub fn written_at(a: Written) -> CWritten
         name_len: a.name_len,
         file_len: a.file_len,
         number: answer_number(answer),
+        reserved: [0; 7],
     }
 }

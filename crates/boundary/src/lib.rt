@@ -1,7 +1,8 @@
 // The C boundary's structs, and the library's answers and records in them.
 //
 // An enum is a code, name servers are 16 bytes, and a part of the file is a start and a length; `include/qewaris.h` has the
-// same structs. `codes` gives the codes, `answers` lays out what the reading, the lookups, the writer and the move answer,
+// same structs. Bytes that C would leave as padding are members, `reserved`, and always zero, so that an answer can be compared
+// and kept as bytes. `codes` gives the codes, `answers` lays out what the reading, the lookups, the writer and the move answer,
 // `record_layout` and `settings_layout` records and settings. The definitions are in specs/Codes, specs/Answers, specs/Records and specs/Settings.
 pub mod answers;
 pub mod codes;
@@ -15,6 +16,7 @@ pub struct CReading {
     pub settings: usize,
     pub services: usize,
     pub number: u8,
+    pub reserved: [u8; 7],
 }
 
 // What a string lookup answers: where the value stands.
@@ -24,6 +26,7 @@ pub struct CText {
     pub start: usize,
     pub length: usize,
     pub number: u8,
+    pub reserved: [u8; 7],
 }
 
 // What the writer and the move answer: how many bytes are new in each buffer.
@@ -33,6 +36,7 @@ pub struct CWritten {
     pub name_len: usize,
     pub file_len: usize,
     pub number: u8,
+    pub reserved: [u8; 7],
 }
 
 // A join record with its name servers: bytes only, so that it has no padding.
@@ -63,6 +67,7 @@ pub struct CRecordAnswer {
     pub line: usize,
     pub number: u8,
     pub record: CRecord,
+    pub reserved: [u8; 1],
 }
 
 // iwd's group Settings.
@@ -81,6 +86,7 @@ pub struct CSecurity {
     pub passphrase_line: usize,
     pub has_pre_shared_key: u8,
     pub pre_shared_key: [u8; 32],
+    pub reserved: [u8; 7],
 }
 
 // iwd's group IPv4.
@@ -97,6 +103,7 @@ pub struct CIpv4 {
     pub broadcast: [u8; 4],
     pub netmask_length: u8,
     pub send_hostname: u8,
+    pub reserved: [u8; 7],
 }
 
 // The answer to a question for the settings of an iwd file, and these.
@@ -104,10 +111,11 @@ pub struct CIpv4 {
 pub struct CIwdSettings {
     pub line: usize,
     pub number: u8,
+    pub ipv6_enabled: u8,
     pub general: CGeneral,
+    pub reserved: [u8; 4],
     pub security: CSecurity,
     pub ipv4: CIpv4,
-    pub ipv6_enabled: u8,
 }
 
 // A list of entries, each by its place in the file.
@@ -128,6 +136,7 @@ pub struct CNetwork {
     pub service_type: u8,
     pub security: u8,
     pub hidden: u8,
+    pub reserved: [u8; 5],
 }
 
 // The addresses of a ConnMan service.
@@ -147,6 +156,7 @@ pub struct CAddresses {
     pub privacy: u8,
     pub has_mac: u8,
     pub mac: [u8; 6],
+    pub reserved: [u8; 4],
 }
 
 // The answer to a question for the settings of a ConnMan service, and these.
@@ -154,6 +164,7 @@ pub struct CAddresses {
 pub struct CServiceSettings {
     pub line: usize,
     pub number: u8,
+    pub reserved: [u8; 7],
     pub network: CNetwork,
     pub addresses: CAddresses,
 }

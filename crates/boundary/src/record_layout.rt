@@ -94,6 +94,7 @@ pub fn record_answer_at(a: RecordAnswer, servers: [[u8; 4]; 4]) -> CRecordAnswer
         line: answers::answer_line(answer),
         number: answers::answer_number(answer),
         record: record_at(found, servers),
+        reserved: [0; 1],
     }
 }
 

@@ -47,6 +47,7 @@ fn security_at(s: SecuritySettings) -> CSecurity
         passphrase_line: s.passphrase,
         has_pre_shared_key: codes::bit_of(key.ok),
         pre_shared_key: bytes,
+        reserved: [0; 7],
     }
 }
 
@@ -73,6 +74,7 @@ fn ipv4_at(s: Ipv4Settings, servers: [[u8; 4]; 4]) -> CIpv4
         broadcast: broadcast_bytes,
         netmask_length: s.netmask,
         send_hostname: codes::choice_code(send_hostname),
+        reserved: [0; 7],
     }
 }
 
@@ -89,10 +91,11 @@ pub fn iwd_settings_at(a: IwdAnswer, servers: [[u8; 4]; 4]) -> CIwdSettings
     CIwdSettings {
         line: answers::answer_line(answer),
         number: answers::answer_number(answer),
+        ipv6_enabled: codes::choice_code(enabled),
         general: general_at(general),
+        reserved: [0; 4],
         security: security_at(security),
         ipv4: ipv4_at(ipv4, servers),
-        ipv6_enabled: codes::choice_code(enabled),
     }
 }
 
@@ -131,6 +134,7 @@ fn network_at(s: NetworkSettings) -> CNetwork
         service_type: codes::chosen_code(service_type),
         security: codes::chosen_code(security),
         hidden: codes::choice_code(hidden),
+        reserved: [0; 5],
     }
 }
 
@@ -163,6 +167,7 @@ fn addresses_at(s: AddressSettings, servers: [[u8; 4]; 4]) -> CAddresses
         privacy: codes::chosen_code(privacy),
         has_mac: codes::bit_of(mac.ok),
         mac: mac_bytes,
+        reserved: [0; 4],
     }
 }
 
@@ -177,6 +182,7 @@ pub fn service_settings_at(a: ServiceAnswer, servers: [[u8; 4]; 4]) -> CServiceS
     CServiceSettings {
         line: answers::answer_line(answer),
         number: answers::answer_number(answer),
+        reserved: [0; 7],
         network: network_at(network),
         addresses: addresses_at(addresses, servers),
     }

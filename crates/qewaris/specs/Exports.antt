@@ -60,8 +60,10 @@ zeroIwd n l =
     record {
       line = l;
       number = n;
+      «ipv6_enabled» = 0;
       general = record { «auto_connect» = 0; hidden = 0; «always_randomize_address» = 0; «has_address_override» = 0; «address_override» = replicate 6 0 };
-      security = record { «passphrase_line» = 0; «has_pre_shared_key» = 0; «pre_shared_key» = replicate 32 0 };
+      reserved = replicate 4 0;
+      security = record { «passphrase_line» = 0; «has_pre_shared_key» = 0; «pre_shared_key» = replicate 32 0; reserved = replicate 7 0 };
       ipv4 =
           record {
             «domain_name_line» = 0;
@@ -75,8 +77,8 @@ zeroIwd n l =
             broadcast = replicate 4 0;
             «netmask_length» = 0;
             «send_hostname» = 0;
+            reserved = replicate 7 0;
           };
-      «ipv6_enabled» = 0;
     }
 
 abbrev zeroEntries : CEntries
@@ -87,7 +89,8 @@ zeroService n l =
     record {
       line = l;
       number = n;
-      network = record { «name_line» = 0; «passphrase_line» = 0; «ssid_len» = 0; ssid = replicate 32 0; «service_type» = 0; security = 0; hidden = 0 };
+      reserved = replicate 7 0;
+      network = record { «name_line» = 0; «passphrase_line» = 0; «ssid_len» = 0; ssid = replicate 32 0; «service_type» = 0; security = 0; hidden = 0; reserved = replicate 5 0 };
       addresses =
           record {
             «domain_line» = 0;
@@ -104,11 +107,12 @@ zeroService n l =
             privacy = 0;
             «has_mac» = 0;
             mac = replicate 6 0;
+            reserved = replicate 4 0;
           };
     }
 
 module _ (r : Refusal) (l : ℕ) where
-  pub refused-reading : readingAt (R.Refused r l) ≡ record { line = l; settings = 0; services = 0; number = numberOf r }
+  pub refused-reading : readingAt (R.Refused r l) ≡ record { line = l; settings = 0; services = 0; number = numberOf r; reserved = replicate 7 0 }
   refused-reading = refl
 
   pub refused-iwd-settings : (gs : List Section) → iwdSettingsAt (iwdAnswerOf (Refused r l) gs) (iwdServersOf (Refused r l) gs noServers) ≡ zeroIwd (numberOf r) l
@@ -117,14 +121,14 @@ module _ (r : Refusal) (l : ℕ) where
   pub refused-service-settings : (es : List Entry) → serviceSettingsAt (serviceAnswerOf (Refused r l) es) (serviceServersOf (Refused r l) es noServers) ≡ zeroService (numberOf r) l
   refused-service-settings es = refl
 
-  pub refused-text : (o : Option Entry) → textAt (placeOf (lookupOf (Refused r l) o)) ≡ record { line = l; start = 0; length = 0; number = numberOf r }
+  pub refused-text : (o : Option Entry) → textAt (placeOf (lookupOf (Refused r l) o)) ≡ record { line = l; start = 0; length = 0; number = numberOf r; reserved = replicate 7 0 }
   refused-text o = refl
 
-  pub refused-record : recordAnswerAt (recordAnswer (J.refused r l)) (serversAfter (J.refused r l) noServers) ≡ record { line = l; number = numberOf r; «record» = zeroC }
+  pub refused-record : recordAnswerAt (recordAnswer (J.refused r l)) (serversAfter (J.refused r l) noServers) ≡ record { line = l; number = numberOf r; «record» = zeroC; reserved = replicate 1 0 }
   refused-record = refl
 
   -- and both buffers are as they were
-  pub refused-written : (n f : List ℕ) {x y : List ℕ} {a : CWritten} → WritesAt (refuses r l) n f x y a → (a ≡ record { line = l; «name_len» = 0; «file_len» = 0; number = numberOf r }) × (x ≡ n) × (y ≡ f)
+  pub refused-written : (n f : List ℕ) {x y : List ℕ} {a : CWritten} → WritesAt (refuses r l) n f x y a → (a ≡ record { line = l; «name_len» = 0; «file_len» = 0; number = numberOf r; reserved = replicate 7 0 }) × (x ≡ n) × (y ≡ f)
   refused-written n f w = (w .answer, w .name, w .file)
 
 -- ---- demands 2 and 3: what is handed out as a record is written as that record, and the move is the library's

@@ -9,6 +9,7 @@ pub mod files;
 pub mod joined;
 pub mod strings;
 pub mod typed;
+pub mod version;
 
 ghost use mathlib.Core.Path.{_≡_};
 ghost use Rattle.rules.specs.Reading.{reading};

@@ -71,14 +71,14 @@ impl Answer {
 
     fn fields(&self) -> Vec<Field> {
         match self {
-            Answer::Reading(reading) => members!(reading, number, line, settings, services),
+            Answer::Reading(reading) => members!(reading, number, line, settings, services, reserved),
             Answer::IwdSettings(settings) => iwd_settings_fields(settings),
             Answer::ServiceSettings(settings) => service_settings_fields(settings),
-            Answer::Text(text) => members!(text, number, line, start, length),
-            Answer::Record(answer) => [members!(answer, number, line), record_fields(&answer.record)].concat(),
+            Answer::Text(text) => members!(text, number, line, start, length, reserved),
+            Answer::Record(answer) => [members!(answer, number, line, reserved), record_fields(&answer.record)].concat(),
             Answer::Written { written, name, file } => {
                 let buffers = vec![text_field("name buffer", name), text_field("file buffer", file)];
-                [members!(written, number, line, name_len, file_len), buffers].concat()
+                [members!(written, number, line, name_len, file_len, reserved), buffers].concat()
             }
         }
     }
@@ -109,10 +109,10 @@ fn iwd_settings_fields(settings: &raw::IwdSettings) -> Vec<Field> {
             has_address_override,
             address_override
         ),
-        members!(security, passphrase_line, has_pre_shared_key, pre_shared_key),
+        members!(security, passphrase_line, has_pre_shared_key, pre_shared_key, reserved),
         members!(ipv4, domain_name_line, dns_count, dns, has_address, address, has_gateway, gateway),
-        members!(ipv4, has_broadcast, broadcast, netmask_length, send_hostname),
-        members!(settings, ipv6_enabled),
+        members!(ipv4, has_broadcast, broadcast, netmask_length, send_hostname, reserved),
+        members!(settings, ipv6_enabled, reserved),
     ]
     .concat()
 }
@@ -121,7 +121,17 @@ fn service_settings_fields(settings: &raw::ServiceSettings) -> Vec<Field> {
     let raw::ServiceSettings { network, addresses, .. } = settings;
     [
         members!(settings, number, line),
-        members!(network, name_line, passphrase_line, ssid_len, ssid, service_type, security, hidden),
+        members!(
+            network,
+            name_line,
+            passphrase_line,
+            ssid_len,
+            ssid,
+            service_type,
+            security,
+            hidden,
+            reserved
+        ),
         members!(addresses, domain_line, search_domains, timeservers, nameserver_count, nameservers),
         members!(
             addresses,
@@ -133,7 +143,8 @@ fn service_settings_fields(settings: &raw::ServiceSettings) -> Vec<Field> {
             ipv6,
             privacy,
             has_mac,
-            mac
+            mac,
+            reserved
         ),
     ]
     .concat()

@@ -25,6 +25,7 @@ impl Dialect {
 
 /// The kinds of values.
 #[derive(Clone, Copy, Debug, PartialEq, Eq)]
+#[non_exhaustive]
 pub enum Kind {
     YesNo,
     Address,

@@ -7,10 +7,10 @@ use crate::Hidden;
 use std::fmt;
 
 /// No file name that is written is longer.
-pub const NAME_MAX: usize = 70;
+pub const NAME_MAX: usize = raw::NAME_MAX;
 
 /// No file that is written is longer.
-pub const FILE_MAX: usize = 858;
+pub const FILE_MAX: usize = raw::FILE_MAX;
 
 /// How many bytes are new at the front of each buffer; what stood behind them is still there.
 #[derive(Clone, Copy, Debug, PartialEq, Eq)]

@@ -5,6 +5,7 @@ use std::ops::Range;
 
 /// A line as its dialect reads it; places are counted from the start of the line.
 #[derive(Debug, PartialEq, Eq)]
+#[non_exhaustive]
 pub enum Form {
     Blank,
     Comment,

@@ -1,7 +1,11 @@
-//! The C boundary as it is: the structs of `include/qewaris.h` and its functions.
+//! The C boundary as it is: the structs of `include/qewaris.h`, its enumerators and its functions.
 //!
-//! The rest of this crate is over these; they are public for programs that lay records out themselves. The build compares the
-//! size of each struct and the place of each member with those that the header asserts.
+//! The rest of this crate is over these; they are public for programs that lay records out themselves. The gate compares them
+//! with the header and with the library (`.ci/layout`), and the build asks the archive for its layout.
+
+mod codes;
+
+pub use codes::*;
 
 #[repr(C)]
 #[derive(Clone, Copy, Debug, PartialEq, Eq)]
@@ -10,6 +14,7 @@ pub struct Reading {
     pub settings: usize,
     pub services: usize,
     pub number: u8,
+    pub reserved: [u8; 7],
 }
 
 #[repr(C)]
@@ -28,6 +33,7 @@ pub struct IwdSecurity {
     pub passphrase_line: usize,
     pub has_pre_shared_key: u8,
     pub pre_shared_key: [u8; 32],
+    pub reserved: [u8; 7],
 }
 
 #[repr(C)]
@@ -44,6 +50,7 @@ pub struct IwdIpv4 {
     pub broadcast: [u8; 4],
     pub netmask_length: u8,
     pub send_hostname: u8,
+    pub reserved: [u8; 7],
 }
 
 #[repr(C)]
@@ -51,10 +58,11 @@ pub struct IwdIpv4 {
 pub struct IwdSettings {
     pub line: usize,
     pub number: u8,
+    pub ipv6_enabled: u8,
     pub general: IwdGeneral,
+    pub reserved: [u8; 4],
     pub security: IwdSecurity,
     pub ipv4: IwdIpv4,
-    pub ipv6_enabled: u8,
 }
 
 #[repr(C)]
@@ -75,6 +83,7 @@ pub struct ServiceNetwork {
     pub service_type: u8,
     pub security: u8,
     pub hidden: u8,
+    pub reserved: [u8; 5],
 }
 
 #[repr(C)]
@@ -94,6 +103,7 @@ pub struct ServiceAddresses {
     pub privacy: u8,
     pub has_mac: u8,
     pub mac: [u8; 6],
+    pub reserved: [u8; 4],
 }
 
 #[repr(C)]
@@ -101,6 +111,7 @@ pub struct ServiceAddresses {
 pub struct ServiceSettings {
     pub line: usize,
     pub number: u8,
+    pub reserved: [u8; 7],
     pub network: ServiceNetwork,
     pub addresses: ServiceAddresses,
 }
@@ -112,6 +123,7 @@ pub struct Text {
     pub start: usize,
     pub length: usize,
     pub number: u8,
+    pub reserved: [u8; 7],
 }
 
 #[repr(C)]
@@ -165,6 +177,7 @@ pub struct RecordAnswer {
     pub line: usize,
     pub number: u8,
     pub record: Record,
+    pub reserved: [u8; 1],
 }
 
 #[repr(C)]
@@ -174,9 +187,12 @@ pub struct Written {
     pub name_len: usize,
     pub file_len: usize,
     pub number: u8,
+    pub reserved: [u8; 7],
 }
 
 extern "C" {
+    pub fn qewaris_version() -> u32;
+    pub fn qewaris_layout_1() -> u32;
     pub fn qewaris_check_iwd(name: *const u8, name_len: usize, file: *const u8, file_len: usize) -> Reading;
     pub fn qewaris_check_connman(name: *const u8, name_len: usize, file: *const u8, file_len: usize) -> Reading;
     pub fn qewaris_iwd_settings_of(name: *const u8, name_len: usize, file: *const u8, file_len: usize) -> IwdSettings;
@@ -209,6 +225,3 @@ extern "C" {
         file_out_len: usize,
     ) -> Written;
 }
-
-// Made by the build from the header: an assertion for each size and each place.
-include!(concat!(env!("OUT_DIR"), "/layout.rs"));

@@ -22,7 +22,19 @@ pub struct JoinRecord {
 }
 
 /// What the network asks for. `Debug` does not show a passphrase or a key.
+///
+/// There will be more of them, and so of every enum that is marked as this one is: a `match` has an arm for the others.
+///
+/// ```compile_fail
+/// fn is_open(credential: &qewaris::Credential) -> bool {
+///     match credential {
+///         qewaris::Credential::None => true,
+///         qewaris::Credential::Passphrase(_) | qewaris::Credential::Key(_) => false,
+///     }
+/// }
+/// ```
 #[derive(Clone, PartialEq, Eq)]
+#[non_exhaustive]
 pub enum Credential {
     None,
     /// 8 to 63 bytes of UTF-8 without byte 0.
@@ -46,9 +58,31 @@ pub struct StaticIpv4 {
 }
 
 #[derive(Clone, Copy, Debug, PartialEq, Eq)]
+#[non_exhaustive]
 pub enum Ipv6 {
     Auto,
     Off,
+}
+
+impl Credential {
+    /// What it is called: `none`, `passphrase` or `key`.
+    pub fn word(&self) -> &'static str {
+        match self {
+            Credential::None => "none",
+            Credential::Passphrase(_) => "passphrase",
+            Credential::Key(_) => "key",
+        }
+    }
+}
+
+impl Ipv6 {
+    /// What it is called: `auto` or `off`.
+    pub fn word(self) -> &'static str {
+        match self {
+            Ipv6::Auto => "auto",
+            Ipv6::Off => "off",
+        }
+    }
 }
 
 impl fmt::Debug for Credential {
@@ -112,19 +146,19 @@ impl JoinRecord {
         match &self.credential {
             Credential::None => {}
             Credential::Passphrase(bytes) => {
-                record.credential = 1;
+                record.credential = raw::CREDENTIAL_PASSPHRASE;
                 record.passphrase_len = laid(bytes, &mut record.passphrase)?;
             }
             Credential::Key(bytes) => {
-                record.credential = 2;
+                record.credential = raw::CREDENTIAL_KEY;
                 record.key = *bytes;
             }
         }
         match &self.ipv4 {
             Ipv4::Dhcp => {}
-            Ipv4::Off => record.ipv4 = 1,
+            Ipv4::Off => record.ipv4 = raw::IPV4_OFF,
             Ipv4::Static(fixed) => {
-                record.ipv4 = 2;
+                record.ipv4 = raw::IPV4_STATIC;
                 record.address = fixed.address.octets();
                 record.prefix_length = fixed.prefix_length;
                 record.has_gateway = fixed.gateway.is_some().into();
@@ -134,7 +168,10 @@ impl JoinRecord {
         let servers: Vec<u8> = self.name_servers.iter().flat_map(Ipv4Addr::octets).collect();
         record.server_count = laid(&servers, &mut record.servers)? / 4;
         record.domain_len = laid(&self.domain, &mut record.domain)?;
-        record.ipv6 = (self.ipv6 == Ipv6::Off).into();
+        record.ipv6 = match self.ipv6 {
+            Ipv6::Auto => raw::IPV6_AUTO,
+            Ipv6::Off => raw::IPV6_OFF,
+        };
         Some(record)
     }
 
@@ -143,14 +180,14 @@ impl JoinRecord {
         JoinRecord {
             name: record.name[..record.name_len.into()].to_vec(),
             credential: match record.credential {
-                0 => Credential::None,
-                1 => Credential::Passphrase(record.passphrase[..record.passphrase_len.into()].to_vec()),
+                raw::CREDENTIAL_NONE => Credential::None,
+                raw::CREDENTIAL_PASSPHRASE => Credential::Passphrase(record.passphrase[..record.passphrase_len.into()].to_vec()),
                 _ => Credential::Key(record.key),
             },
             hidden: record.hidden == 1,
             ipv4: match record.ipv4 {
-                0 => Ipv4::Dhcp,
-                1 => Ipv4::Off,
+                raw::IPV4_DHCP => Ipv4::Dhcp,
+                raw::IPV4_OFF => Ipv4::Off,
                 _ => Ipv4::Static(StaticIpv4 {
                     address: record.address.into(),
                     prefix_length: record.prefix_length,
@@ -159,7 +196,7 @@ impl JoinRecord {
             },
             name_servers: addresses(&record.servers, record.server_count.into()),
             domain: record.domain[..record.domain_len.into()].to_vec(),
-            ipv6: if record.ipv6 == 0 { Ipv6::Auto } else { Ipv6::Off },
+            ipv6: if record.ipv6 == raw::IPV6_AUTO { Ipv6::Auto } else { Ipv6::Off },
         }
     }
 }

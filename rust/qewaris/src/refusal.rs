@@ -1,30 +1,33 @@
 //! Refusals: a number, a line and a plain sentence.
 
+use crate::raw;
 use std::error::Error;
 use std::fmt;
 
 /// Why something is refused. The numbers are those of the library's table of answers.
 #[derive(Clone, Copy, Debug, PartialEq, Eq, Hash)]
+#[repr(u8)]
+#[non_exhaustive]
 pub enum Reason {
-    Size,
-    FileName,
-    Unrecognized,
-    Extension,
-    BadHeader,
-    UnknownGroup,
-    RepeatedGroup,
-    NoGroup,
-    UnknownKey,
-    RepeatedKey,
-    ValueText,
-    ValueKind,
-    ManyServices,
-    Missing,
-    Contradiction,
-    NoPlace,
-    ShortBuffer,
-    NoService,
-    Malformed,
+    Size = raw::SIZE,
+    FileName = raw::FILE_NAME,
+    Unrecognized = raw::UNRECOGNIZED,
+    Extension = raw::EXTENSION,
+    BadHeader = raw::BAD_HEADER,
+    UnknownGroup = raw::UNKNOWN_GROUP,
+    RepeatedGroup = raw::REPEATED_GROUP,
+    NoGroup = raw::NO_GROUP,
+    UnknownKey = raw::UNKNOWN_KEY,
+    RepeatedKey = raw::REPEATED_KEY,
+    ValueText = raw::VALUE_TEXT,
+    ValueKind = raw::VALUE_KIND,
+    ManyServices = raw::MANY_SERVICES,
+    Missing = raw::MISSING,
+    Contradiction = raw::CONTRADICTION,
+    NoPlace = raw::NO_PLACE,
+    ShortBuffer = raw::SHORT_BUFFER,
+    NoService = raw::NO_SERVICE,
+    Malformed = raw::MALFORMED,
 }
 
 /// The reasons with their sentences, in the order of their numbers from 1.
@@ -53,12 +56,12 @@ const REASONS: [(Reason, &str); 19] = [
 impl Reason {
     /// The number, from 1 to 19.
     pub fn number(self) -> u8 {
-        self as u8 + 1
+        self as u8
     }
 
     /// What the refusal says, as a plain sentence without its full stop.
     pub fn sentence(self) -> &'static str {
-        REASONS[self as usize].1
+        REASONS[self as usize - 1].1
     }
 }
 

@@ -107,9 +107,20 @@ pub enum Security {
 }
 
 #[derive(Clone, Copy, Debug, PartialEq, Eq)]
+#[non_exhaustive]
 pub enum Ipv6Method {
     Off,
     Auto,
+}
+
+impl Ipv6Method {
+    /// As the file has it: `off` or `auto`.
+    pub fn word(self) -> &'static str {
+        match self {
+            Ipv6Method::Off => "off",
+            Ipv6Method::Auto => "auto",
+        }
+    }
 }
 
 #[derive(Clone, Copy, Debug, PartialEq, Eq)]
@@ -165,14 +176,11 @@ pub fn service_settings(name: &[u8], file: &[u8], service: usize) -> Result<Serv
     let found = unsafe { raw::qewaris_service_settings_of(name.as_ptr(), name.len(), file.as_ptr(), file.len(), service) };
     answered(found.number, found.line, || ServiceSettings {
         network: ServiceNetwork {
-            service_type: coded(found.network.service_type, &[ServiceType::Wifi, ServiceType::Ethernet]),
+            service_type: coded(found.network.service_type, &TYPES),
             name_line: line(found.network.name_line),
             ssid: (found.network.ssid_len > 0).then(|| found.network.ssid[..found.network.ssid_len].to_vec()),
             passphrase_line: line(found.network.passphrase_line),
-            security: coded(
-                found.network.security,
-                &[Security::Psk, Security::Ieee8021x, Security::None, Security::Wep],
-            ),
+            security: coded(found.network.security, &SECURITIES),
             hidden: choice(found.network.hidden),
         },
         addresses: service_addresses(&found.addresses),
@@ -185,10 +193,15 @@ fn service_addresses(found: &raw::ServiceAddresses) -> ServiceAddresses {
         prefix_length: found.prefix_length,
         gateway: given(found.has_gateway, found.gateway.into()),
     };
+    let methods = [
+        (raw::SETTING_IPV4_DHCP, Ipv4::Dhcp),
+        (raw::SETTING_IPV4_OFF, Ipv4::Off),
+        (raw::SETTING_IPV4_STATIC, Ipv4::Static(fixed)),
+    ];
     ServiceAddresses {
-        ipv4: coded(found.ipv4, &[Ipv4::Dhcp, Ipv4::Off, Ipv4::Static(fixed)]),
-        ipv6: coded(found.ipv6, &[Ipv6Method::Off, Ipv6Method::Auto]),
-        privacy: coded(found.privacy, &[Privacy::Disabled, Privacy::Enabled, Privacy::Preferred]),
+        ipv4: coded(found.ipv4, &methods),
+        ipv6: coded(found.ipv6, &IPV6_METHODS),
+        privacy: coded(found.privacy, &PRIVACIES),
         mac: given(found.has_mac, found.mac),
         nameservers: addresses(&found.nameservers, found.nameserver_count),
         search_domains: entries(&found.search_domains),
@@ -198,12 +211,29 @@ fn service_addresses(found: &raw::ServiceAddresses) -> ServiceAddresses {
 }
 
 fn choice(code: u8) -> Option<bool> {
-    coded(code, &[false, true])
+    coded(code, &[(raw::NO, false), (raw::YES, true)])
 }
 
-/// The case of a code, which counts from 1 and is 0 where there is none.
-fn coded<T: Copy>(code: u8, cases: &[T]) -> Option<T> {
-    cases.get(usize::from(code).checked_sub(1)?).copied()
+const TYPES: [(u8, ServiceType); 2] = [(raw::TYPE_WIFI, ServiceType::Wifi), (raw::TYPE_ETHERNET, ServiceType::Ethernet)];
+
+const SECURITIES: [(u8, Security); 4] = [
+    (raw::SECURITY_PSK, Security::Psk),
+    (raw::SECURITY_IEEE8021X, Security::Ieee8021x),
+    (raw::SECURITY_NONE, Security::None),
+    (raw::SECURITY_WEP, Security::Wep),
+];
+
+const IPV6_METHODS: [(u8, Ipv6Method); 2] = [(raw::SETTING_IPV6_OFF, Ipv6Method::Off), (raw::SETTING_IPV6_AUTO, Ipv6Method::Auto)];
+
+const PRIVACIES: [(u8, Privacy); 3] = [
+    (raw::PRIVACY_DISABLED, Privacy::Disabled),
+    (raw::PRIVACY_ENABLED, Privacy::Enabled),
+    (raw::PRIVACY_PREFERRED, Privacy::Preferred),
+];
+
+/// The case of a code; none where the setting is absent.
+fn coded<T: Copy>(code: u8, cases: &[(u8, T)]) -> Option<T> {
+    cases.iter().find(|(of, _)| *of == code).map(|(_, case)| *case)
 }
 
 fn given<T>(has: u8, value: T) -> Option<T> {

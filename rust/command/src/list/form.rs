@@ -6,7 +6,6 @@ use crate::forms::{self, bytes_members, head, kind, path_members};
 use crate::json::{members, number, Json};
 use crate::secrets::swallowed_secret;
 use crate::show::form::ipv4;
-use qewaris::Credential;
 use std::ffi::OsStr;
 use std::os::unix::ffi::OsStrExt;
 use std::path::Path;
@@ -46,7 +45,7 @@ fn row(row: &Row) -> Json {
         Moves::IsIwd | Moves::Unknown => Json::Null,
     };
     found.extend(members([
-        ("credential", Json::from(record.map(|record| credential(&record.credential)))),
+        ("credential", Json::from(record.map(|record| record.credential.word()))),
         ("hidden", record.map_or(Json::Null, |record| Json::Bool(record.hidden))),
         ("ipv4", record.map_or(Json::Null, |record| ipv4(&record.ipv4))),
         ("moves", moves),
@@ -62,14 +61,6 @@ fn row(row: &Row) -> Json {
         ("remedy", Json::from(row.remedy.as_ref())),
     ]));
     Json::Object(found)
-}
-
-fn credential(credential: &Credential) -> &'static str {
-    match credential {
-        Credential::None => "none",
-        Credential::Passphrase(_) => "passphrase",
-        Credential::Key(_) => "key",
-    }
 }
 
 fn state(rank: Rank) -> &'static str {

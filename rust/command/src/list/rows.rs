@@ -226,10 +226,9 @@ fn of_service(input: &Input, service: Service, is_one_of_several: bool, warnings
 
 /// The key of a record in words.
 fn key_of(record: &JoinRecord) -> &'static str {
-    match record.credential {
+    match &record.credential {
         Credential::None => "OPEN",
-        Credential::Passphrase(_) => "passphrase",
-        Credential::Key(_) => "key",
+        other => other.word(),
     }
 }
 

@@ -1,7 +1,8 @@
 //! Files into a folder, all or none: each is written beside its place under another name, and then all are put there.
 //!
-//! What a kill leaves behind has a name that begins with `.qewaris-` and ends with `.tmp`, which no daemon reads. The next time
-//! files are placed in the folder it is removed.
+//! A signal that asks the command to end waits meanwhile: before the first file is put it ends all, and what was written is
+//! removed; afterwards all are put. What SIGKILL or a power loss leaves behind has a name that begins with `.qewaris-` and ends
+//! with `.tmp`, which no daemon reads. The next time files are placed in the folder it is removed.
 
 mod interrupts;
 mod temporary;
@@ -10,6 +11,7 @@ mod tests;
 
 use crate::input::plainly;
 use crate::report::shown_path;
+use interrupts::Held;
 use std::ffi::OsStr;
 use std::fs::{self, File};
 use std::io;
@@ -57,6 +59,7 @@ pub fn may_place(folder: &Path, files: &[NewFile<'_>], force: bool) -> Result<bo
     match there.iter().find(|path| path.is_dir()) {
         Some(path) => Err(Failure::NotWritten(format!("{} is a folder", shown_path(path)))),
         None if force || there.is_empty() => {
+            let _signals = Held::new();
             let tried = Temporary::holding(folder, b"").map_err(|error| not_written(folder, &error))?;
             let about = fs::symlink_metadata(tried.path()).map_err(|error| not_written(folder, &error))?;
             Ok(about.mode() & 0o077 == 0)
@@ -67,6 +70,8 @@ pub fn may_place(folder: &Path, files: &[NewFile<'_>], force: bool) -> Result<bo
 
 /// Places all files where they may be placed, or none and says why. With `force` files that are there are replaced.
 pub fn place(folder: &Path, files: &[NewFile<'_>], force: bool) -> Result<(), Failure> {
+    // It stands before what is staged, and so is dropped after it.
+    let signals = Held::new();
     temporary::sweep(folder);
     let mut staged = Vec::new();
     for file in files {
@@ -77,8 +82,11 @@ pub fn place(folder: &Path, files: &[NewFile<'_>], force: bool) -> Result<(), Fa
             backup: None,
             placed: None,
         });
+        if signals.is_asked_to_end() {
+            return Err(Failure::NotWritten("the move was interrupted".to_string()));
+        }
     }
-    let done = interrupts::without(|| put_all(folder, &mut staged, force));
+    let done = put_all(folder, &mut staged, force);
     // The files are in place; a file system that cannot say that the folder is on disk too is taken as it is.
     let _ = File::open(folder).and_then(|folder| folder.sync_all());
     done

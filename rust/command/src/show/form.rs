@@ -6,7 +6,7 @@ use super::{Shown, ShownService};
 use crate::catalogue::Dialect;
 use crate::forms::{self, bytes_members, hex, path_members, Contents, State};
 use crate::json::{members, Json};
-use qewaris::{Credential, Ipv4, Ipv6, JoinRecord};
+use qewaris::{Credential, Ipv4, JoinRecord};
 use std::ffi::OsStr;
 use std::os::unix::ffi::OsStrExt;
 use std::path::Path;
@@ -60,10 +60,11 @@ fn service(shown: &ShownService, hiding: &Hiding) -> Json {
 }
 
 fn record(record: &JoinRecord, hiding: &Hiding) -> Json {
-    let (credential, passphrase, key) = match &record.credential {
-        Credential::None => ("none", None, None),
-        Credential::Passphrase(passphrase) => ("passphrase", Some(passphrase.clone()), None),
-        Credential::Key(key) => ("key", None, Some(hex(key).into_bytes())),
+    let credential = record.credential.word();
+    let (passphrase, key) = match &record.credential {
+        Credential::Passphrase(passphrase) => (Some(passphrase.clone()), None),
+        Credential::Key(key) => (None, Some(hex(key).into_bytes())),
+        _ => (None, None),
     };
     let is_hidden = hiding.hides(&record.name);
     let mut found = bytes_members("name", Some(record.name.as_slice()).filter(|_| !is_hidden));
@@ -80,7 +81,7 @@ fn record(record: &JoinRecord, hiding: &Hiding) -> Json {
         ("ipv4", ipv4(&record.ipv4)),
         ("name_servers", Json::List(servers)),
         ("domain", Json::from(domain)),
-        ("ipv6", Json::text(if record.ipv6 == Ipv6::Off { "off" } else { "auto" })),
+        ("ipv6", Json::text(record.ipv6.word())),
     ]));
     Json::Object(found)
 }

@@ -58,7 +58,7 @@ pub fn service(name: &[u8], file: &[u8], number: usize) -> Result<Group, Refusal
     let rows = vec![
         ("Type", word(network.service_type.map(type_word))),
         ("IPv4", Value::Plain(addressing.ipv4.map(ipv4))),
-        ("IPv6", word(addressing.ipv6.map(ipv6_word))),
+        ("IPv6", word(addressing.ipv6.map(Ipv6Method::word))),
         ("IPv6.Privacy", word(addressing.privacy.map(privacy_word))),
         ("MAC", Value::Plain(addressing.mac.map(mac))),
         ("Nameservers", addresses(&addressing.nameservers)),
@@ -125,13 +125,6 @@ fn security_word(word: Security) -> &'static str {
         Security::Ieee8021x => "ieee8021x",
         Security::None => "none",
         Security::Wep => "wep",
-    }
-}
-
-fn ipv6_word(word: Ipv6Method) -> &'static str {
-    match word {
-        Ipv6Method::Off => "off",
-        Ipv6Method::Auto => "auto",
     }
 }
 

@@ -7,7 +7,7 @@ use crate::catalogue::{counted, Dialect};
 use crate::forms::hex;
 use crate::output::{Output, Style};
 use crate::report::shown_path;
-use qewaris::{Credential, Ipv4, Ipv6, JoinRecord};
+use qewaris::{Credential, Ipv4, JoinRecord};
 use std::io;
 
 /// How wide the column of the keys is: the longest key and two blanks.
@@ -73,16 +73,17 @@ fn print_record(record: &JoinRecord, hiding: &Hiding, output: &mut Output) -> io
     let servers: Vec<String> = record.name_servers.iter().map(ToString::to_string).collect();
     let mut rows = vec![("network name", hiding.name(&record.name))];
     match &record.credential {
-        Credential::None => rows.push(("credential", "none, the network is open".to_string())),
         Credential::Passphrase(passphrase) => rows.push(("passphrase", hiding.secret(passphrase))),
         Credential::Key(key) => rows.push(("key", hiding.secret(hex(key).as_bytes()))),
+        Credential::None => rows.push(("credential", "none, the network is open".to_string())),
+        other => rows.push(("credential", other.word().to_string())),
     }
     rows.extend([
         ("hidden", if record.hidden { "yes" } else { "no" }.to_string()),
         ("IPv4", ipv4(&record.ipv4)),
         ("name servers", or_none(servers.join(", "))),
         ("domain", or_none(hiding.text(&record.domain))),
-        ("IPv6", if record.ipv6 == Ipv6::Off { "off" } else { "auto" }.to_string()),
+        ("IPv6", record.ipv6.word().to_string()),
     ]);
     print_rows("join record", &rows, output)
 }

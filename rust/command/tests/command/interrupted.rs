@@ -1,4 +1,4 @@
-//! A move that is ended in the middle leaves whole files or none, and beside them only temporary ones.
+//! A move that is ended in the middle leaves whole files or none; beside them temporary ones, if nothing could remove these.
 
 use crate::common::{Folder, Random};
 use std::fs;
@@ -97,6 +97,9 @@ fn ended_at_random(name: &str, ending: &Ending) {
             !ending.all_or_none || count == 0 || count == COUNT,
             "{count} of {COUNT} were written"
         );
+        let names = folder.names();
+        let left = names.iter().filter(|name| is_temporary(name)).count();
+        assert!(!ending.all_or_none || left == 0, "staged files were left behind: {names:?}");
     }
     assert_eq!(folder.run(&["move", "--all", "--force", "eight.config"]).code, Some(0));
     assert_eq!(placed(&folder, &files, &[]), COUNT);
@@ -125,6 +128,52 @@ fn an_interrupted_move_writes_all_or_none() {
 #[test]
 fn a_terminated_move_replaces_all_or_none() {
     ended_at_random("terminated", &by("TERM", true));
+}
+
+#[test]
+fn a_signal_that_waited_is_delivered() {
+    let folder = Folder::new("delivered");
+    folder.write("eight.config", eight("low tide").0);
+    let script = format!(
+        "'{}' move --all eight.config & kill -TERM $!; wait $!",
+        env!("CARGO_BIN_EXE_qewaris")
+    );
+    for _ in 0..20 {
+        let status = Command::new("bash")
+            .args(["-c", &script])
+            .current_dir(folder.path())
+            .status()
+            .unwrap();
+        let names = folder.names();
+        let whole = names.iter().filter(|name| name.ends_with(".psk")).count();
+        assert!(whole == 0 || whole == COUNT, "{names:?}");
+        assert!(!names.iter().any(|name| is_temporary(name)), "{names:?}");
+        assert!(
+            status.code() == Some(128 + 15) || whole == COUNT,
+            "it ends by the signal: {status:?}"
+        );
+        reset(&folder, &eight("low tide").1, false);
+    }
+}
+
+#[test]
+fn a_signal_that_is_ignored_changes_nothing() {
+    let folder = Folder::new("ignored");
+    folder.write("eight.config", eight("low tide").0);
+    let script = format!(
+        "trap '' HUP; '{}' move --all eight.config & for i in 1 2 3 4 5 6 7 8; do kill -HUP $!; done; wait $!",
+        env!("CARGO_BIN_EXE_qewaris")
+    );
+    for _ in 0..10 {
+        let output = Command::new("bash")
+            .args(["-c", &script])
+            .current_dir(folder.path())
+            .output()
+            .unwrap();
+        assert_eq!(output.status.code(), Some(0), "{output:?}");
+        assert_eq!(placed(&folder, &eight("low tide").1, &[]), COUNT);
+        reset(&folder, &eight("low tide").1, false);
+    }
 }
 
 #[test]

@@ -12,7 +12,7 @@ fn help_and_version_are_everywhere() {
             assert!(run.out.contains(&format!("qewaris {command}")), "{}", run.out);
         }
         for word in ["--version", "-V"] {
-            folder.run(&[command, word]).gives(0, "qewaris 0.1.0\n", "");
+            folder.run(&[command, word]).gives(0, "qewaris 0.2.0\n", "");
         }
     }
     for word in ["--help", "-h", "help"] {
@@ -20,7 +20,7 @@ fn help_and_version_are_everywhere() {
         assert_eq!((run.code, run.err.as_str()), (Some(0), ""));
         assert!(run.out.contains("qewaris explain [NUMBER|WORD]"));
     }
-    folder.run(&["--version"]).gives(0, "qewaris 0.1.0\n", "");
+    folder.run(&["--version"]).gives(0, "qewaris 0.2.0\n", "");
 }
 
 #[test]

@@ -17,12 +17,14 @@ pub fn reading(result: Result<Counts, Refusal>) -> raw::Reading {
             line: 0,
             settings: counts.settings,
             services: counts.services,
+            reserved: [0; 7],
         },
         Err(refusal) => raw::Reading {
             number: refusal.number(),
             line: refusal.line,
             settings: 0,
             services: 0,
+            reserved: [0; 7],
         },
     }
 }
@@ -35,18 +37,21 @@ pub fn text(result: Result<Option<&Text>, Refusal>) -> raw::Text {
             line: text.line,
             start: text.start,
             length: text.length,
+            reserved: [0; 7],
         },
         Ok(None) => raw::Text {
             number: 0,
             line: 0,
             start: 0,
             length: 0,
+            reserved: [0; 7],
         },
         Err(refusal) => raw::Text {
             number: refusal.number(),
             line: refusal.line,
             start: 0,
             length: 0,
+            reserved: [0; 7],
         },
     }
 }
@@ -59,12 +64,14 @@ pub fn written(result: &Result<Written, Refusal>) -> raw::Written {
             line: 0,
             name_len: written.name.len(),
             file_len: written.file.len(),
+            reserved: [0; 7],
         },
         Err(refusal) => raw::Written {
             number: refusal.number(),
             line: refusal.line,
             name_len: 0,
             file_len: 0,
+            reserved: [0; 7],
         },
     }
 }
@@ -76,11 +83,13 @@ pub fn record_answer(result: Result<Record, Refusal>) -> raw::RecordAnswer {
             number: 0,
             line: 0,
             record: lay_record(&record),
+            reserved: [0; 1],
         },
         Err(refusal) => raw::RecordAnswer {
             number: refusal.number(),
             line: refusal.line,
             record: raw::Record::ZERO,
+            reserved: [0; 1],
         },
     }
 }

@@ -37,10 +37,11 @@ pub fn iwd_settings(result: Result<&iwd::Settings, Refusal>) -> raw::IwdSettings
     raw::IwdSettings {
         line,
         number,
+        ipv6_enabled: flag_code(settings.ipv6_enabled),
         general: iwd_general(settings),
+        reserved: [0; 4],
         security: iwd_security(settings),
         ipv4: iwd_ipv4(settings),
-        ipv6_enabled: flag_code(settings.ipv6_enabled),
     }
 }
 
@@ -61,6 +62,7 @@ fn iwd_security(settings: &iwd::Settings) -> raw::IwdSecurity {
         passphrase_line: line_of(&settings.passphrase),
         has_pre_shared_key,
         pre_shared_key,
+        reserved: [0; 7],
     }
 }
 
@@ -80,6 +82,7 @@ fn iwd_ipv4(settings: &iwd::Settings) -> raw::IwdIpv4 {
         broadcast,
         netmask_length: settings.netmask_length.unwrap_or(0),
         send_hostname: flag_code(settings.send_hostname),
+        reserved: [0; 7],
     }
 }
 
@@ -91,6 +94,7 @@ pub fn service_settings(result: Result<&connman::Settings, Refusal>) -> raw::Ser
     raw::ServiceSettings {
         line,
         number,
+        reserved: [0; 7],
         network: service_network(settings),
         addresses: service_addresses(settings),
     }
@@ -106,6 +110,7 @@ fn service_network(settings: &connman::Settings) -> raw::ServiceNetwork {
         service_type: word_code(settings.service_type, &["wifi", "ethernet"]),
         security: word_code(settings.security, &["psk", "ieee8021x", "none", "wep"]),
         hidden: flag_code(settings.hidden),
+        reserved: [0; 5],
     }
 }
 
@@ -128,6 +133,7 @@ fn service_addresses(settings: &connman::Settings) -> raw::ServiceAddresses {
         privacy: word_code(settings.privacy, &["disabled", "enabled", "preferred"]),
         has_mac,
         mac,
+        reserved: [0; 4],
     }
 }
 

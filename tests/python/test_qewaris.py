@@ -1,0 +1,127 @@
+"""Drives python/qewaris.py on the examples and on document 01's worked move.
+
+    QEWARIS_LIB_DIR=folder of libqewaris.so.1 python3 tests/python/test_qewaris.py
+"""
+import doctest
+import pathlib
+import sys
+import unittest
+from ipaddress import IPv4Address
+
+ROOT = pathlib.Path(__file__).resolve().parent.parent.parent
+sys.path.insert(0, str(ROOT / "python"))
+import qewaris  # noqa: E402
+
+SHOP = (ROOT / "examples/good/shop.config").read_bytes()
+DESK = (
+    b"[Settings]\nHidden=true\n[Security]\nPassphrase=low\\\\tide 88\n[IPv4]\nAddress=10.20.0.14\nNetmask=255.255.255.0\n"
+    b"Gateway=10.20.0.1\nDNS=10.20.0.2 10.20.0.3\n[IPv6]\nEnabled=false\n"
+)
+RECORD = qewaris.JoinRecord(
+    name=b"Desk 4",
+    passphrase=b"low\\tide 88",
+    hidden=True,
+    ipv4=qewaris.StaticIpv4(IPv4Address("10.20.0.14"), 24, IPv4Address("10.20.0.1")),
+    name_servers=(IPv4Address("10.20.0.2"), IPv4Address("10.20.0.3")),
+    ipv6="off",
+)
+
+
+def refusal(function, *arguments):
+    try:
+        function(*arguments)
+    except qewaris.Refused as refused:
+        return refused.number, refused.line
+    return None
+
+
+class Examples(unittest.TestCase):
+    def test_each_is_answered_as_its_table_says(self):
+        """rust/command/tests/command/examples.txt has the number, the line and the file of each, and of some moves."""
+        table = (ROOT / "rust/command/tests/command/examples.txt").read_text(encoding="utf-8").splitlines()
+        rows = [row for row in table if row and not row.startswith("#")]
+        checks = [row for row in rows if not row.startswith("move ")]
+        files = [path for folder in ("good", "broken", "unmovable") for path in (ROOT / "examples" / folder).iterdir()]
+        self.assertEqual(len(checks), len(files))
+        for row in rows:
+            asked = qewaris.move_service if row.startswith("move ") else qewaris.check
+            number, line, name = row.removeprefix("move ").split(" ", 2)
+            path = ROOT / "examples" / name
+            expected = (int(number), int(line) or None) if number != "0" else None
+            self.assertEqual(refusal(asked, path.name, path.read_bytes()), expected, name)
+
+
+class WorkedMove(unittest.TestCase):
+    def test_it_is_what_document_01_prints(self):
+        self.assertEqual(qewaris.check("shop.config", SHOP), qewaris.Counts(settings=7, services=1))
+        self.assertEqual(qewaris.move_service("shop.config", SHOP, 1), qewaris.IwdFile(b"Desk 4.psk", DESK))
+
+    def test_both_records_are_equal_and_read_back(self):
+        self.assertEqual(qewaris.record("shop.config", SHOP, 1), RECORD)
+        self.assertEqual(qewaris.record(b"Desk 4.psk", DESK), RECORD)
+        self.assertEqual(qewaris.write_iwd(RECORD), qewaris.IwdFile(b"Desk 4.psk", DESK))
+
+    def test_a_key_is_kept(self):
+        record = qewaris.JoinRecord(name=b"Caf\xc3\xa9", key=bytes(range(32)), domain=b"shop.example")
+        written = qewaris.write_iwd(record)
+        self.assertEqual(written.name, b"=436166c3a9.psk")
+        self.assertEqual(qewaris.record(written.name, written.file), record)
+
+
+class Settings(unittest.TestCase):
+    def test_of_an_iwd_file(self):
+        settings = qewaris.iwd_settings("Desk 4.psk", DESK)
+        self.assertEqual((settings.hidden, settings.auto_connect, settings.ipv6_enabled), (True, None, False))
+        self.assertEqual((settings.netmask_length, settings.passphrase_line, settings.pre_shared_key), (24, 4, None))
+        self.assertEqual(settings.dns, (IPv4Address("10.20.0.2"), IPv4Address("10.20.0.3")))
+
+    def test_of_a_service(self):
+        file = b"[service_a]\nType = wifi\nSSID = 4465\nTimeservers = one,two\nIPv6.Privacy = prefered\nMAC = 02:00:5e:10:00:01\n"
+        settings = qewaris.service_settings("a.config", file, 1)
+        self.assertEqual((settings.service_type, settings.ssid, settings.security), ("wifi", b"De", None))
+        self.assertEqual((settings.timeservers, settings.search_domains), ((b"one", b"two"), ()))
+        self.assertEqual((settings.privacy, settings.mac, settings.ipv4), ("preferred", b"\x02\x00\x5e\x10\x00\x01", None))
+        self.assertEqual(qewaris.service_settings("shop.config", SHOP, 1).ipv4, RECORD.ipv4)
+
+    def test_strings_are_parts_of_the_file(self):
+        text = qewaris.string("shop.config", SHOP, "service_passphrase", 1)
+        self.assertEqual((text.line, text.value, SHOP[text.start :][:3]), (4, b"low\\tide 88", b"low"))
+        self.assertIsNone(qewaris.string("shop.config", SHOP, "service_domain", 1))
+        self.assertEqual(qewaris.string("Desk 4.psk", DESK, "iwd_passphrase").value, b"low\\\\tide 88")
+        self.assertEqual(qewaris.string("a.config", b"[global]\nName = a\n", "global_name").value, b"a")
+
+
+class Refusals(unittest.TestCase):
+    def test_a_refusal_has_its_number_line_and_sentence(self):
+        with self.assertRaises(qewaris.Refused) as caught:
+            qewaris.record("shop.config", b"[service_a]\nType = wifi\nPassphrase = lowtide\n", 1)
+        self.assertEqual((caught.exception.number, caught.exception.line), (12, 3))
+        self.assertEqual(str(caught.exception), "line 3: the value is not of its key's kind [12]")
+        self.assertEqual(refusal(qewaris.check, "Desk.psk", b""), (14, None))
+
+    def test_numbers_of_services_are_whole(self):
+        for service in (0, 2, -1, 1 << 64, (1 << 64) + 1):
+            self.assertEqual(refusal(qewaris.record, "shop.config", SHOP, service), (18, None), service)
+
+    def test_records_that_do_not_fit_are_malformed(self):
+        good = {"name": b"a"}
+        for wrong in (
+            {"name": b""}, {"name": b"a" * 33}, {"passphrase": b"a" * 64}, {"passphrase": b"a" * 7}, {"key": b"a" * 31},
+            {"passphrase": b"a" * 8, "key": b"a" * 32}, {"domain": b"a" * 254}, {"name_servers": (IPv4Address(0),) * 5},
+            {"ipv4": qewaris.StaticIpv4(IPv4Address(1), 33)}, {"ipv4": qewaris.StaticIpv4(IPv4Address(1), 256)},
+        ):
+            self.assertEqual(refusal(qewaris.write_iwd, qewaris.JoinRecord(**{**good, **wrong})), (19, None), wrong)
+
+    def test_no_secret_is_shown(self):
+        shown = [RECORD, qewaris.move_service("shop.config", SHOP, 1), qewaris.string("shop.config", SHOP, "service_passphrase", 1)]
+        self.assertNotIn("tide", repr(shown))
+
+
+class Module(unittest.TestCase):
+    def test_its_examples_and_its_version(self):
+        self.assertEqual(doctest.testmod(qewaris).failed, 0)
+        self.assertEqual(qewaris.library_version(), qewaris.VERSION)
+
+
+if __name__ == "__main__":
+    unittest.main()
