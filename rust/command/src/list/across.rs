@@ -17,6 +17,21 @@ pub struct Across {
     pub files: Vec<PathBuf>,
 }
 
+impl Across {
+    /// A folder without a network file.
+    pub fn empty(path: PathBuf) -> Across {
+        let sentence = format!("{}: {}", shown_path(&path), Word::EmptyFolder.row().sentence);
+        Across {
+            warning: Warning {
+                sentence,
+                ..Warning::new(Word::EmptyFolder, None, &[])
+            },
+            network: None,
+            files: vec![path],
+        }
+    }
+}
+
 /// All findings, network by network.
 pub fn across(rows: &[Row]) -> Vec<Across> {
     let mut networks: BTreeMap<&[u8], Vec<&Row>> = BTreeMap::new();

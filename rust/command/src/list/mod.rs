@@ -12,7 +12,6 @@ use crate::output::Output;
 use crate::placing::{may_place, place, Failure, NewFile};
 use crate::report::shown_path;
 use crate::walk;
-use crate::warnings::{Warning, Word};
 use crate::Outcome;
 use across::{across, Across};
 use rows::{Rank, Row};
@@ -29,6 +28,16 @@ pub struct Listed {
 }
 
 impl Listed {
+    /// The rows in their order, those that several files warn of together among the others with a warning.
+    fn of(mut rows: Vec<Row>, across: Vec<Across>, tally: Tally) -> Listed {
+        for found in &across {
+            let named = rows.iter_mut().filter(|row| found.files.contains(&row.path));
+            named.for_each(|row| rows::warn(row, found.warning.word));
+        }
+        rows::sort(&mut rows);
+        Listed { rows, across, tally }
+    }
+
     /// How many rows there are of each rank that there is.
     fn ranks(&self) -> Vec<(Rank, usize)> {
         let count = |rank: Rank| self.rows.iter().filter(|row| row.rank == rank).count();
@@ -81,30 +90,14 @@ fn gathered(request: &List, output: &mut Output) -> io::Result<Listed> {
             Item::Empty(path, sentence) => {
                 tally.lose(&path);
                 output.error(&sentence)?;
-                empty.push(Across {
-                    warning: Warning {
-                        sentence: format!("{}: {}", shown_path(&path), Word::EmptyFolder.row().sentence),
-                        ..Warning::new(Word::EmptyFolder, None, &[])
-                    },
-                    network: None,
-                    files: vec![path],
-                });
+                empty.push(Across::empty(path));
             }
         }
     }
     if is_told {
         empty.extend(across(&found));
     }
-    for across in &empty {
-        let named = found.iter_mut().filter(|row| across.files.contains(&row.path));
-        named.for_each(|row| rows::warn(row, across.warning.word));
-    }
-    rows::sort(&mut found);
-    Ok(Listed {
-        rows: found,
-        across: empty,
-        tally,
-    })
+    Ok(Listed::of(found, empty, tally))
 }
 
 /// Writes the page, which only its owner can read, and never over a file unless that is asked for.

@@ -12,7 +12,7 @@ use crate::report::print_warning;
 use crate::walk::{self, Found, Reason};
 use crate::warnings::{Warning, Word};
 use crate::Outcome;
-use plan::{Plan, Stop};
+use plan::Plan;
 use std::io;
 use std::os::unix::ffi::OsStrExt;
 
@@ -25,7 +25,7 @@ pub fn run(request: &Move, output: &mut Output) -> io::Result<Outcome> {
     for found in sources(request) {
         match Item::of(found, "move") {
             Item::Read(input) => {
-                if let Err(Stop::Usage(sentence)) = plan.add(request, &input, &mut tally, output)? {
+                if let Some(sentence) = plan.add(request, &input, &mut tally, output)? {
                     output.error(&sentence)?;
                     return Ok(Outcome::Usage);
                 }

@@ -21,7 +21,7 @@ use std::io;
 use std::os::unix::ffi::OsStrExt;
 use std::path::{Path, PathBuf};
 
-/// A service that moves, or that is left out.
+/// A service that moves.
 pub struct Moved {
     pub path: PathBuf,
     pub number: usize,
@@ -43,6 +43,34 @@ pub struct Staying {
     pub refusals: Vec<Finding>,
 }
 
+impl Moved {
+    /// A service by its number, group and line, with those of the file's warnings that are about it.
+    fn of(input: &Input, (number, group, line): (usize, String, usize), iwd: IwdFile, warnings: &[Warning]) -> Moved {
+        let own = warnings.iter().filter(|warning| warning.service == Some(number));
+        Moved {
+            path: input.path.clone(),
+            number,
+            group,
+            line,
+            iwd,
+            secrets: crate::secrets::secrets_of(&input.bytes),
+            warnings: own.cloned().collect(),
+        }
+    }
+}
+
+impl Staying {
+    fn of(input: &Input, (number, group, line): (usize, String, usize), refusals: Vec<Finding>) -> Staying {
+        Staying {
+            path: input.path.clone(),
+            number,
+            group,
+            line,
+            refusals,
+        }
+    }
+}
+
 #[derive(Default)]
 pub struct Plan {
     pub moved: Vec<Moved>,
@@ -55,15 +83,10 @@ pub struct Plan {
     sources: usize,
 }
 
-/// Why a file is not gone on with.
-pub enum Stop {
-    /// The command was not used as it is meant.
-    Usage(String),
-}
-
 impl Plan {
-    /// Adds the services of a file that are asked for; tells what is refused.
-    pub fn add(&mut self, request: &Move, input: &Input, tally: &mut Tally, output: &mut Output) -> io::Result<Result<(), Stop>> {
+    /// Adds the services of a file that are asked for, and tells what is refused. A sentence is given where the command was not used as
+    /// it is meant.
+    pub fn add(&mut self, request: &Move, input: &Input, tally: &mut Tally, output: &mut Output) -> io::Result<Option<String>> {
         let count = match check_connman(&input.name, &input.bytes) {
             Ok(counts) => counts.services,
             Err(refusal) => {
@@ -75,15 +98,17 @@ impl Plan {
                 tally.refuse(&input.path);
                 if request.json {
                     let state = State::Refused(&found, advice(input, &found));
-                    return output.line(&forms::file("move", &input.path, &state, &[]).to_string()).map(Ok);
+                    return output
+                        .line(&forms::file("move", &input.path, &state, &[]).to_string())
+                        .map(|()| None);
                 }
-                return print_refused(output, input, &found).map(Ok);
+                return print_refused(output, input, &found).map(|()| None);
             }
         };
         let Some(numbers) = numbers(&request.services, count) else {
             let found = format!("{} has {count} services", shown_path(&input.path));
             let sentence = format!("{found}; --service N or --all says which are to move. Try qewaris move --help");
-            return Ok(Err(Stop::Usage(sentence)));
+            return Ok(Some(sentence));
         };
         self.sources += 1;
         let warnings = found_in(input);
@@ -99,57 +124,36 @@ impl Plan {
         } else {
             tally.good += 1;
         }
-        Ok(Ok(()))
+        Ok(None)
     }
 
     fn add_service(&mut self, request: &Move, input: &Input, number: &Number, warnings: &[Warning], output: &mut Output) -> io::Result<()> {
-        let staying = |service: Option<&Service>, refusals: Vec<Finding>| Staying {
-            path: input.path.clone(),
-            number: number.value,
-            group: service.map_or(String::new(), |service| service.group.clone()),
-            line: service.map_or(0, |service| service.line),
-            refusals,
-        };
         let service = match Service::of(input, number.value) {
             Ok(service) => service,
             Err(refusal) => {
-                self.refused.push(staying(None, vec![of_service(input, Some(number), &refusal)]));
+                let refusals = vec![of_service(input, Some(number), &refusal)];
+                self.refused.push(Staying::of(input, (number.value, String::new(), 0), refusals));
                 return tell(request, self.refused.last(), "error:", output);
             }
         };
-        let refusals = match service.moved {
+        let about = (service.number, service.group, service.line);
+        match service.moved {
             Ok(iwd) => {
-                let own: Vec<Warning> = warnings
-                    .iter()
-                    .filter(|warning| warning.service == Some(service.number))
-                    .cloned()
-                    .collect();
-                self.warnings
-                    .extend(own.iter().map(|warning| (input.path.clone(), warning.clone())));
-                self.moved.push(Moved {
-                    path: input.path.clone(),
-                    number: service.number,
-                    group: service.group,
-                    line: service.line,
-                    iwd,
-                    secrets: crate::secrets::secrets_of(&input.bytes),
-                    warnings: own,
-                });
-                return Ok(());
+                let moved = Moved::of(input, about, iwd, warnings);
+                let own = moved.warnings.iter().map(|warning| (input.path.clone(), warning.clone()));
+                self.warnings.extend(own);
+                self.moved.push(moved);
+                Ok(())
             }
-            Err(refusals) => refusals,
-        };
-        let service = Service {
-            moved: Err(Vec::new()),
-            ..service
-        };
-        let found = staying(Some(&service), refusals);
-        if request.skip_unplaced {
-            self.left_out.push(found);
-            return tell(request, self.left_out.last(), "left out:", output);
+            Err(refusals) if request.skip_unplaced => {
+                self.left_out.push(Staying::of(input, about, refusals));
+                tell(request, self.left_out.last(), "left out:", output)
+            }
+            Err(refusals) => {
+                self.refused.push(Staying::of(input, about, refusals));
+                tell(request, self.refused.last(), "error:", output)
+            }
         }
-        self.refused.push(found);
-        tell(request, self.refused.last(), "error:", output)
     }
 
     /// Whether two services have one file name; tells which.

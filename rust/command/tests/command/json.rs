@@ -41,6 +41,35 @@ const SCHEMA: &[(&str, &str)] = &[
     ("explanation", "command format meaning number remedy source title type word"),
 ];
 
+/// Runs that print objects of every type.
+const RUNS: [&[&str]; 8] = [
+    &["check", "--json", "a", "empty", "gone.psk"],
+    &["show", "--json", "a", "empty", "gone.psk"],
+    &["list", "--json", "a", "empty", "gone.psk"],
+    &["move", "--json", "a", "gone.config", "--to", "out"],
+    &[
+        "move",
+        "--json",
+        "--skip-unplaced",
+        "--dry-run",
+        "a/silent.config",
+        "a/stays.config",
+        "--to",
+        "a",
+    ],
+    &[
+        "move",
+        "--json",
+        "--skip-unplaced",
+        "a/silent.config",
+        "a/stays.config",
+        "--to",
+        "out",
+    ],
+    &["explain", "--json"],
+    &["explain", "--json", "open-by-silence"],
+];
+
 /// A folder with a file of each state.
 fn mixed() -> Folder {
     let folder = Folder::new("json-all");
@@ -58,35 +87,8 @@ fn mixed() -> Folder {
 #[test]
 fn every_object_has_every_member_of_its_type() {
     let folder = mixed();
-    let runs: [&[&str]; 8] = [
-        &["check", "--json", "a", "empty", "gone.psk"],
-        &["show", "--json", "a", "empty", "gone.psk"],
-        &["list", "--json", "a", "empty", "gone.psk"],
-        &["move", "--json", "a", "gone.config", "--to", "out"],
-        &[
-            "move",
-            "--json",
-            "--skip-unplaced",
-            "--dry-run",
-            "a/silent.config",
-            "a/stays.config",
-            "--to",
-            "a",
-        ],
-        &[
-            "move",
-            "--json",
-            "--skip-unplaced",
-            "a/silent.config",
-            "a/stays.config",
-            "--to",
-            "out",
-        ],
-        &["explain", "--json"],
-        &["explain", "--json", "open-by-silence"],
-    ];
     let mut seen = Vec::new();
-    for arguments in runs {
+    for arguments in RUNS {
         let run = folder.run(arguments);
         let all = objects(&run);
         assert!(!all.is_empty(), "{arguments:?}: {}", run.err);

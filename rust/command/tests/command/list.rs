@@ -33,7 +33,8 @@ fn the_worst_stand_first_and_each_says_what_to_do() {
     folder.write("a/silent.config", "[service_a]\nType = wifi\nName = Silent\n");
     let run = folder.run(&["list", "a", "gone.psk"]);
     assert_eq!(run.code, Some(2));
-    let rows: Vec<&str> = run.out.lines().skip_while(|line| !line.starts_with("STATE")).skip(1).collect();
+    let behind = run.out.lines().skip_while(|line| !line.starts_with("STATE")).skip(1);
+    let rows: Vec<&str> = behind.take_while(|line| !line.is_empty()).collect();
     let starts = [
         "OPEN by silence  a/silent.config",
         "refused          a/bad.psk",
@@ -56,6 +57,9 @@ fn the_worst_stand_first_and_each_says_what_to_do() {
     assert!(run
         .out
         .contains("6 rows: 1 OPEN by silence, 1 refused, 1 unreadable, 1 with a warning, 1 not to be moved, 1 good\n"));
+    let warning =
+        "\na/quotes.psk:2: warning: Passphrase stands in quotation marks, which count as a part of it; a value needs none [quoted-value]\n";
+    assert!(run.out.contains(warning), "{}", run.out);
     assert_eq!(folder.run(&["list", "a/a good.psk"]).code, Some(0));
     assert_eq!(folder.run(&["list", "a/quotes.psk"]).code, Some(0));
     assert_eq!(folder.run(&["list", "--strict", "a/quotes.psk"]).code, Some(1));

@@ -47,6 +47,26 @@ fn each_move_is_told_with_its_sentence() {
 }
 
 #[test]
+fn the_first_of_the_lines_in_the_way_is_the_librarys() {
+    let found = |file: &[u8], service: usize| -> Vec<Option<usize>> {
+        let lines = unplaced_lines(&Subject::new(b"a.config", file), service);
+        lines.iter().map(|line| line.line).collect()
+    };
+    for (_, name, file, service, _) in MOVES {
+        let refusal = crate::move_service(name.as_bytes(), file, *service).expect_err("it cannot move");
+        let first = found(file, *service).first().copied();
+        assert_eq!(first, Some(refusal.line()).filter(|_| refusal.number() == 16), "{name}");
+    }
+    let all =
+        b"[service_a]\nType = ethernet\nIPv4 = off\nMAC = 02:00:5e:10:00:01\nIPv6.Privacy = enabled\nSearchDomains = a\nTimeservers = b\n";
+    assert_eq!(found(all, 1), (2..=7).map(Some).collect::<Vec<Option<usize>>>());
+    let wireless = b"[service_a]\nType = wifi\nName = a\nSecurity = wep\nIPv4 = 10.0.0.2/255.0.0.0\n[service_b]\nType = wifi\nName = b\n\
+                     IPv4 = 10.0.0.2/24/10.0.0.1\nSecurity = none\n";
+    assert_eq!((found(wireless, 1), found(wireless, 2)), (vec![Some(4), Some(5)], Vec::new()));
+    assert_eq!((found(wireless, 0), found(wireless, 3)), (Vec::new(), Vec::new()));
+}
+
+#[test]
 fn every_sentence_is_earned() {
     let moves = MOVES.iter().map(|case| case.0);
     let earned: Vec<Message> = checks().map(|case| case.0).chain(moves).collect();
