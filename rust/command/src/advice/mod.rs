@@ -49,10 +49,9 @@ fn key(input: &Input, number: usize, line: &[u8]) -> Option<String> {
     let Form::Setting { key, .. } = layout::form(dialect, line) else {
         return None;
     };
-    let headers = layout::sections(dialect, &input.bytes)
-        .into_iter()
-        .filter(|section| section.line < number);
-    let keys = keys_of(dialect, headers.last()?.name)?;
+    let sections = layout::sections(dialect, &input.bytes);
+    let section = sections.iter().rev().find(|section| section.line < number)?;
+    let keys = keys_of(dialect, section.name)?;
     let meant = nearest(&line[key], keys.iter().map(|(name, _)| *name))?;
     Some(format!("Did you mean {meant}?"))
 }

@@ -38,7 +38,9 @@ fn about(name: &[u8], file: &[u8], number: usize, section: &Section<'_>, end: us
             let group = ("group", visible(section.name));
             found.push(Warning::new(Word::OpenBySilence, Some(section.line), &[group]));
         }
-        found.extend(values::commented_out(Dialect::Connman, file, section.line..end));
+        // What stands above the first service is taken for its own.
+        let start = if number == 1 { 0 } else { section.line };
+        found.extend(values::commented_out(Dialect::Connman, file, start..end));
     }
     if let Some(passphrase) = section.setting("Passphrase") {
         let line = layout::line(file, passphrase.line).unwrap_or_default();

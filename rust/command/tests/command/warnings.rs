@@ -72,6 +72,11 @@ fn cases() -> Vec<Case> {
             format!("{TILL}[service_b]\nType = wifi\nName = Left\nSecurity = none\n#Passphrase=low tide 88\n"),
             &["9: warning: The line is a Passphrase that is commented out, and the network is without a key; take the # away if it has one [commented-out-passphrase]"],
         ),
+        case(
+            "a.config",
+            "## passphrase=low tide 88\n[service_a]\nType = wifi\nName = Desk\nSecurity = none\n",
+            &["1: warning: The line is a Passphrase that is commented out, and the network is without a key; take the # away if it has one [commented-out-passphrase]"],
+        ),
         case("a.config", format!("{TILL}# Passphrase = low tide 88\n# Hidden = true\n"), &[]),
         case(
             "Desk.psk",
