@@ -6,6 +6,10 @@ use crate::common::{Folder, Random, Run};
 /// How many files are made; `QEWARIS_TEST_SEED` gives other ones.
 const COUNT: usize = 400;
 
+fn seed() -> u64 {
+    std::env::var("QEWARIS_TEST_SEED").map_or(20_251_116, |seed| seed.parse().unwrap())
+}
+
 #[track_caller]
 fn has_no_secret(run: &Run, of: &Generated, what: &str) {
     for text in [&run.out, &run.err] {
@@ -26,8 +30,7 @@ fn has_no_secret(run: &Run, of: &Generated, what: &str) {
 #[test]
 fn no_output_shows_a_secret() {
     let folder = Folder::new("secrets");
-    let seed = std::env::var("QEWARIS_TEST_SEED").map_or(20_251_116, |seed| seed.parse().unwrap());
-    let mut random = Random(seed);
+    let mut random = Random(seed());
     let mut answers = [0; 4];
     for number in 0..COUNT {
         let made = generated(&mut random, number);
@@ -86,7 +89,7 @@ fn told_without_lengths(folder: &Folder, name: &str) -> Vec<String> {
 #[test]
 fn no_length_of_a_secret_is_told() {
     let folder = Folder::new("lengths");
-    let mut random = Random(17);
+    let mut random = Random(seed() + 1);
     let mut compared = [0; 2];
     for number in 0..COUNT / 2 {
         let made = generated(&mut random, number);
