@@ -1,10 +1,10 @@
 // Cases of whole files, checked and moved: reads a table, and writes each line again with its answer behind it.
 //
-// A case is what document 01's programs read, with `|` for the end of a line: a file name and the file, or the digit of a
-// service and the file, which is shop.config then. A line without `|` is no case. Behind a case come ` = ` and the answer:
-// `accepted` with the numbers of settings and services, the new name and the new file as the moving program writes them, or
-// `refused` with the number and the line. The expected side, the file stdout, is written by hand from document 01 and
-// docs/DECISIONS.md.
+// A case is what document 01's programs read, with `|` for the end of a line: a file name and the file, or one digit
+// for the service and the file, which is shop.config then. A line without `|` is no case. Behind a case come ` = ` and
+// the answer: `accepted` with the numbers of settings and services, the new name and the new file as the moving program
+// writes them, or `refused` with the number and the line. The expected side, the file stdout, is written by hand from
+// document 01 and docs/DECISIONS.md.
 ghost use Prim.Native.Nat.{_≤_};
 ghost use lib.ListN.{length};
 use libc::STDOUT_FILENO;
@@ -71,7 +71,7 @@ fn move_service(file: &[u8], service: usize) {
     }
 }
 
-// The answer to the input of a program, which is the moving one where the first line is a digit.
+// The answer to the input of a program: the moving one where the first line has one byte, which is no file name.
 fn answer(input: &[u8]) {
     let end = text::scan::line_end(input, 0);
     if end == input.len() {
