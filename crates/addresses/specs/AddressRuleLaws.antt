@@ -29,7 +29,8 @@ value-is v (c ∷ s) {n} e = go (isDigit c) refl (λ k. value-is (v * 10 + (c - 
     Is : Bool → Type 0
     Is b = (b && all isDigit s ≡ true) × (decimalFrom (v * 10 + (c - 48)) s ≡ n)
 
-    go : (b : Bool) → isDigit c ≡ b → (value (v * 10 + (c - 48)) s ≡ some n → Is true) → cond b (value (v * 10 + (c - 48)) s) none ≡ some n → Is (isDigit c)
+    go : (b : Bool) → isDigit c ≡ b → (value (v * 10 + (c - 48)) s ≡ some n → Is true) →
+        cond b (value (v * 10 + (c - 48)) s) none ≡ some n → Is (isDigit c)
     go true q f e = rw q (f e)
     go false q f e = absurd (Option·none-ne-some n e)
 
@@ -59,7 +60,8 @@ number-is m (c ∷ s) {n} e = go (eqb c 48) refl e
         let d : (c ≡ 48 → ⊥) = eqb-false c 48 q in
         record { written = λ t. let z : _≡_ {A = ℕ} 0 1 = cc in omega arith; digits = k .0; no-leading-zero = λ t j. absurd (d (cc)); is = k .1 ∙ x; most = omega arith }
 
-    go : (b : Bool) → eqb c 48 ≡ b → cond b (only (empty s) (some 0)) (upTo m (value 0 (c ∷ s))) ≡ some n → NumberIs m (c ∷ s) n
+    go : (b : Bool) → eqb c 48 ≡ b → cond b (only (empty s) (some 0)) (upTo m (value 0 (c ∷ s))) ≡ some n →
+        NumberIs m (c ∷ s) n
     go true q e = let x : c ≡ 48 = eqb-true c 48 q in rw x (zero-is m s e)
     go false q e = other-digit q (value 0 (c ∷ s)) refl e
 

@@ -26,7 +26,9 @@ address-length a e =
     ap length (Option·some-injective a (k .0) (s .1)) ∙ omega (arith, s .0)
 
 -- what holds of each four bytes holds of an address
-pub address-elim : (P : List ℕ → Type 0) → ((x y z w : ℕ) → x < 256 → y < 256 → z < 256 → w < 256 → P (x ∷ y ∷ z ∷ w ∷ [])) → (a : List ℕ) → isAddress a ≡ true → P a
+pub address-elim : (P : List ℕ → Type 0) →
+    ((x y z w : ℕ) → x < 256 → y < 256 → z < 256 → w < 256 → P (x ∷ y ∷ z ∷ w ∷ [])) → (a : List ℕ) →
+    isAddress a ≡ true → P a
 address-elim P f a e = go a (address-length a e) (and-true (isSome (sized 4 4 (some a))) _ e .1)
   where
     small : (x : ℕ) → between 0 255 x ≡ true → x < 256
@@ -44,7 +46,8 @@ address-elim P f a e = go a (address-length a e) (and-true (isSome (sized 4 4 (s
         let d = all-cons (between 0 255) z (w ∷ []) (c .1) in
         f x y z w (small x (b .0)) (small y (c .0)) (small z (d .0)) (small w (all-cons (between 0 255) w [] (d .1) .0))
 
-pub are-cons : (a : List ℕ) (l : List (List ℕ)) → areAddresses (a ∷ l) ≡ true → (isAddress a ≡ true) × (areAddresses l ≡ true)
+pub are-cons : (a : List ℕ) (l : List (List ℕ)) → areAddresses (a ∷ l) ≡ true →
+    (isAddress a ≡ true) × (areAddresses l ≡ true)
 are-cons a l h = and-true (isAddress a) (areAddresses l) h
 
 -- ---- readings
@@ -94,7 +97,8 @@ pub address-bytes : (s : List ℕ) {a : List ℕ} → address s ≡ some a → i
 address-bytes s e = holds-some (λ a. isAddress a ≡ true) (address-is s) e
 
 -- what is read as a list is one to four of them
-pub addresses-bytes : (sep : Separator) (s : List ℕ) {l : List (List ℕ)} → addresses sep s ≡ some l → (between 1 4 (length l) ≡ true) × (areAddresses l ≡ true)
+pub addresses-bytes : (sep : Separator) (s : List ℕ) {l : List (List ℕ)} → addresses sep s ≡ some l →
+    (between 1 4 (length l) ≡ true) × (areAddresses l ≡ true)
 unfolding addresses
 addresses-bytes sep s e =
     holds-some (λ l. (between 1 4 (length l) ≡ true) × (areAddresses l ≡ true))

@@ -34,17 +34,20 @@ byte-number : (b : ℕ) → b < 256 → binaryFrom 0 (bitsOf b) ≡ b
 unfolding byte-right
 byte-number b h = eqb-true (binaryFrom 0 (bitsOf b)) b (below-at byte-right 256 each-byte b h)
 
-eight-bits : (n a b c d e f g h : ℕ) → binaryFrom n (a ∷ b ∷ c ∷ d ∷ e ∷ f ∷ g ∷ h ∷ []) ≡ n * 256 + binaryFrom 0 (a ∷ b ∷ c ∷ d ∷ e ∷ f ∷ g ∷ h ∷ [])
+eight-bits : (n a b c d e f g h : ℕ) →
+    binaryFrom n (a ∷ b ∷ c ∷ d ∷ e ∷ f ∷ g ∷ h ∷ []) ≡ n * 256 + binaryFrom 0 (a ∷ b ∷ c ∷ d ∷ e ∷ f ∷ g ∷ h ∷ [])
 eight-bits n a b c d e f g h = omega arith
 
 byte-bits : (n b : ℕ) (s : List ℕ) → b < 256 → binaryFrom n (bitsOf b ++ s) ≡ binaryFrom (n * 256 + b) s
-byte-bits n b s h = ap (λ (x : ℕ). binaryFrom x s) (eight-bits n _ _ _ _ _ _ _ _ ∙ ap (λ (x : ℕ). n * 256 + x) (byte-number b h))
+byte-bits n b s h =
+    ap (λ (x : ℕ). binaryFrom x s) (eight-bits n _ _ _ _ _ _ _ _ ∙ ap (λ (x : ℕ). n * 256 + x) (byte-number b h))
 
 -- four bytes are the number of their bits
 bits-number : (a : List ℕ) → isAddress a ≡ true → binaryFrom 0 (bits a) ≡ asNumber a
 bits-number = address-elim (λ a. binaryFrom 0 (bits a) ≡ asNumber a) four
   where
-    four : (x y z w : ℕ) → x < 256 → y < 256 → z < 256 → w < 256 → binaryFrom 0 (bits (x ∷ y ∷ z ∷ w ∷ [])) ≡ asNumber (x ∷ y ∷ z ∷ w ∷ [])
+    four : (x y z w : ℕ) → x < 256 → y < 256 → z < 256 → w < 256 →
+        binaryFrom 0 (bits (x ∷ y ∷ z ∷ w ∷ [])) ≡ asNumber (x ∷ y ∷ z ∷ w ∷ [])
     four x y z w hx hy hz hw =
         let e : (((0 * 256 + x) * 256 + y) * 256 + z) * 256 + w ≡ ((x * 256 + y) * 256 + z) * 256 + w = omega arith in
         byte-bits 0 x (bits (y ∷ z ∷ w ∷ [])) hx
@@ -73,7 +76,8 @@ unfolding bits-right
 mask-bits n h = same-eq (bits (maskBytes n)) (ones n) (below-at bits-right 33 each-bits n (omega arith))
 
 -- bytes that begin with n ones and go on with zeros have the number of the mask of length n
-ones-number : (a : List ℕ) (n z : ℕ) → isAddress a ≡ true → bits a ≡ replicate n 1 ++ replicate z 0 → (n ≤ 32) × (asNumber a ≡ asNumber (maskBytes n))
+ones-number : (a : List ℕ) (n z : ℕ) → isAddress a ≡ true → bits a ≡ replicate n 1 ++ replicate z 0 →
+    (n ≤ 32) × (asNumber a ≡ asNumber (maskBytes n))
 ones-number a n z h e =
     let l : 32 ≡ n + z = sym (bits-length a h) ∙ ap length e ∙ length-append (replicate n 1) (replicate z 0) ∙ rw (length-replicate n, length-replicate z) in
     let k : n ≤ 32 = omega arith in
@@ -82,7 +86,8 @@ ones-number a n z h e =
     (k, sym (bits-number a h) ∙ ap (binaryFrom 0) (j ∙ sym (mask-bits n k)) ∙ bits-number (maskBytes n) (mask-address n k))
 
 -- bytes of that number are the mask's
-number-bytes : (m x y z w : ℕ) → x < 256 → y < 256 → z < 256 → w < 256 → ((x * 256 + y) * 256 + z) * 256 + w ≡ m → x ∷ y ∷ z ∷ w ∷ [] ≡ m / 16777216 ∷ m / 65536 % 256 ∷ m / 256 % 256 ∷ m % 256 ∷ []
+number-bytes : (m x y z w : ℕ) → x < 256 → y < 256 → z < 256 → w < 256 → ((x * 256 + y) * 256 + z) * 256 + w ≡ m →
+    x ∷ y ∷ z ∷ w ∷ [] ≡ m / 16777216 ∷ m / 65536 % 256 ∷ m / 256 % 256 ∷ m % 256 ∷ []
 number-bytes m x y z w hx hy hz hw e =
     let a : x ≡ m / 16777216 = omega arith in
     let b : y ≡ m / 65536 % 256 = omega arith in
@@ -92,7 +97,8 @@ number-bytes m x y z w hx hy hz hw e =
 
 number-mask : (n : ℕ) (a : List ℕ) → isAddress a ≡ true → asNumber a ≡ mask n → a ≡ maskBytes n
 unfolding maskBytes
-number-mask n = address-elim (λ a. asNumber a ≡ mask n → a ≡ maskBytes n) (λ x y z w hx hy hz hw e. number-bytes (mask n) x y z w hx hy hz hw e)
+number-mask n =
+    address-elim (λ a. asNumber a ≡ mask n → a ≡ maskBytes n) (λ x y z w hx hy hz hw e. number-bytes (mask n) x y z w hx hy hz hw e)
 
 -- ---- the reading
 
@@ -101,8 +107,11 @@ unfolding lengthUpTo
 length-mask zero m {n} e = absurd (Option·none-ne-some n e)
 length-mask (suc k) m {n} e = go (eqb m (mask (suc k))) refl (λ w. length-mask k m w) e
   where
-    go : (b : Bool) → eqb m (mask (suc k)) ≡ b → (lengthUpTo k m ≡ some n → (1 ≤ n) × (n ≤ k) × (m ≡ mask n)) → cond b (some (suc k)) (lengthUpTo k m) ≡ some n → (1 ≤ n) × (n ≤ suc k) × (m ≡ mask n)
-    go true q f e = let x : suc k ≡ n = Option·some-injective (suc k) n e in (omega arith, omega arith, eqb-true m (mask (suc k)) q ∙ ap mask x)
+    go : (b : Bool) → eqb m (mask (suc k)) ≡ b → (lengthUpTo k m ≡ some n → (1 ≤ n) × (n ≤ k) × (m ≡ mask n)) →
+        cond b (some (suc k)) (lengthUpTo k m) ≡ some n → (1 ≤ n) × (n ≤ suc k) × (m ≡ mask n)
+    go true q f e =
+        let x : suc k ≡ n = Option·some-injective (suc k) n e in
+        (omega arith, omega arith, eqb-true m (mask (suc k)) q ∙ ap mask x)
     go false q f e = let w = f e in let a = w .1 in (w .0, omega arith, w .2)
 
 pub netmask-is : (v : List ℕ) {n : ℕ} → netmask v ≡ some n → MaskIs v n

@@ -29,7 +29,8 @@ pieces-spaces zero s = refl
 pieces-spaces (suc n) s = pieces-spaces n s
 
 -- behind spaces a text has the same parts as `spaced` gives of it
-spaced-parts : {v : List ℕ} {ps : List (List ℕ)} → Spaced v ps → (spaced (pieces 32 v) ≡ ps) × (nonEmpty (pieces 32 v) ≡ ps)
+spaced-parts : {v : List ℕ} {ps : List (List ℕ)} → Spaced v ps →
+    (spaced (pieces 32 v) ≡ ps) × (nonEmpty (pieces 32 v) ≡ ps)
 spaced-parts (last {p} h zero) =
     let e = pieces-last 32 p (h .unspaced) in
     rw (append-nil p, e, some-part p h) (refl, refl)
@@ -76,7 +77,8 @@ pieces-rest (P.next {p} {rest} {ps} h k) = go p h (pieces-rest k)
     go [] h r = space-rest r
     go (x ∷ p) h r = parts 0 (part-rest (x ∷ p) (a-part x p h) r)
 
-pieces-spaced : {v : List ℕ} {ps : List (List ℕ)} → Pieces 32 v ps → Each (λ p. ¬ (p ≡ [])) (spaced ps) → Spaced v (spaced ps)
+pieces-spaced : {v : List ℕ} {ps : List (List ℕ)} → Pieces 32 v ps → Each (λ p. ¬ (p ≡ [])) (spaced ps) →
+    Spaced v (spaced ps)
 pieces-spaced (P.last {p} h) w = alone p (record { written = w .0; unspaced = h })
 pieces-spaced (P.next {p} h k) w = part-rest p (record { written = w .0; unspaced = h }) (pieces-rest k)
 

@@ -45,7 +45,8 @@ decimal-digits n h = and-true (is (octet (decimal n)) n) _ (below-at decimal-rig
 -- ---- an address
 
 decimal-undotted : (n : ℕ) → n < 256 → all (other 46) (decimal n) ≡ true
-decimal-undotted n h = all-weaken isDigit (other 46) (λ x e. is-other x 46 (λ k. omega (arith, k, between-low {x = x} 48 57 e))) (decimal n) (decimal-digits n h)
+decimal-undotted n h =
+    all-weaken isDigit (other 46) (λ x e. is-other x 46 (λ k. omega (arith, k, between-low {x = x} 48 57 e))) (decimal n) (decimal-digits n h)
 
 regroup : (a b c d : List ℕ) → a ++ (46 ∷ b) ++ (46 ∷ c) ++ d ≡ a ++ (46 ∷ (b ++ (46 ∷ (c ++ d))))
 regroup a b c d = simp append-assoc
@@ -74,7 +75,8 @@ module _ (a b c d : ℕ) (ha : a < 256) (hb : b < 256) (hc : c < 256) (hd : d < 
       (wide d hd)
     where
       wide : (n : ℕ) → n < 256 → all (between 46 57) (decimal n) ≡ true
-      wide n h = all-weaken isDigit (between 46 57) (λ x e. inside {x = x} 46 57 (omega (arith, between-low {x = x} 48 57 e)) (between-high {x = x} 48 57 e)) (decimal n) (decimal-digits n h)
+      wide n h =
+          all-weaken isDigit (between 46 57) (λ x e. inside {x = x} 46 57 (omega (arith, between-low {x = x} 48 57 e)) (between-high {x = x} 48 57 e)) (decimal n) (decimal-digits n h)
 
 -- an address reads back, and is of digits and dots (and 47, `/`, which stands between)
 pub address-dotted : (a : List ℕ) → isAddress a ≡ true → address (dotted a) ≡ some a
@@ -125,13 +127,15 @@ dotted-some a h = go (dotted a) (address-dotted a h)
 
 module _ (sep : Separator) where
   dotted-apart : (a : List ℕ) → isAddress a ≡ true → all (other (separator sep)) (dotted a) ≡ true
-  dotted-apart a h = all-weaken (between 46 57) (other (separator sep)) (λ x e. is-other x (separator sep) (λ k. omega (arith, k, between-low {x = x} 46 57 e, low sep))) (dotted a) (dotted-bytes a h)
+  dotted-apart a h =
+      all-weaken (between 46 57) (other (separator sep)) (λ x e. is-other x (separator sep) (λ k. omega (arith, k, between-low {x = x} 46 57 e, low sep))) (dotted a) (dotted-bytes a h)
     where
       low : (d : Separator) → separator d < 46
       low Spaces = omega arith
       low Comma = omega arith
 
-  listed-pieces : (a : List ℕ) (l : List (List ℕ)) → isAddress a ≡ true → areAddresses l ≡ true → pieces (separator sep) (dotted a ++ behind sep l) ≡ map dotted (a ∷ l)
+  listed-pieces : (a : List ℕ) (l : List (List ℕ)) → isAddress a ≡ true → areAddresses l ≡ true →
+      pieces (separator sep) (dotted a ++ behind sep l) ≡ map dotted (a ∷ l)
   listed-pieces a [] h k = rw (append-nil (dotted a)) (pieces-last (separator sep) (dotted a) (dotted-apart a h))
   listed-pieces a (b ∷ l) h k =
       pieces-append (separator sep) (dotted a) (dotted b ++ behind sep l) (dotted-apart a h)
@@ -141,16 +145,19 @@ none-empty : (l : List (List ℕ)) → areAddresses l ≡ true → nonEmpty (map
 none-empty [] h = refl
 none-empty (a ∷ l) h = rw (dotted-some a (are-cons a l h .0), none-empty l (are-cons a l h .1))
 
-listed-fields : (sep : Separator) (a : List ℕ) (l : List (List ℕ)) → isAddress a ≡ true → areAddresses l ≡ true → fields sep (listed sep (a ∷ l)) ≡ map dotted (a ∷ l)
+listed-fields : (sep : Separator) (a : List ℕ) (l : List (List ℕ)) → isAddress a ≡ true → areAddresses l ≡ true →
+    fields sep (listed sep (a ∷ l)) ≡ map dotted (a ∷ l)
 listed-fields Comma a l h k = listed-pieces Comma a l h k
-listed-fields Spaces a l h k = ap spaced (listed-pieces Spaces a l h k) ∙ ap (λ (ps : List (List ℕ)). dotted a ∷ ps) (none-empty l k)
+listed-fields Spaces a l h k =
+    ap spaced (listed-pieces Spaces a l h k) ∙ ap (λ (ps : List (List ℕ)). dotted a ∷ ps) (none-empty l k)
 
 each-dotted : (l : List (List ℕ)) → areAddresses l ≡ true → each address (map dotted l) ≡ some l
 each-dotted [] h = refl
 each-dotted (a ∷ l) h = rw (address-dotted a (are-cons a l h .0), each-dotted l (are-cons a l h .1))
 
 -- a list reads back, and is of its addresses' bytes and its separator
-pub addresses-listed : (sep : Separator) (l : List (List ℕ)) → between 1 4 (length l) ≡ true → areAddresses l ≡ true → addresses sep (listed sep l) ≡ some l
+pub addresses-listed : (sep : Separator) (l : List (List ℕ)) → between 1 4 (length l) ≡ true → areAddresses l ≡ true →
+    addresses sep (listed sep l) ≡ some l
 unfolding addresses
 addresses-listed sep [] n h = absurd (false≢true n)
 addresses-listed sep (a ∷ l) n h =
@@ -158,7 +165,8 @@ addresses-listed sep (a ∷ l) n h =
 
 module _ (sep : Separator) where
   dotted-list-bytes : (a : List ℕ) → isAddress a ≡ true → all (isListByte sep) (dotted a) ≡ true
-  dotted-list-bytes a h = all-weaken (between 46 57) (isListByte sep) (λ x e. wider x (eqb x (separator sep)) e) (dotted a) (dotted-bytes a h)
+  dotted-list-bytes a h =
+      all-weaken (between 46 57) (isListByte sep) (λ x e. wider x (eqb x (separator sep)) e) (dotted a) (dotted-bytes a h)
     where
       wider : (x : ℕ) (t : Bool) → between 46 57 x ≡ true → (t || between 46 57 x) ≡ true
       wider x true e = refl
@@ -166,8 +174,10 @@ module _ (sep : Separator) where
 
   behind-bytes : (l : List (List ℕ)) → areAddresses l ≡ true → all (isListByte sep) (behind sep l) ≡ true
   behind-bytes [] h = refl
-  behind-bytes (a ∷ l) h = rw (eq-eqb (separator sep) (separator sep) refl) (all-append (isListByte sep) (dotted a) (behind sep l) (dotted-list-bytes a (are-cons a l h .0)) (behind-bytes l (are-cons a l h .1)))
+  behind-bytes (a ∷ l) h =
+      rw (eq-eqb (separator sep) (separator sep) refl) (all-append (isListByte sep) (dotted a) (behind sep l) (dotted-list-bytes a (are-cons a l h .0)) (behind-bytes l (are-cons a l h .1)))
 
   pub listed-bytes : (l : List (List ℕ)) → areAddresses l ≡ true → all (isListByte sep) (listed sep l) ≡ true
   listed-bytes [] h = refl
-  listed-bytes (a ∷ l) h = all-append (isListByte sep) (dotted a) (behind sep l) (dotted-list-bytes a (are-cons a l h .0)) (behind-bytes l (are-cons a l h .1))
+  listed-bytes (a ∷ l) h =
+      all-append (isListByte sep) (dotted a) (behind sep l) (dotted-list-bytes a (are-cons a l h .0)) (behind-bytes l (are-cons a l h .1))

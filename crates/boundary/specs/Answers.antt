@@ -13,14 +13,16 @@ use Rattle.boundary.specs.declared.CText.{CText}
 use Rattle.boundary.specs.declared.CWritten.{CWritten}
 
 abbrev pub seenAt : Seen → CReading
-seenAt s = record { line = s .line; settings = s .settings; services = s .services; number = s .number; reserved = replicate 7 0 }
+seenAt s =
+    record { line = s .line; settings = s .settings; services = s .services; number = s .number; reserved = replicate 7 0 }
 
 abbrev pub readingAt : Reading → CReading
 readingAt r = seenAt (seenOf r)
 
 -- "the stretch of the lent file where it stands", by its start and its length
 abbrev pub textAt : TextPlace → CText
-textAt p = record { line = p .line; start = p .start; length = p .end - p .start; number = p .number; reserved = replicate 7 0 }
+textAt p =
+    record { line = p .line; start = p .start; length = p .end - p .start; number = p .number; reserved = replicate 7 0 }
 
 abbrev pub writtenAt : Written → CWritten
 writtenAt a =

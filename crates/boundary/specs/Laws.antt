@@ -53,7 +53,8 @@ ipv6-back Ipv6.Off = refl
 -- ---- records
 
 pub record-back : (r : JoinRecord) (s : List (List ℕ)) → recordIn (recordAt r s) ≡ r
-record-back r s = rw (credential-back (r .credential), bit-back (r .hidden), method-back (r .ipv4), bit-back (r .«has_gateway»), ipv6-back (r .ipv6))
+record-back r s =
+    rw (credential-back (r .credential), bit-back (r .hidden), method-back (r .ipv4), bit-back (r .«has_gateway»), ipv6-back (r .ipv6))
 
 bit-known : (b : Bool) → leb (bitOf b) 1 ≡ true
 bit-known true = refl
@@ -74,7 +75,8 @@ ipv6-known Ipv6.Auto = refl
 ipv6-known Ipv6.Off = refl
 
 pub record-known : (r : JoinRecord) (s : List (List ℕ)) → known (recordAt r s) ≡ true
-record-known r s = rw (credential-known (r .credential), bit-known (r .hidden), method-known (r .ipv4), bit-known (r .«has_gateway»)) (ipv6-known (r .ipv6))
+record-known r s =
+    rw (credential-known (r .credential), bit-known (r .hidden), method-known (r .ipv4), bit-known (r .«has_gateway»)) (ipv6-known (r .ipv6))
 
 -- ---- name servers
 
@@ -103,7 +105,8 @@ servers-back (a ∷ b ∷ c ∷ d ∷ []) l e =
 servers-back (a ∷ b ∷ c ∷ d ∷ f ∷ s) l e = absurd (omega (arith, l))
 
 -- what is handed out is written as the record that it was
-pub writing-back : (r : JoinRecord) (s : List (List ℕ)) → Arrays r s → (n f : List ℕ) → writingIn (recordAt r s) n f ≡ writing r s n f
+pub writing-back : (r : JoinRecord) (s : List (List ℕ)) → Arrays r s → (n f : List ℕ) →
+    writingIn (recordAt r s) n f ≡ writing r s n f
 writing-back r s a n f = rw (record-known r s, record-back r s, servers-back s (a .servers) (a .serverBytes))
 
 -- ---- a record that is brought in
@@ -159,7 +162,8 @@ at-passes p (x ∷ b) zero h e = and-true (p x) (all p b) e .0
 at-passes p (x ∷ b) (suc i) h e = at-passes p b i (omega arith) (and-true (p x) (all p b) e .1)
 
 four-address : (b : List ℕ) (i : ℕ) → i + 4 ≤ length b → all (between 0 255) b ≡ true → isAddress (fourAt b i) ≡ true
-four-address b i h e = rw (at-passes (between 0 255) b i (omega arith) e, at-passes (between 0 255) b (i + 1) (omega arith) e, at-passes (between 0 255) b (i + 2) (omega arith) e, at-passes (between 0 255) b (i + 3) (omega arith) e)
+four-address b i h e =
+    rw (at-passes (between 0 255) b i (omega arith) e, at-passes (between 0 255) b (i + 1) (omega arith) e, at-passes (between 0 255) b (i + 2) (omega arith) e, at-passes (between 0 255) b (i + 3) (omega arith) e)
 
 pub brought-arrays : (c : CRecord) → CArrays c → Arrays (recordIn c) (serversIn c)
 brought-arrays c a =
@@ -182,11 +186,13 @@ brought-arrays c a =
 -- ---- the lengths of a record that is answered
 
 laid-short : (j : Join) → WellFormed j → Short (laid j)
-laid-short j w = record { name = omega (arith, w .name .high); passphrase = omega (arith, secret-short (j .credential) (w .credential)); servers = omega (arith, w .servers .high); domain = omega (arith, w .domain .high) }
+laid-short j w =
+    record { name = omega (arith, w .name .high); passphrase = omega (arith, secret-short (j .credential) (w .credential)); servers = omega (arith, w .servers .high); domain = omega (arith, w .domain .high) }
 
 answer-short : (x : Joined) → ((j : Join) → x ≡ joined j → WellFormed j) → Short (recordAnswer x .«record»)
 answer-short (joined j) f = laid-short j (f j refl)
-answer-short (refused r l) f = record { name = omega arith; passphrase = omega arith; servers = omega arith; domain = omega arith }
+answer-short (refused r l) f =
+    record { name = omega arith; passphrase = omega arith; servers = omega arith; domain = omega arith }
 
 pub iwd-short : (name file : List ℕ) → Short (iwdRecord name file .«record»)
 unfolding iwdRecord

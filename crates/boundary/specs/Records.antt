@@ -90,7 +90,8 @@ pub record CArrays (c : CRecord) : Type 0 where
 
 -- every code is that of a case
 abbrev pub known : CRecord → Bool
-known c = leb (c .credential) 2 && (leb (c .hidden) 1 && (leb (c .ipv4) 2 && (leb (c .«has_gateway») 1 && leb (c .ipv6) 1)))
+known c =
+    leb (c .credential) 2 && (leb (c .hidden) 1 && (leb (c .ipv4) 2 && (leb (c .«has_gateway») 1 && leb (c .ipv6) 1)))
 
 abbrev pub recordIn : CRecord → JoinRecord
 recordIn c =

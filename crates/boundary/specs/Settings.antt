@@ -79,7 +79,8 @@ abbrev pub entryLength : Entries → ℕ → ℕ
 entryLength e i = getD (e .ends) i 0 - getD (e .starts) i 0
 
 abbrev pub entriesAt : Entries → CEntries
-entriesAt e = record { count = e .count; start = e .starts; length = entryLength e 0 ∷ entryLength e 1 ∷ entryLength e 2 ∷ entryLength e 3 ∷ [] }
+entriesAt e =
+    record { count = e .count; start = e .starts; length = entryLength e 0 ∷ entryLength e 1 ∷ entryLength e 2 ∷ entryLength e 3 ∷ [] }
 
 abbrev pub networkAt : NetworkSettings → CNetwork
 networkAt s =

@@ -27,9 +27,11 @@ meant-escape : (c : ℕ) → eqb (meant c) 0 ≡ false → Escape c (meant c)
 meant-escape c = go (eqb c 115) refl (eqb c 116) refl (eqb c 114) refl (eqb c 110) refl (eqb c 92) refl
   where
     Meant : (s t r n b : Bool) → Type 0
-    Meant s t r n b = let m : ℕ = cond s 32 (cond t 9 (cond r 13 (cond n 10 (cond b 92 0)))) in eqb m 0 ≡ false → Escape c m
+    Meant s t r n b =
+        let m : ℕ = cond s 32 (cond t 9 (cond r 13 (cond n 10 (cond b 92 0)))) in eqb m 0 ≡ false → Escape c m
 
-    go : (s : Bool) → eqb c 115 ≡ s → (t : Bool) → eqb c 116 ≡ t → (r : Bool) → eqb c 114 ≡ r → (n : Bool) → eqb c 110 ≡ n → (b : Bool) → eqb c 92 ≡ b → Meant s t r n b
+    go : (s : Bool) → eqb c 115 ≡ s → (t : Bool) → eqb c 116 ≡ t → (r : Bool) → eqb c 114 ≡ r → (n : Bool) →
+        eqb c 110 ≡ n → (b : Bool) → eqb c 92 ≡ b → Meant s t r n b
     go true p t q r u n w b x h = rw (eqb-true c 115 p) space
     go false p true q r u n w b x h = rw (eqb-true c 116 q) tab
     go false p false q true u n w b x h = rw (eqb-true c 114 u) return
@@ -48,7 +50,8 @@ first-reads : (c : ℕ) (s : List ℕ) → Reads true s → Reads false s → Re
 unfolding reading
 first-reads c s x y t e = go (eqb c 92) refl e
   where
-    go : (b : Bool) → eqb c 92 ≡ b → cond b (reading true s) (prepend c (reading false s)) ≡ some t → Unescaped (c ∷ s) t
+    go : (b : Bool) → eqb c 92 ≡ b → cond b (reading true s) (prepend c (reading false s)) ≡ some t →
+        Unescaped (c ∷ s) t
     go true q f = rw (eqb-true c 92 q) (x t f)
     go false q f =
         let k = prepend-some c (reading false s) f in
@@ -58,7 +61,8 @@ second-reads : (c : ℕ) (s : List ℕ) → Reads false s → Reads true (c ∷ 
 unfolding reading
 second-reads c s y t e = go (eqb (meant c) 0) refl e
   where
-    go : (b : Bool) → eqb (meant c) 0 ≡ b → cond b none (prepend (meant c) (reading false s)) ≡ some t → Unescaped (92 ∷ c ∷ s) t
+    go : (b : Bool) → eqb (meant c) 0 ≡ b → cond b none (prepend (meant c) (reading false s)) ≡ some t →
+        Unescaped (92 ∷ c ∷ s) t
     go true q f = absurd (Option·none-ne-some t f)
     go false q f =
         let k = prepend-some (meant c) (reading false s) f in

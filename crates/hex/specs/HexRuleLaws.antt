@@ -33,7 +33,9 @@ pub value-digit : (c : ℕ) → ltb (nibble c) 16 ≡ true → HexDigit c (nibbl
 unfolding nibble
 value-digit c = go (between 48 57 c) refl (between 97 102 c) refl (between 65 70 c) refl
   where
-    go : (a : Bool) → between 48 57 c ≡ a → (b : Bool) → between 97 102 c ≡ b → (e : Bool) → between 65 70 c ≡ e → ltb (cond a (c - 48) (cond b (c - 87) (cond e (c - 55) 16))) 16 ≡ true → HexDigit c (cond a (c - 48) (cond b (c - 87) (cond e (c - 55) 16)))
+    go : (a : Bool) → between 48 57 c ≡ a → (b : Bool) → between 97 102 c ≡ b → (e : Bool) → between 65 70 c ≡ e →
+        ltb (cond a (c - 48) (cond b (c - 87) (cond e (c - 55) 16))) 16 ≡ true →
+        HexDigit c (cond a (c - 48) (cond b (c - 87) (cond e (c - 55) 16)))
     go true p b q e r h =
         let low = between-low {x = c} 48 57 p in
         let high = between-high {x = c} 48 57 p in
@@ -55,7 +57,8 @@ value-digit c = go (between 48 57 c) refl (between 97 102 c) refl (between 65 70
 
 -- ---- a pair
 
-pub pair-digits : {a b byte : ℕ} → HexPair a b byte → (ltb (nibble a) 16 && ltb (nibble b) 16 ≡ true) × (nibble a * 16 + nibble b ≡ byte)
+pub pair-digits : {a b byte : ℕ} → HexPair a b byte →
+    (ltb (nibble a) 16 && ltb (nibble b) 16 ≡ true) × (nibble a * 16 + nibble b ≡ byte)
 pair-digits {a} {b} h =
     let p = digit-value (h .first) in
     let q = digit-value (h .second) in
@@ -75,7 +78,8 @@ unhex-writes [] {t} e = subst (Hex []) (Option·some-injective [] t e) no-more
 unhex-writes (a ∷ []) {t} e = absurd (Option·none-ne-some t e)
 unhex-writes (a ∷ b ∷ s) {t} e = go (ltb (nibble a) 16 && ltb (nibble b) 16) refl (λ u k. unhex-writes s k) e
   where
-    go : (d : Bool) → ltb (nibble a) 16 && ltb (nibble b) 16 ≡ d → ((u : List ℕ) → unhex s ≡ some u → Hex s u) → cond d (prepend (nibble a * 16 + nibble b) (unhex s)) none ≡ some t → Hex (a ∷ b ∷ s) t
+    go : (d : Bool) → ltb (nibble a) 16 && ltb (nibble b) 16 ≡ d → ((u : List ℕ) → unhex s ≡ some u → Hex s u) →
+        cond d (prepend (nibble a * 16 + nibble b) (unhex s)) none ≡ some t → Hex (a ∷ b ∷ s) t
     go true q f e =
         let k = prepend-some (nibble a * 16 + nibble b) (unhex s) e in
         subst (Hex (a ∷ b ∷ s)) (k .2) (pair (digits-pair a b q) (f (k .0) (k .1)))

@@ -19,7 +19,8 @@ use Rattle.intake.specs.Input.{Parted, firstLine, behind}
 -- ---- the file
 
 -- 16,385 bytes of a file already earn 1, whatever follows
-pub reading-front : (d : Dialect) (name file : List ℕ) (m : ℕ) → 16384 < m → reading d name (take m file) ≡ reading d name file
+pub reading-front : (d : Dialect) (name file : List ℕ) (m : ℕ) → 16384 < m →
+    reading d name (take m file) ≡ reading d name file
 reading-front d name file m h = go (leb (length file) m) refl
   where
     go : (b : Bool) → leb (length file) m ≡ b → reading d name (take m file) ≡ reading d name file
@@ -39,7 +40,8 @@ reading-name d a b file e = rw e
 
 pub front-all : (l : List ℕ) → all inLine l ≡ true → front inLine l ≡ l
 front-all [] h = refl
-front-all (x ∷ l) h = rw (all-cons inLine x l h .0) (ap (λ (t : List ℕ). x ∷ t) (front-all l (all-cons inLine x l h .1)))
+front-all (x ∷ l) h =
+    rw (all-cons inLine x l h .0) (ap (λ (t : List ℕ). x ∷ t) (front-all l (all-cons inLine x l h .1)))
 
 pub after-all : (l : List ℕ) → all inLine l ≡ true → after inLine l ≡ []
 after-all [] h = refl

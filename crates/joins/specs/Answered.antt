@@ -44,11 +44,13 @@ use Rattle.joins.specs.Joining.{or-false, joined-good, service-joining}
 
 -- ---- what is read from a setting
 
-string-of : (d : Dialect) (low high : ℕ) (v : List ℕ) {t : List ℕ} → string d low high v ≡ some t → stringOf d v ≡ some t
+string-of : (d : Dialect) (low high : ℕ) (v : List ℕ) {t : List ℕ} → string d low high v ≡ some t →
+    stringOf d v ≡ some t
 unfolding string
 string-of d low high v e = sized-some low high (stringOf d v) e .1
 
-good-passphrase : (d : Dialect) (v : List ℕ) {p : List ℕ} → valueText v ≡ true → K.passphrase d v ≡ some p → GoodPassphrase p
+good-passphrase : (d : Dialect) (v : List ℕ) {p : List ℕ} → valueText v ≡ true → K.passphrase d v ≡ some p →
+    GoodPassphrase p
 good-passphrase d v h e =
     let s = string-size d 8 63 v e in
     record { low = s .0; high = s .1; text = string-text d v h (string-of d 8 63 v e) }
@@ -66,7 +68,8 @@ secret-formed (some p) k g h = g
 secret-formed none (some k) g h = h
 secret-formed none none g h = tt
 
-static-formed : (a : Option (List ℕ)) (m : Option ℕ) (g : Option (List ℕ)) → Holds (λ x. isAddress x ≡ true) a → Holds (λ n. (1 ≤ n) × (n ≤ 32)) m → Holds (λ x. isAddress x ≡ true) g → GoodIpv4 (staticOrDhcp a m g)
+static-formed : (a : Option (List ℕ)) (m : Option ℕ) (g : Option (List ℕ)) → Holds (λ x. isAddress x ≡ true) a →
+    Holds (λ n. (1 ≤ n) × (n ≤ 32)) m → Holds (λ x. isAddress x ≡ true) g → GoodIpv4 (staticOrDhcp a m g)
 static-formed none m g x y z = tt
 static-formed (some a) none g x y z = record { address = x; low = omega arith; high = omega arith; gateway = z }
 static-formed (some a) (some n) g x y z = record { address = x; low = y .0; high = y .1; gateway = z }
@@ -76,7 +79,8 @@ servers-formed none h = record { high = omega arith; addresses = refl }
 servers-formed (some l) h = h
 
 good-servers : (sep : Separator) (at : Option Entry) → GoodServers (plain (readAs (addresses sep) at))
-good-servers sep at = servers-formed (readAs (addresses sep) at) (read-holds GoodServers (addresses sep) at (λ e q x r. let h = addresses-good sep (e .value) r in record { high = h .1; addresses = h .2 }))
+good-servers sep at =
+    servers-formed (readAs (addresses sep) at) (read-holds GoodServers (addresses sep) at (λ e q x r. let h = addresses-good sep (e .value) r in record { high = h .1; addresses = h .2 }))
 
 domain-formed : (o : Option (List ℕ)) → Holds GoodDomain o → GoodDomain (plain o)
 unfolding text utf8From
@@ -85,7 +89,8 @@ domain-formed (some d) h = h
 
 -- ---- an iwd file
 
-network-formed : (name : List ℕ) (o : Option Network) → networkOf name ≡ o → {k : Name} → mapped (λ x. iwdName (x .suffix)) o ≡ some k → NetworkName (networkName o)
+network-formed : (name : List ℕ) (o : Option Network) → networkOf name ≡ o → {k : Name} →
+    mapped (λ x. iwdName (x .suffix)) o ≡ some k → NetworkName (networkName o)
 network-formed name none q {k} e = absurd (Option·none-ne-some k e)
 network-formed name (some x) q e = network-bytes name q
 
@@ -107,7 +112,8 @@ module _ (name file : List ℕ) {n m : ℕ} (a : reading D.Iwd name file ≡ Acc
 address-formed : (at : Option Entry) → Holds (λ x. isAddress x ≡ true) (readAs address at)
 address-formed at = read-holds (λ (x : List ℕ). isAddress x ≡ true) address at (λ e q x r. address-bytes (e .value) r)
 
-iwd-ipv4-formed : (at : List ℕ → Option Entry) → GoodIpv4 (staticOrDhcp (readAs address (at (word "Address"))) (readAs netmask (at (word "Netmask"))) (readAs address (at (word "Gateway"))))
+iwd-ipv4-formed : (at : List ℕ → Option Entry) →
+    GoodIpv4 (staticOrDhcp (readAs address (at (word "Address"))) (readAs netmask (at (word "Netmask"))) (readAs address (at (word "Gateway"))))
 iwd-ipv4-formed at =
     static-formed (readAs address (at (word "Address"))) (readAs netmask (at (word "Netmask"))) (readAs address (at (word "Gateway")))
     (address-formed (at (word "Address")))
@@ -140,7 +146,8 @@ not-given : (k : List ℕ) (es : List Entry) → entryOf k es ≡ none → given
 not-given k es e = sym (entry-given k es) ∙ ap isSome e
 
 -- a service that is not ethernet is wifi
-wifi-word : (v : List ℕ) {w : Word} → wordOf L.ServiceType v ≡ some w → isWord W.Ethernet (some w) ≡ false → isWord W.Wifi (some w) ≡ true
+wifi-word : (v : List ℕ) {w : Word} → wordOf L.ServiceType v ≡ some w → isWord W.Ethernet (some w) ≡ false →
+    isWord W.Wifi (some w) ≡ true
 unfolding wordOf
 wifi-word v {w} e h = go (same v (word "wifi")) (same v (word "ethernet")) e
   where
@@ -150,15 +157,19 @@ wifi-word v {w} e h = go (same v (word "wifi")) (same v (word "ethernet")) e
     go false false e = absurd (Option·none-ne-some w e)
 
 -- so it has a name: of a group that lacks nothing, with a Type that is read
-has-name : (es : List Entry) → lacks es ≡ false → ((e : Entry) → entryOf (word "Type") es ≡ some e → (w : Word) × (wordOf L.ServiceType (e .value) ≡ some w)) → wired (λ k. entryOf k es) ≡ false → entryOf (word "SSID") es ≡ none → entryOf (word "Name") es ≡ none → ⊥
+has-name : (es : List Entry) → lacks es ≡ false →
+    ((e : Entry) → entryOf (word "Type") es ≡ some e → (w : Word) × (wordOf L.ServiceType (e .value) ≡ some w)) →
+    wired (λ k. entryOf k es) ≡ false → entryOf (word "SSID") es ≡ none → entryOf (word "Name") es ≡ none → ⊥
 unfolding keysOf
 has-name es h t r s n = go (entryOf (word "Type") es) refl
   where
     parts : (not (given (word "Type") es) ≡ false) × ((typeIs W.Wifi es && not (given (word "Name") es || given (word "SSID") es)) || (securityIs W.Psk es && not (given (word "Passphrase") es)) ≡ false)
-    parts = or-false (not (given (word "Type") es)) ((typeIs W.Wifi es && not (given (word "Name") es || given (word "SSID") es)) || (securityIs W.Psk es && not (given (word "Passphrase") es))) h
+    parts =
+        or-false (not (given (word "Type") es)) ((typeIs W.Wifi es && not (given (word "Name") es || given (word "SSID") es)) || (securityIs W.Psk es && not (given (word "Passphrase") es))) h
 
     unnamed : typeIs W.Wifi es && not (given (word "Name") es || given (word "SSID") es) ≡ false
-    unnamed = or-false (typeIs W.Wifi es && not (given (word "Name") es || given (word "SSID") es)) (securityIs W.Psk es && not (given (word "Passphrase") es)) (parts .1) .0
+    unnamed =
+        or-false (typeIs W.Wifi es && not (given (word "Name") es || given (word "SSID") es)) (securityIs W.Psk es && not (given (word "Passphrase") es)) (parts .1) .0
 
     go : (o : Option Entry) → entryOf (word "Type") es ≡ o → ⊥
     go none q = true≢false (sym (ap not (not-given (word "Type") es q)) ∙ parts .0)
@@ -187,11 +198,14 @@ reads-name : (v : List ℕ) → GoodValue D.ConnMan (Kind.Text 1 32) v → (s : 
 unfolding typed
 reads-name v g = mapped-some T.bytes (string D.ConnMan 1 32 v) (g .reads)
 
-reads-type : (v : List ℕ) → GoodValue D.ConnMan (Kind.Named L.ServiceType) v → (w : Word) × (wordOf L.ServiceType v ≡ some w)
+reads-type : (v : List ℕ) → GoodValue D.ConnMan (Kind.Named L.ServiceType) v →
+    (w : Word) × (wordOf L.ServiceType v ≡ some w)
 unfolding typed
 reads-type v g = mapped-some T.word (wordOf L.ServiceType v) (g .reads)
 
-name-formed : (s n : Option Entry) → ((e : Entry) → s ≡ some e → GoodValue D.ConnMan Kind.Ssid (e .value)) → ((e : Entry) → n ≡ some e → GoodValue D.ConnMan (Kind.Text 1 32) (e .value)) → (s ≡ none → n ≡ none → ⊥) → NetworkName (nameFrom (readAs ssid s) (readAs (string D.ConnMan 1 32) n))
+name-formed : (s n : Option Entry) → ((e : Entry) → s ≡ some e → GoodValue D.ConnMan Kind.Ssid (e .value)) →
+    ((e : Entry) → n ≡ some e → GoodValue D.ConnMan (Kind.Text 1 32) (e .value)) → (s ≡ none → n ≡ none → ⊥) →
+    NetworkName (nameFrom (readAs ssid s) (readAs (string D.ConnMan 1 32) n))
 name-formed (some e) n f g h =
     let r = reads-ssid (e .value) (f e refl) in
     subst (λ (o : Option (List ℕ)). NetworkName (nameFrom o (readAs (string D.ConnMan 1 32) n))) (sym (r .1)) (ssid-name (e .value) (r .1))
@@ -212,7 +226,8 @@ or-dhcp-formed none h = tt
 or-dhcp-formed (some i) h = h
 
 service-ipv4-formed : (at : Option Entry) → GoodIpv4 (ipv4OrDhcp (readAs ipv4 at))
-service-ipv4-formed at = or-dhcp-formed (readAs ipv4 at) (read-holds GoodIpv4 ipv4 at (λ e q x r. ipv4-formed x (ipv4-good (e .value) r)))
+service-ipv4-formed at =
+    or-dhcp-formed (readAs ipv4 at) (read-holds GoodIpv4 ipv4 at (λ e q x r. ipv4-formed x (ipv4-good (e .value) r)))
 
 -- of service w of an accepted file
 module _ (name file : List ℕ) (w : ℕ) {n m : ℕ} (a : reading D.ConnMan name file ≡ Accepted n m) where
@@ -229,7 +244,8 @@ module _ (name file : List ℕ) (w : ℕ) {n m : ℕ} (a : reading D.ConnMan nam
       domain-formed (readAs (string D.ConnMan 1 253) (settingOf w file (word "Domain")))
       (read-holds GoodDomain (string D.ConnMan 1 253) (settingOf w file (word "Domain")) (λ e q x r. good-domain D.ConnMan (e .value) (service-value D.ConnMan name file a w (word "Domain") refl q .text) r))
 
-  service-name-formed : lacks (serviceAt w (sectionsOf D.ConnMan file)) ≡ false → wired (settingOf w file) ≡ false → NetworkName (serviceJoin (settingOf w file) .name)
+  service-name-formed : lacks (serviceAt w (sectionsOf D.ConnMan file)) ≡ false → wired (settingOf w file) ≡ false →
+      NetworkName (serviceJoin (settingOf w file) .name)
   unfolding keysOf
   service-name-formed l r =
       name-formed (settingOf w file (word "SSID")) (settingOf w file (word "Name"))
@@ -243,7 +259,9 @@ module _ (name file : List ℕ) (w : ℕ) {n m : ℕ} (a : reading D.ConnMan nam
 record-unwired : (at : List ℕ → Option Entry) → noRecord at ≡ none → wired at ≡ false
 record-unwired at e = go (wired at) e
   where
-    go : (b : Bool) → orElse (only b (some (lineIn (at (word "Type"))))) (only (foreign at) (some (lineIn (at (word "Security"))))) ≡ none → b ≡ false
+    go : (b : Bool) →
+        orElse (only b (some (lineIn (at (word "Type"))))) (only (foreign at) (some (lineIn (at (word "Security"))))) ≡ none →
+        b ≡ false
     go true e = absurd (Option·none-ne-some (lineIn (at (word "Type"))) (sym e))
     go false e = refl
 

@@ -54,14 +54,23 @@ faultless l none e = refl
 faultless l (some r) e = absurd (Option·none-ne-some (record { refusal = r; line = l }) (sym e))
 
 -- "each service": service w among them
-service-faultless : (w : ℕ) (gs : List Section) → servicesFault gs ≡ none → 1 ≤ w → w ≤ services gs → serviceFault (serviceAt w gs) ≡ none
+service-faultless : (w : ℕ) (gs : List Section) → servicesFault gs ≡ none → 1 ≤ w → w ≤ services gs →
+    serviceFault (serviceAt w gs) ≡ none
 service-faultless zero gs f l h = absurd (omega (arith, l))
 service-faultless (suc n) [] f l h = absurd (omega (arith, h))
-service-faultless (suc n) (g ∷ gs) f l h = go (serves (g .group)) n (λ p q r. service-faultless n gs p q r) (λ p q r. service-faultless (suc n) gs p q r) f h
+service-faultless (suc n) (g ∷ gs) f l h =
+    go (serves (g .group)) n (λ p q r. service-faultless n gs p q r) (λ p q r. service-faultless (suc n) gs p q r) f h
   where
-    go : (b : Bool) (n : ℕ) → (servicesFault gs ≡ none → 1 ≤ n → n ≤ services gs → serviceFault (serviceAt n gs) ≡ none) → (servicesFault gs ≡ none → 1 ≤ suc n → suc n ≤ services gs → serviceFault (serviceAt (suc n) gs) ≡ none) → orElse (cond b (faultAt (g .line) (serviceFault (g .entries))) none) (servicesFault gs) ≡ none → suc n ≤ cond b (suc (services gs)) (services gs) → serviceFault (cond b (firstOr n (g .entries) (serviceAt n gs)) (serviceAt (suc n) gs)) ≡ none
-    go true zero i k f h = faultless (g .line) (serviceFault (g .entries)) (or-none (faultAt (g .line) (serviceFault (g .entries))) (servicesFault gs) f .0)
-    go true (suc n) i k f h = i (or-none (faultAt (g .line) (serviceFault (g .entries))) (servicesFault gs) f .1) (omega arith) (omega (arith, h))
+    go : (b : Bool) (n : ℕ) →
+        (servicesFault gs ≡ none → 1 ≤ n → n ≤ services gs → serviceFault (serviceAt n gs) ≡ none) →
+        (servicesFault gs ≡ none → 1 ≤ suc n → suc n ≤ services gs → serviceFault (serviceAt (suc n) gs) ≡ none) →
+        orElse (cond b (faultAt (g .line) (serviceFault (g .entries))) none) (servicesFault gs) ≡ none →
+        suc n ≤ cond b (suc (services gs)) (services gs) →
+        serviceFault (cond b (firstOr n (g .entries) (serviceAt n gs)) (serviceAt (suc n) gs)) ≡ none
+    go true zero i k f h =
+        faultless (g .line) (serviceFault (g .entries)) (or-none (faultAt (g .line) (serviceFault (g .entries))) (servicesFault gs) f .0)
+    go true (suc n) i k f h =
+        i (or-none (faultAt (g .line) (serviceFault (g .entries))) (servicesFault gs) f .1) (omega arith) (omega (arith, h))
     go false n i k f h = k f (omega arith) h
 
 faultless-obeys : (es : List Entry) → serviceFault es ≡ none → ServiceObeys es
@@ -74,7 +83,8 @@ faultless-obeys es e = go (lacks es) refl (clashes es) refl e
     go false p false q e = record { lacking = p; clashing = q }
 
 -- the count of an accepted file is that of its services
-counted : (name file : List ℕ) {n m : ℕ} → reading D.ConnMan name file ≡ Accepted n m → services (sectionsOf D.ConnMan file) ≡ m
+counted : (name file : List ℕ) {n m : ℕ} → reading D.ConnMan name file ≡ Accepted n m →
+    services (sectionsOf D.ConnMan file) ≡ m
 counted name file {n} {m} a =
     let q : Accepted (settings (sectionsOf D.ConnMan file)) (services (sectionsOf D.ConnMan file)) ≡ Accepted n m = sym (obeys-accepted D.ConnMan name file (accepted-obeys D.ConnMan name file a)) ∙ a in
     cc
@@ -82,19 +92,22 @@ counted name file {n} {m} a =
 connman-kind : (name : List ℕ) (k : Name) → nameIn D.ConnMan name ≡ some k → connmanFile ≡ k
 connman-kind name k e = Option·some-injective connmanFile k (only-some (connmanName name) (some connmanFile) e .1)
 
-accepted-services : (name file : List ℕ) {n m : ℕ} → reading D.ConnMan name file ≡ Accepted n m → servicesFault (sectionsOf D.ConnMan file) ≡ none
+accepted-services : (name file : List ℕ) {n m : ℕ} → reading D.ConnMan name file ≡ Accepted n m →
+    servicesFault (sectionsOf D.ConnMan file) ≡ none
 accepted-services name file a =
     let o = accepted-obeys D.ConnMan name file a in
     subst (λ (k : Name). groupsFault k (sectionsOf D.ConnMan file) ≡ none) (sym (connman-kind name (o .kind) (o .named))) (o .groups)
 
 -- ---- the service whose record is answered
 
-pub joined-good : (a : Answer) (o : Option ℕ) (i : Join) {j : Join} → orRefused a (orNoPlace o i) ≡ joined j → (a ≡ A.Good) × (i ≡ j) × (o ≡ none)
+pub joined-good : (a : Answer) (o : Option ℕ) (i : Join) {j : Join} → orRefused a (orNoPlace o i) ≡ joined j →
+    (a ≡ A.Good) × (i ≡ j) × (o ≡ none)
 joined-good A.Good none i {j} e = (refl, cc, refl)
 joined-good A.Good (some l) i e = let z : _≡_ {A = ℕ} 0 1 = cc in absurd (omega arith)
 joined-good (A.Refused r l) o i e = let z : _≡_ {A = ℕ} 0 1 = cc in absurd (omega arith)
 
-pub service-joining : (name file : List ℕ) (w : ℕ) {j : Join} → serviceJoined name file w ≡ joined j → Joining name file w j
+pub service-joining : (name file : List ℕ) (w : ℕ) {j : Join} → serviceJoined name file w ≡ joined j →
+    Joining name file w j
 service-joining name file w a =
     let h = joined-good (askedOf w (reading D.ConnMan name file)) (noRecord (settingOf w file)) (serviceJoin (settingOf w file)) a in
     let s = asked-service w (reading D.ConnMan name file) (h .0) in

@@ -168,14 +168,16 @@ orNoPlace (some l) j = refused NoPlace l
 
 -- of an iwd file under its name
 abbrev pub iwdJoined : List ℕ → List ℕ → Joined
-iwdJoined name file = orRefused (asked (reading D.Iwd name file)) (joined (iwdJoin (networkName (networkOf name)) (iwdEntry (sectionsOf D.Iwd file))))
+iwdJoined name file =
+    orRefused (asked (reading D.Iwd name file)) (joined (iwdJoin (networkName (networkOf name)) (iwdEntry (sectionsOf D.Iwd file))))
 
 -- of service w of a ConnMan file: 16 "asked after 18"
 abbrev pub settingOf : ℕ → List ℕ → List ℕ → Option Entry
 settingOf w file k = entryOf k (serviceAt w (sectionsOf D.ConnMan file))
 
 abbrev pub serviceJoined : List ℕ → List ℕ → ℕ → Joined
-serviceJoined name file w = orRefused (askedOf w (reading D.ConnMan name file)) (orNoPlace (noRecord (settingOf w file)) (serviceJoin (settingOf w file)))
+serviceJoined name file w =
+    orRefused (askedOf w (reading D.ConnMan name file)) (orNoPlace (noRecord (settingOf w file)) (serviceJoin (settingOf w file)))
 
 -- ---- the answers as the code gives them
 

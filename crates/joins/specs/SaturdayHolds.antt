@@ -55,13 +55,15 @@ unfolding judged kindJudged typed
 value-faulty d v (broken-text q) = rw q (λ e. Option·none-ne-some ValueText (sym e))
 value-faulty d v (no-string q) = go (valueText v) (stringBroken d Kind.Passphrase v) (K.passphrase d v) q
   where
-    go : (a b : Bool) (o : Option (List ℕ)) → o ≡ none → valueFault (cond a (cond b brokenText (byKind (mapped bytes o))) brokenText) ≡ none → ⊥
+    go : (a b : Bool) (o : Option (List ℕ)) → o ≡ none →
+        valueFault (cond a (cond b brokenText (byKind (mapped bytes o))) brokenText) ≡ none → ⊥
     go true true o q e = Option·none-ne-some ValueText (sym e)
     go true false none q e = Option·none-ne-some ValueKind (sym e)
     go true false (some p) q e = Option·none-ne-some p (sym q)
     go false b o q e = Option·none-ne-some ValueText (sym e)
 
-key-faulty : (d : Dialect) (v : List ℕ) → NoPassphrase d v → (g : Group) (o : Option Kind) (es : List Entry) → kindOf g (word "Passphrase") ≡ o → keyFault d (word "Passphrase") v o es ≡ none → ⊥
+key-faulty : (d : Dialect) (v : List ℕ) → NoPassphrase d v → (g : Group) (o : Option Kind) (es : List Entry) →
+    kindOf g (word "Passphrase") ≡ o → keyFault d (word "Passphrase") v o es ≡ none → ⊥
 key-faulty d v h g none es q e = Option·none-ne-some UnknownKey (sym e)
 key-faulty d v h g (some k) es q e = go (given (word "Passphrase") es) e
   where
@@ -69,10 +71,12 @@ key-faulty d v h g (some k) es q e = go (given (word "Passphrase") es) e
     go true e = Option·none-ne-some RepeatedKey (sym e)
     go false e = value-faulty d v h (ap (λ (x : Kind). valueFault (judged d x v)) (sym (passphrase-kind g q)) ∙ e)
 
-setting-faulty : (d : Dialect) (v : List ℕ) → NoPassphrase d v → (gs : List Section) → fault d gs (setting (word "Passphrase") v) ≡ none → ⊥
+setting-faulty : (d : Dialect) (v : List ℕ) → NoPassphrase d v → (gs : List Section) →
+    fault d gs (setting (word "Passphrase") v) ≡ none → ⊥
 unfolding fault
 setting-faulty d v h [] e = Option·none-ne-some NoGroup (sym e)
-setting-faulty d v h (g ∷ gs) e = key-faulty d v h (g .group) (kindOf (g .group) (word "Passphrase")) (g .entries) refl e
+setting-faulty d v h (g ∷ gs) e =
+    key-faulty d v h (g .group) (kindOf (g .group) (word "Passphrase")) (g .entries) refl e
 
 -- ---- so the first faulty line is that line, or one before it
 
@@ -81,16 +85,21 @@ record FaultBy (d : Dialect) (n s : ℕ) (gs : List Section) (ls : List (List �
   is : lineFault d n s gs ls ≡ some first
   early : first .line ≤ m
 
-fault-early : (d : Dialect) (n s : ℕ) (gs : List Section) (before : List (List ℕ)) (l : List ℕ) (rest : List (List ℕ)) {v : List ℕ} → lineOf d l ≡ setting (word "Passphrase") v → NoPassphrase d v → FaultBy d n s gs (before ++ l ∷ rest) (n + length before)
+fault-early : (d : Dialect) (n s : ℕ) (gs : List Section) (before : List (List ℕ)) (l : List ℕ) (rest : List (List ℕ)) {v : List ℕ} →
+    lineOf d l ≡ setting (word "Passphrase") v → NoPassphrase d v →
+    FaultBy d n s gs (before ++ l ∷ rest) (n + length before)
 unfolding lineFault
 fault-early d n s gs [] l rest {v} q h = go (fault d gs (lineOf d l)) refl
   where
     go : (o : Option Refusal) → fault d gs (lineOf d l) ≡ o → FaultBy d n s gs (l ∷ rest) (n + 0)
     go none e = absurd (setting-faulty d v h gs (ap (fault d gs) (sym q) ∙ e))
     go (some r) e = record { first = record { refusal = r; line = n }; is = rw e; early = omega arith }
-fault-early d n s gs (b ∷ before) l rest q h = go (fault d gs (lineOf d b)) refl (fault-early d (suc n) (s + length b + 1) (afterLine d n s b gs) before l rest q h)
+fault-early d n s gs (b ∷ before) l rest q h =
+    go (fault d gs (lineOf d b)) refl (fault-early d (suc n) (s + length b + 1) (afterLine d n s b gs) before l rest q h)
   where
-    go : (o : Option Refusal) → fault d gs (lineOf d b) ≡ o → FaultBy d (suc n) (s + length b + 1) (afterLine d n s b gs) (before ++ l ∷ rest) (suc n + length before) → FaultBy d n s gs (b ∷ before ++ l ∷ rest) (n + suc (length before))
+    go : (o : Option Refusal) → fault d gs (lineOf d b) ≡ o →
+        FaultBy d (suc n) (s + length b + 1) (afterLine d n s b gs) (before ++ l ∷ rest) (suc n + length before) →
+        FaultBy d n s gs (b ∷ before ++ l ∷ rest) (n + suc (length before))
     go none e k = record { first = k .first; is = rw e (k .is); early = omega (arith, k .early) }
     go (some r) e k = record { first = record { refusal = r; line = n }; is = rw e; early = omega arith }
 
@@ -104,17 +113,22 @@ faulty-refused d name file {n} p = go (leb (length file) 16384) refl (nameIn d n
     go : (b : Bool) → leb (length file) 16384 ≡ b → (o : Option Name) → nameIn d name ≡ o → RefusedBy d name file n
     go false e o q = record { refusal = Size; line = 0; is = rw e; early = omega arith }
     go true e none q = record { refusal = FileName; line = 0; is = rw (e, q); early = omega arith }
-    go true e (some x) q = record { refusal = k .first .refusal; line = k .first .line; is = rw (e, q, k .is); early = omega (arith, k .early, p .stands .number) }
+    go true e (some x) q =
+        record { refusal = k .first .refusal; line = k .first .line; is = rw (e, q, k .is); early = omega (arith, k .early, p .stands .number) }
 
 -- ---- a refused file is refused by every entry point, with the same number and line
 
-pub refused-iwd : (name file : List ℕ) {r : Refusal} {l : ℕ} → reading D.Iwd name file ≡ Refused r l → IwdRefuses name file r l
+pub refused-iwd : (name file : List ℕ) {r : Refusal} {l : ℕ} → reading D.Iwd name file ≡ Refused r l →
+    IwdRefuses name file r l
 unfolding iwdRecord iwdRecordServers
-refused-iwd name file e = record { settings = rw (e, ← iwd-absent-zero); servers = λ old. rw e; join-record = rw e; record-servers = λ old. rw e }
+refused-iwd name file e =
+    record { settings = rw (e, ← iwd-absent-zero); servers = λ old. rw e; join-record = rw e; record-servers = λ old. rw e }
 
-pub refused-service : (name file : List ℕ) {r : Refusal} {l : ℕ} → reading D.ConnMan name file ≡ Refused r l → (w : ℕ) → ServiceRefuses name file w r l
+pub refused-service : (name file : List ℕ) {r : Refusal} {l : ℕ} → reading D.ConnMan name file ≡ Refused r l →
+    (w : ℕ) → ServiceRefuses name file w r l
 unfolding serviceRecord serviceRecordServers
-refused-service name file e w = record { settings = rw (e, ← service-absent-zero); servers = λ old. rw e; join-record = rw e; record-servers = λ old. rw e }
+refused-service name file e w =
+    record { settings = rw (e, ← service-absent-zero); servers = λ old. rw e; join-record = rw e; record-servers = λ old. rw e }
 
 -- ---- a good one
 
@@ -127,14 +141,17 @@ reads-passphrase d v g = go (K.passphrase d v) refl (g .reads)
     go (some p) q e = record { bytes = p; is = q }
 
 -- a record whose credential is read from the setting, whatever else it may be read from
-kept : (d : Dialect) {o : Option Entry} (k : Option (List ℕ)) {j : Join} → j .credential ≡ secretFrom (readAs (K.passphrase d) o) k → {e : Entry} → o ≡ some e → GoodValue d Kind.Passphrase (e .value) → Kept d e j
+kept : (d : Dialect) {o : Option Entry} (k : Option (List ℕ)) {j : Join} →
+    j .credential ≡ secretFrom (readAs (K.passphrase d) o) k → {e : Entry} → o ≡ some e →
+    GoodValue d Kind.Passphrase (e .value) → Kept d e j
 kept d k {j} c {e} q g =
     let p = reads-passphrase d (e .value) g in
     let s : j .credential ≡ passphrase (p .bytes) = c ∙ ap (λ (o : Option Entry). secretFrom (readAs (K.passphrase d) o) k) q ∙ ap (λ (o : Option (List ℕ)). secretFrom o k) (p .is) in
     record { read = p; is = s; needed = ap secretGiven s }
 
 -- a record that is answered, of an iwd file with a Passphrase line
-pub iwd-passphrase-kept : (name file : List ℕ) {j : Join} → iwdJoined name file ≡ joined j → {e : Entry} → iwdEntry (sectionsOf D.Iwd file) (word "Security") (word "Passphrase") ≡ some e → Kept D.Iwd e j
+pub iwd-passphrase-kept : (name file : List ℕ) {j : Join} → iwdJoined name file ≡ joined j → {e : Entry} →
+    iwdEntry (sectionsOf D.Iwd file) (word "Security") (word "Passphrase") ≡ some e → Kept D.Iwd e j
 unfolding groupOf keysOf
 iwd-passphrase-kept name file {j} a {e} q =
     let at = iwdEntry (sectionsOf D.Iwd file) in
@@ -143,7 +160,8 @@ iwd-passphrase-kept name file {j} a {e} q =
     kept D.Iwd (readAs K.key (at (word "Security") (word "PreSharedKey"))) (ap (λ (i : Join). i .credential) (sym (h .1))) q (group-value D.Iwd name file (r .1 .1) (word "Security") (word "Passphrase") refl refl q)
 
 -- a record that is answered, of a service with a Passphrase line
-pub passphrase-kept : (name file : List ℕ) (w : ℕ) {j : Join} → serviceJoined name file w ≡ joined j → {e : Entry} → settingOf w file (word "Passphrase") ≡ some e → Kept D.ConnMan e j
+pub passphrase-kept : (name file : List ℕ) (w : ℕ) {j : Join} → serviceJoined name file w ≡ joined j → {e : Entry} →
+    settingOf w file (word "Passphrase") ≡ some e → Kept D.ConnMan e j
 unfolding keysOf
 passphrase-kept name file w {j} a {e} q =
     let h = service-joining name file w a in

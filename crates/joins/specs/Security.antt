@@ -30,10 +30,12 @@ use Rattle.joins.specs.Joining.{ServiceObeys, or-false, service-joining}
 module _ (es : List Entry) (o : ServiceObeys es) where
   -- "Security psk without Passphrase" (14)
   psk-given : securityIs W.Psk es ≡ true → given (word "Passphrase") es ≡ true
-  psk-given s = go (given (word "Passphrase") es) (sym (ap (λ (b : Bool). b && not (given (word "Passphrase") es)) s) ∙ phraseless)
+  psk-given s =
+      go (given (word "Passphrase") es) (sym (ap (λ (b : Bool). b && not (given (word "Passphrase") es)) s) ∙ phraseless)
     where
       phraseless : securityIs W.Psk es && not (given (word "Passphrase") es) ≡ false
-      phraseless = or-false (typeIs W.Wifi es && not (given (word "Name") es || given (word "SSID") es)) _ (or-false (not (given (word "Type") es)) _ (o .lacking) .1) .1
+      phraseless =
+          or-false (typeIs W.Wifi es && not (given (word "Name") es || given (word "SSID") es)) _ (or-false (not (given (word "Type") es)) _ (o .lacking) .1) .1
 
       go : (b : Bool) → not b ≡ false → b ≡ true
       go true e = refl
@@ -41,7 +43,9 @@ module _ (es : List Entry) (o : ServiceObeys es) where
 
   -- "Security none with Passphrase" (15)
   none-given : securityIs W.None es ≡ true → given (word "Passphrase") es ≡ false
-  none-given s = sym (ap (λ (b : Bool). b && given (word "Passphrase") es) s) ∙ or-false (typeIs W.Ethernet es && wireless es) _ (o .clashing) .1
+  none-given s =
+      sym (ap (λ (b : Bool). b && given (word "Passphrase") es) s)
+      ∙ or-false (typeIs W.Ethernet es && wireless es) _ (o .clashing) .1
 
 -- ---- the record that is answered
 
@@ -59,13 +63,18 @@ module _ (name file : List ℕ) (w : ℕ) {j : Join} (a : serviceJoined name fil
 
   -- a Security line with a word
   module _ {e : Entry} (l : settingOf w file (word "Security") ≡ some e) where
-    security-is : (s : Word) {v : List ℕ} → e .value ≡ v → isWord s (wordOf L.Security v) ≡ true → securityIs s (serviceAt w (sectionsOf D.ConnMan file)) ≡ true
+    security-is : (s : Word) {v : List ℕ} → e .value ≡ v → isWord s (wordOf L.Security v) ≡ true →
+        securityIs s (serviceAt w (sectionsOf D.ConnMan file)) ≡ true
     security-is s q t = rw (l, q) t
 
     pub psk-needs-key : e .value ≡ word "psk" → needsKey j ≡ true
     unfolding wordOf
-    psk-needs-key q = key-needed ∙ psk-given (serviceAt w (sectionsOf D.ConnMan file)) (service-joining name file w a .obeys) (security-is W.Psk q refl)
+    psk-needs-key q =
+        key-needed
+        ∙ psk-given (serviceAt w (sectionsOf D.ConnMan file)) (service-joining name file w a .obeys) (security-is W.Psk q refl)
 
     pub none-needs-no-key : e .value ≡ word "none" → needsKey j ≡ false
     unfolding wordOf
-    none-needs-no-key q = key-needed ∙ none-given (serviceAt w (sectionsOf D.ConnMan file)) (service-joining name file w a .obeys) (security-is W.None q refl)
+    none-needs-no-key q =
+        key-needed
+        ∙ none-given (serviceAt w (sectionsOf D.ConnMan file)) (service-joining name file w a .obeys) (security-is W.None q refl)

@@ -37,11 +37,16 @@ namedWord (some w) = N.Is w
 
 -- ConnMan's IPv4
 abbrev pub ipv4Answer : Option IPv4 → Ipv4
-ipv4Answer none = record { ok = false; method = Dhcp; address = noAddress; length = 0; «has_gateway» = false; gateway = noAddress }
-ipv4Answer (some dhcp) = record { ok = true; method = Dhcp; address = noAddress; length = 0; «has_gateway» = false; gateway = noAddress }
-ipv4Answer (some off) = record { ok = true; method = Off; address = noAddress; length = 0; «has_gateway» = false; gateway = noAddress }
-ipv4Answer (some (static a n none)) = record { ok = true; method = Static; address = a; length = n; «has_gateway» = false; gateway = noAddress }
-ipv4Answer (some (static a n (some g))) = record { ok = true; method = Static; address = a; length = n; «has_gateway» = true; gateway = g }
+ipv4Answer none =
+    record { ok = false; method = Dhcp; address = noAddress; length = 0; «has_gateway» = false; gateway = noAddress }
+ipv4Answer (some dhcp) =
+    record { ok = true; method = Dhcp; address = noAddress; length = 0; «has_gateway» = false; gateway = noAddress }
+ipv4Answer (some off) =
+    record { ok = true; method = Off; address = noAddress; length = 0; «has_gateway» = false; gateway = noAddress }
+ipv4Answer (some (static a n none)) =
+    record { ok = true; method = Static; address = a; length = n; «has_gateway» = false; gateway = noAddress }
+ipv4Answer (some (static a n (some g))) =
+    record { ok = true; method = Static; address = a; length = n; «has_gateway» = true; gateway = g }
 
 -- where each entry of a list starts and ends, one byte between two entries
 abbrev pub startsFrom : ℕ → List (List ℕ) → List ℕ
@@ -54,7 +59,8 @@ endsFrom at (e ∷ es) = (at + length e) ∷ endsFrom (at + length e + 1) es
 
 -- a list whose first entry starts at b
 abbrev pub entriesAnswer : ℕ → Option (List (List ℕ)) → Entries
-entriesAnswer b o = record { count = length (plain o); starts = padded 4 (startsFrom b (plain o)); ends = padded 4 (endsFrom b (plain o)) }
+entriesAnswer b o =
+    record { count = length (plain o); starts = padded 4 (startsFrom b (plain o)); ends = padded 4 (endsFrom b (plain o)) }
 
 abbrev pub macAnswer : Option (List ℕ) → Mac
 macAnswer none = record { ok = false; bytes = replicate 6 0 }

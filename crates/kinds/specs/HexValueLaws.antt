@@ -26,9 +26,11 @@ pair-is a b {byte} e =
 is-pair : (a b : ℕ) {byte : ℕ} → HexPair a b byte → pair a b ≡ some byte
 is-pair a b h = let p = pair-digits h in rw (p .0) (ap some (p .1))
 
-colon-is : (a b byte : ℕ) (s : List ℕ) {t : List ℕ} → HexPair a b byte → colonPairs s ≡ some t → ColonPairs (a ∷ b ∷ s) (byte ∷ t)
+colon-is : (a b byte : ℕ) (s : List ℕ) {t : List ℕ} → HexPair a b byte → colonPairs s ≡ some t →
+    ColonPairs (a ∷ b ∷ s) (byte ∷ t)
 unfolding colonPairs
-colon-is a b byte [] {t} h e = subst (λ (l : List ℕ). ColonPairs (a ∷ b ∷ []) (byte ∷ l)) (Option·some-injective [] t e) (last h)
+colon-is a b byte [] {t} h e =
+    subst (λ (l : List ℕ). ColonPairs (a ∷ b ∷ []) (byte ∷ l)) (Option·some-injective [] t e) (last h)
 colon-is a b byte (c ∷ []) {t} h e = absurd (Option·none-ne-some t e)
 colon-is a b byte (c ∷ x ∷ []) {t} h e = absurd (Option·none-ne-some t e)
 colon-is a b byte (c ∷ x ∷ y ∷ s) {t} h e =

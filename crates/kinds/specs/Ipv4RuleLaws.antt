@@ -37,7 +37,8 @@ length-is m {n} e = go (prefixLength m) refl e
 
 -- digits alone are no address
 digits-undotted : (m : List ℕ) {k : ℕ} {a : List ℕ} → LengthIs m k → AddressIs m a → ⊥
-digits-undotted m {k} {a} h g = one a (subst (λ (ps : List (List ℕ)). Pairwise (NumberIs 255) ps a) (sym (pieces-only 46 (g .dots)) ∙ pieces-last 46 m (all-other isDigit 46 refl m (h .number .digits))) (g .each)) (g .four)
+digits-undotted m {k} {a} h g =
+    one a (subst (λ (ps : List (List ℕ)). Pairwise (NumberIs 255) ps a) (sym (pieces-only 46 (g .dots)) ∙ pieces-last 46 m (all-other isDigit 46 refl m (h .number .digits))) (g .each)) (g .four)
   where
     one : (a : List ℕ) → Pairwise (NumberIs 255) (m ∷ []) a → Sized 4 4 a → ⊥
     one [] h e = absurd h
@@ -72,7 +73,8 @@ pub ipv4-is : (v : List ℕ) {i : IPv4} → ipv4 v ≡ some i → Ipv4Is v i
 unfolding ipv4
 ipv4-is v {i} e = go (same v (word "off")) refl (same v (word "dhcp")) refl e
   where
-    go : (b : Bool) → same v (word "off") ≡ b → (c : Bool) → same v (word "dhcp") ≡ c → cond b (some off) (cond c (some dhcp) (staticOf (pieces 47 v))) ≡ some i → Ipv4Is v i
+    go : (b : Bool) → same v (word "off") ≡ b → (c : Bool) → same v (word "dhcp") ≡ c →
+        cond b (some off) (cond c (some dhcp) (staticOf (pieces 47 v))) ≡ some i → Ipv4Is v i
     go true p c q e = subst (Ipv4Is v) (Option·some-injective off i e) (word-off (same-eq v (word "off") p))
     go false p true q e = subst (Ipv4Is v) (Option·some-injective dhcp i e) (word-dhcp (same-eq v (word "dhcp") q))
     go false p false q e = static-is v (pieces 47 v) (pieces-are 47 v) e
@@ -85,7 +87,8 @@ other-word v w h k = go (same v w) refl
     go true e = let l = ap (λ (s : List ℕ). length (pieces 47 s)) (same-eq v w e) in absurd (omega arith)
     go false e = refl
 
-static-ipv4 : (v : List ℕ) (ps : List (List ℕ)) {i : IPv4} → Pieces 47 v ps → 2 ≤ length ps → staticOf ps ≡ some i → ipv4 v ≡ some i
+static-ipv4 : (v : List ℕ) (ps : List (List ℕ)) {i : IPv4} → Pieces 47 v ps → 2 ≤ length ps → staticOf ps ≡ some i →
+    ipv4 v ≡ some i
 unfolding ipv4
 static-ipv4 v ps p l e =
     let q : pieces 47 v ≡ ps = pieces-only 47 p in

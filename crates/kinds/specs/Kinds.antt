@@ -35,7 +35,8 @@ flag d s = named s (flagWords d)
 abbrev pub wordsOf : WordList → List (List ℕ × Word)
 wordsOf ServiceType = (word "wifi", Wifi) ∷ (word "ethernet", Ethernet) ∷ []
 wordsOf Ipv6Method = (word "off", Off) ∷ (word "auto", Auto) ∷ []
-wordsOf Privacy = (word "disabled", Disabled) ∷ (word "enabled", Enabled) ∷ (word "preferred", Preferred) ∷ (word "prefered", Preferred) ∷ []
+wordsOf Privacy =
+    (word "disabled", Disabled) ∷ (word "enabled", Enabled) ∷ (word "preferred", Preferred) ∷ (word "prefered", Preferred) ∷ []
 wordsOf Security = (word "psk", Psk) ∷ (word "ieee8021x", Ieee8021x) ∷ (word "none", None) ∷ (word "wep", Wep) ∷ []
 
 unfoldable pub wordOf : WordList → List ℕ → Option Word
@@ -57,7 +58,8 @@ abbrev pub staticOf : List (List ℕ) → Option IPv4
 staticOf [] = none
 staticOf (a ∷ []) = none
 staticOf (a ∷ m ∷ []) = andThen (address a) (λ x. andThen (lengthOf m) (λ n. some (static x n none)))
-staticOf (a ∷ m ∷ g ∷ []) = andThen (address a) (λ x. andThen (lengthOf m) (λ n. andThen (address g) (λ y. some (static x n (some y)))))
+staticOf (a ∷ m ∷ g ∷ []) =
+    andThen (address a) (λ x. andThen (lengthOf m) (λ n. andThen (address g) (λ y. some (static x n (some y)))))
 staticOf (a ∷ m ∷ g ∷ h ∷ t) = none
 
 -- "ConnMan IPv4 is `off`, `dhcp`, or" those

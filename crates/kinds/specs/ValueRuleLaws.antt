@@ -73,11 +73,13 @@ are-entries v {l} h =
 
 -- ---- strings
 
-text-is : (d : Dialect) (low high : ℕ) (v : List ℕ) {t : List ℕ} → D.string d low high v ≡ some t → TextIs d low high v t
+text-is : (d : Dialect) (low high : ℕ) (v : List ℕ) {t : List ℕ} → D.string d low high v ≡ some t →
+    TextIs d low high v t
 unfolding D.string
 text-is d low high v e = let s = sized-is low high (stringOf d v) e in record { is = string-is d v (s .1); size = s .0 }
 
-is-text : (d : Dialect) (low high : ℕ) (v : List ℕ) {t : List ℕ} → TextIs d low high v t → D.string d low high v ≡ some t
+is-text : (d : Dialect) (low high : ℕ) (v : List ℕ) {t : List ℕ} → TextIs d low high v t →
+    D.string d low high v ≡ some t
 unfolding D.string
 is-text d low high v h = is-sized low high (stringOf d v) (h .size) (is-string d v (h .is))
 
@@ -95,13 +97,16 @@ typed-value d (K.Named l) v e = given d (K.Named l) v T.word (D.wordOf l v) (λ 
 typed-value d K.Address v e = given d K.Address v T.address (address v) (λ a q. R.address (address-is v q)) e
 typed-value d K.Netmask v e = given d K.Netmask v T.maskLength (netmask v) (λ n q. R.netmask (netmask-is v q)) e
 typed-value d K.Ipv4 v e = given d K.Ipv4 v T.ipv4 (D.ipv4 v) (λ i q. R.ipv4 (ipv4-is v q)) e
-typed-value d (K.Addresses sep) v e = given d (K.Addresses sep) v T.addresses (addresses sep v) (λ l q. R.addresses (addresses-is sep v q)) e
+typed-value d (K.Addresses sep) v e =
+    given d (K.Addresses sep) v T.addresses (addresses sep v) (λ l q. R.addresses (addresses-is sep v q)) e
 typed-value d K.Entries v e = given d K.Entries v T.entries (D.entries v) (λ l q. R.entries (entries-are v q)) e
 typed-value d K.Mac v e = given d K.Mac v T.bytes (D.mac v) (λ b q. R.mac (mac-is v q)) e
 typed-value d K.Key v e = given d K.Key v T.bytes (D.key v) (λ b q. R.key (key-is v q)) e
 typed-value d K.Ssid v e = given d K.Ssid v T.bytes (D.ssid v) (λ b q. R.ssid (ssid-is v q)) e
-typed-value d K.Passphrase v e = given d K.Passphrase v T.bytes (D.passphrase d v) (λ b q. R.passphrase (text-is d 8 63 v q)) e
-typed-value d (K.Text low high) v e = given d (K.Text low high) v T.bytes (D.string d low high v) (λ b q. R.text (text-is d low high v q)) e
+typed-value d K.Passphrase v e =
+    given d K.Passphrase v T.bytes (D.passphrase d v) (λ b q. R.passphrase (text-is d 8 63 v q)) e
+typed-value d (K.Text low high) v e =
+    given d (K.Text low high) v T.bytes (D.string d low high v) (λ b q. R.text (text-is d low high v q)) e
 
 pub value-typed : (d : Dialect) (k : Kind) (v : List ℕ) {t : Typed} → ValueIs d k v t → typed d k v ≡ some t
 unfolding typed
@@ -130,7 +135,8 @@ escapes-whole d v h = let k = some-is (stringOf d v) (go (isSome (stringOf d v))
 whole-escapes : (d : Dialect) (v : List ℕ) → ((bytes : List ℕ) × StringIs d v bytes) → escapesBroken d v ≡ false
 whole-escapes d v h = ap (λ (o : Option (List ℕ)). not (isSome o)) (is-string d v (h .1))
 
-string-whole : (d : Dialect) (k : Kind) (v : List ℕ) → stringBroken d k v ≡ false → IsString k → (bytes : List ℕ) × StringIs d v bytes
+string-whole : (d : Dialect) (k : Kind) (v : List ℕ) → stringBroken d k v ≡ false → IsString k →
+    (bytes : List ℕ) × StringIs d v bytes
 string-whole d K.Flag v e h = absurd h
 string-whole d (K.Named l) v e h = absurd h
 string-whole d K.Address v e h = absurd h
@@ -144,7 +150,8 @@ string-whole d K.Ssid v e h = absurd h
 string-whole d K.Passphrase v e h = escapes-whole d v e
 string-whole d (K.Text low high) v e h = escapes-whole d v e
 
-pub judged-whole : (d : Dialect) (k : Kind) (v : List ℕ) → valueText v ≡ true → stringBroken d k v ≡ false → WholeText d k v
+pub judged-whole : (d : Dialect) (k : Kind) (v : List ℕ) → valueText v ≡ true → stringBroken d k v ≡ false →
+    WholeText d k v
 unfolding text
 judged-whole d k v h e =
     let p = and-true (all (textByte true) v) (utf8 v) h in

@@ -30,7 +30,8 @@ use Rattle.kinds.specs.Kinds.{IPv4, dhcp, off, static, lengthOf, staticO
 
 -- ---- strings, keys and names
 
-pub string-size : (d : Dialect) (low high : ℕ) (v : List ℕ) {t : List ℕ} → string d low high v ≡ some t → (low ≤ length t) × (length t ≤ high)
+pub string-size : (d : Dialect) (low high : ℕ) (v : List ℕ) {t : List ℕ} → string d low high v ≡ some t →
+    (low ≤ length t) × (length t ≤ high)
 unfolding string
 string-size d low high v {t} e =
     let b = sized-some low high (stringOf d v) e .0 in
@@ -74,13 +75,15 @@ unfolding lengthUpTo
 lengthUpTo-size zero m {n} e = absurd (Option·none-ne-some n e)
 lengthUpTo-size (suc k) m {n} e = go (eqb m (mask (suc k))) (λ f. lengthUpTo-size k m f) e
   where
-    go : (b : Bool) → (lengthUpTo k m ≡ some n → (1 ≤ n) × (n ≤ k)) → cond b (some (suc k)) (lengthUpTo k m) ≡ some n → (1 ≤ n) × (n ≤ suc k)
+    go : (b : Bool) → (lengthUpTo k m ≡ some n → (1 ≤ n) × (n ≤ k)) →
+        cond b (some (suc k)) (lengthUpTo k m) ≡ some n → (1 ≤ n) × (n ≤ suc k)
     go true ih f = let q = Option·some-injective (suc k) n f in (omega (arith, q), omega (arith, q))
     go false ih f = (ih f .0, omega (arith, ih f .1))
 
 pub netmask-good : (v : List ℕ) {n : ℕ} → netmask v ≡ some n → (1 ≤ n) × (n ≤ 32)
 unfolding netmask maskLength
-netmask-good v e = let a = then-some (address v) (λ a. maskLength (asNumber a)) e in lengthUpTo-size 32 (asNumber (a .0)) (a .2)
+netmask-good v e =
+    let a = then-some (address v) (λ a. maskLength (asNumber a)) e in lengthUpTo-size 32 (asNumber (a .0)) (a .2)
 
 pub prefix-good : (v : List ℕ) {n : ℕ} → prefixLength v ≡ some n → (1 ≤ n) × (n ≤ 32)
 unfolding prefixLength
@@ -89,7 +92,8 @@ prefix-good v e =
     let p = positive-is (m .0) (m .2) in
     (p .0, omega (arith, p .1, number-size 32 v (m .1)))
 
-pub addresses-good : (sep : Separator) (v : List ℕ) {l : List (List ℕ)} → addresses sep v ≡ some l → (1 ≤ length l) × (length l ≤ 4) × (areAddresses l ≡ true)
+pub addresses-good : (sep : Separator) (v : List ℕ) {l : List (List ℕ)} → addresses sep v ≡ some l →
+    (1 ≤ length l) × (length l ≤ 4) × (areAddresses l ≡ true)
 addresses-good sep v {l} e =
     let h = addresses-bytes sep v e in
     (between-low {x = length l} 1 4 (h .0), between-high {x = length l} 1 4 (h .0), h .1)
@@ -150,7 +154,8 @@ data Tails : List Range → Type 0 where
   more : {r : Range} {rs : List Range} → Tail r → Tails rs → Tails (r ∷ rs)
 
 tail : (l h : ℕ) → 128 ≤ l → h < 256 → Tail (l to h)
-tail l h j k = record { within = λ x e. (omega (arith, between-low {x = x} l h e), omega (arith, between-high {x = x} l h e)) }
+tail l h j k =
+    record { within = λ x e. (omega (arith, between-low {x = x} l h e), omega (arith, between-high {x = x} l h e)) }
 
 no-tail : Tail (1 to 0)
 no-tail = record { within = λ x e. absurd (omega (arith, between-low {x = x} 1 0 e, between-high {x = x} 1 0 e)) }
@@ -243,22 +248,27 @@ utf8-ascii b s h = rw (follow-ascii b h)
 
 -- what is read of UTF-8 is UTF-8; behind a backslash nothing is due
 abbrev Reads : Bool → List ℕ → Type 0
-Reads false s = (rs : List Range) → Tails rs → utf8From rs s ≡ true → (t : List ℕ) → reading false s ≡ some t → utf8From rs t ≡ true
+Reads false s =
+    (rs : List Range) → Tails rs → utf8From rs s ≡ true → (t : List ℕ) → reading false s ≡ some t → utf8From rs t ≡ true
 Reads true s = utf8 s ≡ true → (t : List ℕ) → reading true s ≡ some t → utf8 t ≡ true
 
-plain-reads : (c : ℕ) (s : List ℕ) → Reads false s → (rs : List Range) → Tails rs → utf8From rs (c ∷ s) ≡ true → (u : List ℕ) → reading false s ≡ some u → utf8From rs (c ∷ u) ≡ true
+plain-reads : (c : ℕ) (s : List ℕ) → Reads false s → (rs : List Range) → Tails rs → utf8From rs (c ∷ s) ≡ true →
+    (u : List ℕ) → reading false s ≡ some u → utf8From rs (c ∷ u) ≡ true
 unfolding utf8From
 plain-reads c s ih [] k h u e = ih (follow c) (follow-tails c) h u e
 plain-reads c s ih (r ∷ rs) (more f k) h u e =
     let g = and-true (between (r .low) (r .high) c) (utf8From rs s) h in
     rw (g .0) (ih rs k (g .1) u e)
 
-backslash-reads : (s : List ℕ) → Reads true s → (rs : List Range) → Tails rs → utf8From rs (92 ∷ s) ≡ true → (t : List ℕ) → reading true s ≡ some t → utf8From rs t ≡ true
+backslash-reads : (s : List ℕ) → Reads true s → (rs : List Range) → Tails rs → utf8From rs (92 ∷ s) ≡ true →
+    (t : List ℕ) → reading true s ≡ some t → utf8From rs t ≡ true
 unfolding utf8From
 backslash-reads s ih [] k h t e = ih (sym (utf8-ascii 92 s (omega arith)) ∙ h) t e
-backslash-reads s ih (r ∷ rs) (more f k) h t e = absurd (omega (arith, f .within 92 (and-true (between (r .low) (r .high) 92) (utf8From rs s) h .0) .0))
+backslash-reads s ih (r ∷ rs) (more f k) h t e =
+    absurd (omega (arith, f .within 92 (and-true (between (r .low) (r .high) 92) (utf8From rs s) h .0) .0))
 
-letter-reads : (c : ℕ) (s : List ℕ) → Reads false s → eqb (meant c) 0 ≡ false → utf8 (c ∷ s) ≡ true → (u : List ℕ) → reading false s ≡ some u → utf8 (meant c ∷ u) ≡ true
+letter-reads : (c : ℕ) (s : List ℕ) → Reads false s → eqb (meant c) 0 ≡ false → utf8 (c ∷ s) ≡ true → (u : List ℕ) →
+    reading false s ≡ some u → utf8 (meant c ∷ u) ≡ true
 letter-reads c s ih m h u e =
     let a = letter-ascii c m in
     utf8-ascii (meant c) u (a .1) ∙ ih [] end (sym (utf8-ascii c s (a .0)) ∙ h) u e
@@ -267,7 +277,8 @@ first-reads : (c : ℕ) (s : List ℕ) → Reads true s → Reads false s → Re
 unfolding reading
 first-reads c s x y rs k h t e = go (eqb c 92) refl e
   where
-    go : (b : Bool) → eqb c 92 ≡ b → cond b (reading true s) (prepend c (reading false s)) ≡ some t → utf8From rs t ≡ true
+    go : (b : Bool) → eqb c 92 ≡ b → cond b (reading true s) (prepend c (reading false s)) ≡ some t →
+        utf8From rs t ≡ true
     go true q f = backslash-reads s x rs k (rw (eqb-true c 92 q) at h) t f
     go false q f = let p = prepend-some c (reading false s) f in rw (p .2) at (plain-reads c s y rs k h (p .0) (p .1))
 
@@ -277,7 +288,8 @@ second-reads c s y h t e = go (eqb (meant c) 0) refl e
   where
     go : (b : Bool) → eqb (meant c) 0 ≡ b → cond b none (prepend (meant c) (reading false s)) ≡ some t → utf8 t ≡ true
     go true q f = absurd (Option·none-ne-some t f)
-    go false q f = let p = prepend-some (meant c) (reading false s) f in rw (p .2) at (letter-reads c s y q h (p .0) (p .1))
+    go false q f =
+        let p = prepend-some (meant c) (reading false s) f in rw (p .2) at (letter-reads c s y q h (p .0) (p .1))
 
 reads : (b : Bool) (s : List ℕ) → Reads b s
 unfolding reading
@@ -287,23 +299,30 @@ reads false (c ∷ s) = first-reads c s (reads true s) (reads false s)
 reads true (c ∷ s) = second-reads c s (reads false s)
 
 -- and none of its bytes is 0
-read-bytes : (b : Bool) (s : List ℕ) → all (textByte true) s ≡ true → (t : List ℕ) → reading b s ≡ some t → all (textByte false) t ≡ true
+read-bytes : (b : Bool) (s : List ℕ) → all (textByte true) s ≡ true → (t : List ℕ) → reading b s ≡ some t →
+    all (textByte false) t ≡ true
 unfolding reading
 read-bytes false [] h t e = rw (← Option·some-injective [] t e)
 read-bytes true [] h t e = absurd (Option·none-ne-some t e)
-read-bytes false (c ∷ s) h t e = go (eqb c 92) (λ u f. read-bytes true s (k .1) u f) (λ u f. read-bytes false s (k .1) u f) e
+read-bytes false (c ∷ s) h t e =
+    go (eqb c 92) (λ u f. read-bytes true s (k .1) u f) (λ u f. read-bytes false s (k .1) u f) e
   where
     k : (textByte true c ≡ true) × (all (textByte true) s ≡ true)
     k = all-cons (textByte true) c s h
 
-    go : (b : Bool) → ((u : List ℕ) → reading true s ≡ some u → all (textByte false) u ≡ true) → ((u : List ℕ) → reading false s ≡ some u → all (textByte false) u ≡ true) → cond b (reading true s) (prepend c (reading false s)) ≡ some t → all (textByte false) t ≡ true
+    go : (b : Bool) → ((u : List ℕ) → reading true s ≡ some u → all (textByte false) u ≡ true) →
+        ((u : List ℕ) → reading false s ≡ some u → all (textByte false) u ≡ true) →
+        cond b (reading true s) (prepend c (reading false s)) ≡ some t → all (textByte false) t ≡ true
     go true x y f = x t f
     go false x y f =
         let p = prepend-some c (reading false s) f in
         rw (← p .2, value-byte c (k .0)) (y (p .0) (p .1))
-read-bytes true (c ∷ s) h t e = go (eqb (meant c) 0) refl (λ u f. read-bytes false s (all-cons (textByte true) c s h .1) u f) e
+read-bytes true (c ∷ s) h t e =
+    go (eqb (meant c) 0) refl (λ u f. read-bytes false s (all-cons (textByte true) c s h .1) u f) e
   where
-    go : (b : Bool) → eqb (meant c) 0 ≡ b → ((u : List ℕ) → reading false s ≡ some u → all (textByte false) u ≡ true) → cond b none (prepend (meant c) (reading false s)) ≡ some t → all (textByte false) t ≡ true
+    go : (b : Bool) → eqb (meant c) 0 ≡ b →
+        ((u : List ℕ) → reading false s ≡ some u → all (textByte false) u ≡ true) →
+        cond b none (prepend (meant c) (reading false s)) ≡ some t → all (textByte false) t ≡ true
     go true q y f = absurd (Option·none-ne-some t f)
     go false q y f =
         let p = prepend-some (meant c) (reading false s) f in
@@ -315,6 +334,8 @@ unescape-text v {t} h e =
     let k = and-true (all (textByte true) v) (utf8 v) h in
     rw (read-bytes false v (k .0) t e) (reads false v [] end (k .1) t e)
 
-pub string-text : (d : Dialect) (v : List ℕ) {t : List ℕ} → valueText v ≡ true → stringOf d v ≡ some t → recordText t ≡ true
+pub string-text : (d : Dialect) (v : List ℕ) {t : List ℕ} → valueText v ≡ true → stringOf d v ≡ some t →
+    recordText t ≡ true
 string-text Iwd v h e = unescape-text v h e
-string-text ConnMan v {t} h e = subst (λ (s : List ℕ). recordText s ≡ true) (Option·some-injective v t e) (connman-text v h)
+string-text ConnMan v {t} h e =
+    subst (λ (s : List ℕ). recordText s ≡ true) (Option·some-injective v t e) (connman-text v h)

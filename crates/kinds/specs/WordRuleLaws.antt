@@ -27,7 +27,8 @@ module _ {A : Type 0} where
   named-row v [] {x} e = absurd (Option·none-ne-some x e)
   named-row v (r ∷ t) {x} e = go (same v (r .0)) refl (λ k. named-row v t k) e
     where
-      go : (b : Bool) → same v (r .0) ≡ b → (named v t ≡ some x → Some (RowOf v x) t) → cond b (some (r .1)) (named v t) ≡ some x → Some (RowOf v x) (r ∷ t)
+      go : (b : Bool) → same v (r .0) ≡ b → (named v t ≡ some x → Some (RowOf v x) t) →
+          cond b (some (r .1)) (named v t) ≡ some x → Some (RowOf v x) (r ∷ t)
       go true q f e = inl (same-eq v (r .0) q, sym (Option·some-injective (r .1) x e))
       go false q f e = inr (f e)
 
@@ -35,7 +36,8 @@ module _ {A : Type 0} where
   abbrev Found : List (List ℕ × A) → List (List ℕ × A) → Type 0
   Found t rows = Each (λ row. named (row .0) t ≡ some (row .1)) rows
 
-  row-named : (t rows : List (List ℕ × A)) → Found t rows → (v : List ℕ) {x : A} → Some (RowOf v x) rows → named v t ≡ some x
+  row-named : (t rows : List (List ℕ × A)) → Found t rows → (v : List ℕ) {x : A} → Some (RowOf v x) rows →
+      named v t ≡ some x
   row-named t [] d v h = absurd h
   row-named t (r ∷ rows) d v (inl h) = ap (λ (u : List ℕ). named u t) (h .0) ∙ d .0 ∙ ap some (sym (h .1))
   row-named t (r ∷ rows) d v (inr h) = row-named t rows (d .1) v h

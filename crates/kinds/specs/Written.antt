@@ -37,7 +37,8 @@ pub record Stands (v : List ℕ) : Type 0 where
 pub escape-stands : (t : List ℕ) → recordText t ≡ true → Stands (escape t)
 escape-stands t h = record { text = escape-text t ∙ h; line = escape-line t; start = escape-start t }
 
-pub string-escape : (low high : ℕ) (t : List ℕ) → low ≤ length t → length t ≤ high → string Iwd low high (escape t) ≡ some t
+pub string-escape : (low high : ℕ) (t : List ℕ) → low ≤ length t → length t ≤ high →
+    string Iwd low high (escape t) ≡ some t
 unfolding string
 string-escape low high t h g = rw (unescape-escape t, inside {x = length t} low high h g)
 
@@ -65,8 +66,10 @@ lower-printable : (x : ℕ) → isLowerHex x ≡ true → isPrintable x ≡ true
 lower-printable x h = go (isDigit x) refl h
   where
     go : (t : Bool) → isDigit x ≡ t → t || between 97 102 x ≡ true → isPrintable x ≡ true
-    go true e f = inside {x = x} 32 126 (omega (arith, between-low {x = x} 48 57 e)) (omega (arith, between-high {x = x} 48 57 e))
-    go false e f = inside {x = x} 32 126 (omega (arith, between-low {x = x} 97 102 f)) (omega (arith, between-high {x = x} 97 102 f))
+    go true e f =
+        inside {x = x} 32 126 (omega (arith, between-low {x = x} 48 57 e)) (omega (arith, between-high {x = x} 48 57 e))
+    go false e f =
+        inside {x = x} 32 126 (omega (arith, between-low {x = x} 97 102 f)) (omega (arith, between-high {x = x} 97 102 f))
 
 pub hex-stands : (t : List ℕ) → all isByte t ≡ true → Stands (hex t)
 hex-stands t b =
@@ -82,7 +85,8 @@ key-hex k n b =
 -- ---- addresses and lists of them
 
 dotted-printable : (x : ℕ) → between 46 57 x ≡ true → isPrintable x ≡ true
-dotted-printable x h = inside {x = x} 32 126 (omega (arith, between-low {x = x} 46 57 h)) (omega (arith, between-high {x = x} 46 57 h))
+dotted-printable x h =
+    inside {x = x} 32 126 (omega (arith, between-low {x = x} 46 57 h)) (omega (arith, between-high {x = x} 46 57 h))
 
 pub dotted-stands : (a : List ℕ) → isAddress a ≡ true → Stands (dotted a)
 dotted-stands a w =
@@ -97,7 +101,8 @@ list-printable x h = go (eqb x 32) refl h
     go false e f = dotted-printable x f
 
 pub listed-stands : (l : List (List ℕ)) → areAddresses l ≡ true → Stands (listed Spaces l)
-listed-stands l w = printable-stands (listed Spaces l) (all-weaken (isListByte Spaces) isPrintable list-printable (listed Spaces l) (listed-bytes Spaces l w)) (start l w)
+listed-stands l w =
+    printable-stands (listed Spaces l) (all-weaken (isListByte Spaces) isPrintable list-printable (listed Spaces l) (listed-bytes Spaces l w)) (start l w)
   where
     start : (l : List (List ℕ)) → areAddresses l ≡ true → after isBlank (listed Spaces l) ≡ listed Spaces l
     start [] w = refl

@@ -21,30 +21,39 @@ extends-append Iwd (x ∷ n) r h = refl
 
 header-render : (d : Dialect) (n : List ℕ) → HeaderText d n → lineOf d (render d (header n)) ≡ header n
 unfolding lineOf bracketOf
-header-render d n w = rw (extends-append d n (93 ∷ []) (w .some), w .plain, front-append isHeaderByte n 93 [] (w .bytes) refl, after-append isHeaderByte n 93 [] (w .bytes) refl, w .some)
+header-render d n w =
+    rw (extends-append d n (93 ∷ []) (w .some), w .plain, front-append isHeaderByte n 93 [] (w .bytes) refl, after-append isHeaderByte n 93 [] (w .bytes) refl, w .some)
 
 -- ---- a setting
 
 -- bytes that are in no key
-pub no-key : (d : Dialect) → (isKeyByte d 32 ≡ false) × (isKeyByte d 9 ≡ false) × (isKeyByte d 35 ≡ false) × (isKeyByte d 91 ≡ false) × (isKeyByte d 61 ≡ false) × (isKeyByte d 10 ≡ false)
+pub no-key : (d : Dialect) →
+    (isKeyByte d 32 ≡ false) × (isKeyByte d 9 ≡ false) × (isKeyByte d 35 ≡ false) × (isKeyByte d 91 ≡ false) × (isKeyByte d 61 ≡ false) × (isKeyByte d 10 ≡ false)
 unfolding isKeyByte
 no-key Iwd = (refl, refl, refl, refl, refl, refl)
 no-key ConnMan = (refl, refl, refl, refl, refl, refl)
 
-key-body : (d : Dialect) (k r : List ℕ) → empty k ≡ false → all (isKeyByte d) k ≡ true → lineOf d (k ++ r) ≡ settingOf d (k ++ r)
+key-body : (d : Dialect) (k r : List ℕ) → empty k ≡ false → all (isKeyByte d) k ≡ true →
+    lineOf d (k ++ r) ≡ settingOf d (k ++ r)
 unfolding lineOf
 key-body d [] r e h = absurd (true≢false e)
 key-body d (x ∷ k) r e h =
     let p : isKeyByte d x ≡ true = all-cons (isKeyByte d) x k h .0 in
     rw (pass-other (isKeyByte d) 32 (no-key d .0) x p, pass-other (isKeyByte d) 9 (no-key d .1) x p, pass-other (isKeyByte d) 35 (no-key d .2) x p, pass-other (isKeyByte d) 91 (no-key d .3) x p)
 
-key-equal : (d : Dialect) (k : List ℕ) (y : ℕ) (r : List ℕ) → all (isKeyByte d) k ≡ true → isKeyByte d y ≡ false → settingOf d (k ++ y ∷ r) ≡ equalOf d k (after isBlank (y ∷ r))
+key-equal : (d : Dialect) (k : List ℕ) (y : ℕ) (r : List ℕ) → all (isKeyByte d) k ≡ true → isKeyByte d y ≡ false →
+    settingOf d (k ++ y ∷ r) ≡ equalOf d k (after isBlank (y ∷ r))
 unfolding settingOf
-key-equal d k y r h n = ap₂ (equalOf d) (front-append (isKeyByte d) k y r h n) (ap (after isBlank) (after-append (isKeyByte d) k y r h n))
+key-equal d k y r h n =
+    ap₂ (equalOf d) (front-append (isKeyByte d) k y r h n) (ap (after isBlank) (after-append (isKeyByte d) k y r h n))
 
 setting-render : (d : Dialect) (k v : List ℕ) → SettingText d k v → lineOf d (render d (setting k v)) ≡ setting k v
-setting-render Iwd k v w = key-body Iwd k (61 ∷ v) (w .some) (w .bytes) ∙ key-equal Iwd k 61 v (w .bytes) (no-key Iwd .4) ∙ rw (w .some, w .start)
-setting-render ConnMan k v w = key-body ConnMan k (32 ∷ 61 ∷ 32 ∷ v) (w .some) (w .bytes) ∙ key-equal ConnMan k 32 (61 ∷ 32 ∷ v) (w .bytes) (no-key ConnMan .0) ∙ rw (w .some, w .start, w .end)
+setting-render Iwd k v w =
+    key-body Iwd k (61 ∷ v) (w .some) (w .bytes) ∙ key-equal Iwd k 61 v (w .bytes) (no-key Iwd .4)
+    ∙ rw (w .some, w .start)
+setting-render ConnMan k v w =
+    key-body ConnMan k (32 ∷ 61 ∷ 32 ∷ v) (w .some) (w .bytes)
+    ∙ key-equal ConnMan k 32 (61 ∷ 32 ∷ v) (w .bytes) (no-key ConnMan .0) ∙ rw (w .some, w .start, w .end)
 
 -- ---- a line
 
@@ -64,14 +73,17 @@ pub render-line : (d : Dialect) (l : Line) → Writable d l → all inLine (rend
 render-line d blank w = refl
 render-line d comment w = refl
 render-line d (header n) w = all-append inLine n (93 ∷ []) (all-other isHeaderByte 10 refl n (w .bytes)) refl
-render-line d (setting k v) w = all-append inLine k (equals d ++ v) (all-other (isKeyByte d) 10 (no-key d .5) k (w .bytes)) (all-append inLine (equals d) v (equals-line d) (w .line))
+render-line d (setting k v) w =
+    all-append inLine k (equals d ++ v) (all-other (isKeyByte d) 10 (no-key d .5) k (w .bytes)) (all-append inLine (equals d) v (equals-line d) (w .line))
 render-line d (broken b) w = absurd w
 
 -- ---- lines
 
 pub lines-rendered : (d : Dialect) (ls : List Line) → AllWritable d ls → lines (rendered d ls) ≡ map (render d) ls
 lines-rendered d [] w = refl
-lines-rendered d (l ∷ ls) w = lines-append (render d l) (rendered d ls) (render-line d l (w .0)) ∙ ap (λ (r : List (List ℕ)). render d l ∷ r) (lines-rendered d ls (w .1))
+lines-rendered d (l ∷ ls) w =
+    lines-append (render d l) (rendered d ls) (render-line d l (w .0))
+    ∙ ap (λ (r : List (List ℕ)). render d l ∷ r) (lines-rendered d ls (w .1))
 
 map-render : (d : Dialect) (ls : List Line) → AllWritable d ls → map (lineOf d) (map (render d) ls) ≡ ls
 map-render d [] w = refl

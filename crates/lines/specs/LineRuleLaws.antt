@@ -68,7 +68,8 @@ trimmed-white : (s : List ℕ) → trimmed s ≡ [] → Whitespace s
 trimmed-white [] e = refl
 trimmed-white (x ∷ s) e = go (isBlank x && all isBlank s) refl e
   where
-    go : (b : Bool) → isBlank x && all isBlank s ≡ b → cond b [] (x ∷ trimmed s) ≡ [] → isBlank x && all isBlank s ≡ true
+    go : (b : Bool) → isBlank x && all isBlank s ≡ b → cond b [] (x ∷ trimmed s) ≡ [] →
+        isBlank x && all isBlank s ≡ true
     go true q e = q
     go false q e = absurd (cons-nil x (trimmed s) e)
 
@@ -92,7 +93,8 @@ trimmed-is : (s : List ℕ) → Trimmed (trimmed s) s
 trimmed-is [] = record { trail = []; white = refl; is = refl; closed = closed-none }
 trimmed-is (x ∷ s) = go (isBlank x && all isBlank s) refl (trimmed-is s)
   where
-    go : (b : Bool) → isBlank x && all isBlank s ≡ b → Trimmed (trimmed s) s → Trimmed (cond b [] (x ∷ trimmed s)) (x ∷ s)
+    go : (b : Bool) → isBlank x && all isBlank s ≡ b → Trimmed (trimmed s) s →
+        Trimmed (cond b [] (x ∷ trimmed s)) (x ∷ s)
     go true q h = record { trail = x ∷ s; white = q; is = refl; closed = closed-none }
     go false q h = record {
       trail = h .trail;
@@ -202,7 +204,8 @@ unfolding bracketOf
 bracket-known d s e =
     go (extends d s) (not (empty (front isHeaderByte s)) && closed (after isHeaderByte s)) (front isHeaderByte s) e
   where
-    go : (a b : Bool) (n : List ℕ) → ¬ (cond a (broken Extension) (cond b (header n) (broken BadHeader)) ≡ broken Unrecognized)
+    go : (a b : Bool) (n : List ℕ) →
+        ¬ (cond a (broken Extension) (cond b (header n) (broken BadHeader)) ≡ broken Unrecognized)
     go true b n e = let z : _≡_ {A = ℕ} 0 1 = cc in omega arith
     go false true n e = let z : _≡_ {A = ℕ} 0 1 = cc in omega arith
     go false false n e = let z : _≡_ {A = ℕ} 0 1 = cc in omega arith
@@ -279,7 +282,8 @@ module _ (d : Dialect) (s l : List ℕ) (b : Indented s l) where
   setting-parts y q e i =
       rw (front-after isBlank q, ← i, ← e, front-after isBlank (after (isKeyByte d) s)) (front-after (isKeyByte d) s)
 
-  setting-is : (y : ℕ) (q : List ℕ) → behind ≡ y ∷ q → not (empty key) && eqb y 61 ≡ true → SettingLine d key (ended d (after isBlank q)) l
+  setting-is : (y : ℕ) (q : List ℕ) → behind ≡ y ∷ q → not (empty key) && eqb y 61 ≡ true →
+      SettingLine d key (ended d (after isBlank q)) l
   setting-is y q i h =
       let p = and-true (not (empty key)) (eqb y 61) h in
       record {

@@ -46,7 +46,8 @@ not-among {A} {m} {ls} e a = go (a .before) (sym e ∙ a .is)
     go (x ∷ b) q = some-line (sym q)
 
 -- what holds of the first and of each other line holds of each
-among-each : (P : ℕ → Type 0) (l : ℕ) (ls : List ℕ) → P l → ((m : ℕ) → Among m ls → P m) → (m : ℕ) → Among m (l ∷ ls) → P m
+among-each : (P : ℕ → Type 0) (l : ℕ) (ls : List ℕ) → P l → ((m : ℕ) → Among m ls → P m) → (m : ℕ) →
+    Among m (l ∷ ls) → P m
 among-each P l ls p f m a = go (a .before) (a .is)
   where
     go : (b : List ℕ) → l ∷ ls ≡ b ++ m ∷ a .behind → P m
@@ -55,10 +56,12 @@ among-each P l ls p f m a = go (a .before) (a .is)
 
 pub earliest-is : (ls : List ℕ) {l : ℕ} → earliest ls ≡ some l → Earliest ls l
 earliest-is [] {l} e = absurd (Option·none-ne-some l e)
-earliest-is (x ∷ xs) {l} e = go (earliest xs) refl (λ (m : ℕ) q. earliest-is xs {l = m} q) (Option·some-injective (least x (earliest xs)) l e)
+earliest-is (x ∷ xs) {l} e =
+    go (earliest xs) refl (λ (m : ℕ) q. earliest-is xs {l = m} q) (Option·some-injective (least x (earliest xs)) l e)
   where
     here : (y : ℕ) → y ≡ l → ((m : ℕ) → Among m xs → y ≤ m) → y ≡ x → Earliest (x ∷ xs) l
-    here y q f p = record { among = record { before = []; behind = xs; is = ap (λ (z : ℕ). z ∷ xs) (sym p ∙ q) }; first = among-each (λ m. l ≤ m) x xs (omega (arith, q, p)) (λ m a. omega (arith, f m a, q)) }
+    here y q f p =
+        record { among = record { before = []; behind = xs; is = ap (λ (z : ℕ). z ∷ xs) (sym p ∙ q) }; first = among-each (λ m. l ≤ m) x xs (omega (arith, q, p)) (λ m a. omega (arith, f m a, q)) }
 
     there : (y : ℕ) → y ≡ l → Earliest xs y → y ≤ x → Earliest (x ∷ xs) l
     there y q i h =
@@ -67,7 +70,8 @@ earliest-is (x ∷ xs) {l} e = go (earliest xs) refl (λ (m : ℕ) q. earliest-i
           first = among-each (λ m. l ≤ m) x xs (omega (arith, q, h)) (λ m a. omega (arith, i .first m a, q));
         }
 
-    go : (o : Option ℕ) → earliest xs ≡ o → ((m : ℕ) → earliest xs ≡ some m → Earliest xs m) → least x o ≡ l → Earliest (x ∷ xs) l
+    go : (o : Option ℕ) → earliest xs ≡ o → ((m : ℕ) → earliest xs ≡ some m → Earliest xs m) → least x o ≡ l →
+        Earliest (x ∷ xs) l
     go none q f e = here x e (λ m a. not-among (earliest-none xs q) a) refl
     go (some y) q f e = pick (leb x y) refl e
       where
@@ -90,7 +94,9 @@ not-false : (b : Bool) → not b ≡ false → b ≡ true
 not-false true e = refl
 not-false false e = sym e
 
-no-lines : (a b c : Bool) (t s i m p d k : Option Entry) → lineIf a t ++ lineIf b s ++ lineIf c i ++ lineGiven m ++ lineGiven p ++ lineGiven d ++ lineGiven k ≡ [] → (a ≡ false) × (b ≡ false) × (c ≡ false) × (m ≡ none) × (p ≡ none) × (d ≡ none) × (k ≡ none)
+no-lines : (a b c : Bool) (t s i m p d k : Option Entry) →
+    lineIf a t ++ lineIf b s ++ lineIf c i ++ lineGiven m ++ lineGiven p ++ lineGiven d ++ lineGiven k ≡ [] →
+    (a ≡ false) × (b ≡ false) × (c ≡ false) × (m ≡ none) × (p ≡ none) × (d ≡ none) × (k ≡ none)
 no-lines true b c t s i m p d k e = some-line e
 no-lines false true c t s i m p d k e = some-line e
 no-lines false false true t s i m p d k e = some-line e

@@ -21,7 +21,8 @@ use Rattle.written.specs.Parts.{Within}
 use Rattle.joins.specs.Joins.{secretFrom, ipv4OrDhcp, nameFrom, serviceJoin}
 
 -- what a kind reads has at most m elements
-read-short : {A : Type 0} (f : List ℕ → Option (List A)) (m : ℕ) → ((v : List ℕ) (t : List A) → f v ≡ some t → length t ≤ m) → (o : Option Entry) → length (plain (readAs f o)) ≤ m
+read-short : {A : Type 0} (f : List ℕ → Option (List A)) (m : ℕ) →
+    ((v : List ℕ) (t : List A) → f v ≡ some t → length t ≤ m) → (o : Option Entry) → length (plain (readAs f o)) ≤ m
 read-short f m h none = omega arith
 read-short {A} f m h (some e) = go (f (e .value)) refl
   where

@@ -19,7 +19,8 @@ use Rattle.pass.specs.declared.Walked.the-variants.{Through, Stopped}
 
 -- no line is faulty, and the state and the table hold of the groups of the whole file; or the first faulty line
 abbrev pub WalkIs : Dialect → List ℕ → ℕ → List ℕ → Walked → Type 0
-WalkIs d file w y (Through st) = (lineFault d 1 0 [] (lines file) ≡ none) × Holds d file w st y (grown d 1 0 [] (lines file))
+WalkIs d file w y (Through st) =
+    (lineFault d 1 0 [] (lines file) ≡ none) × Holds d file w st y (grown d 1 0 [] (lines file))
 WalkIs d file w y (Stopped r l) = lineFault d 1 0 [] (lines file) ≡ some (record { refusal = r; line = l })
 
 pub record Walks (d : Dialect) (file : List ℕ) (w : ℕ) (y : List ℕ) (r : Walked) : Type 0 where

@@ -301,7 +301,8 @@ Saturday = (d : Dialect) (name file : List ℕ) (n : ℕ) → FaultyPassphrase d
 -- line gives Security it needs one exactly when a line gives Passphrase
 pub record SecurityKept (name file : List ℕ) (w : ℕ) (j : Join) : Type 0 where
   pub psk : (e : Entry) → settingOf w file (word "Security") ≡ some e → e .value ≡ word "psk" → needsKey j ≡ true
-  pub open-network : (e : Entry) → settingOf w file (word "Security") ≡ some e → e .value ≡ word "none" → needsKey j ≡ false
+  pub open-network : (e : Entry) → settingOf w file (word "Security") ≡ some e → e .value ≡ word "none" →
+      needsKey j ≡ false
   pub absent :
       settingOf w file (word "Security") ≡ none
       → needsKey j ≡ given (word "Passphrase") (serviceAt w (sectionsOf ConnMan file))

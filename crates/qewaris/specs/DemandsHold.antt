@@ -47,15 +47,19 @@ use Rattle.qewaris.specs.TableHolds.{settings-answer, service-answer}
 good-not : {r : Refusal} {l : ℕ} → Good ≡ Refused r l → ⊥
 good-not e = let z : _≡_ {A = ℕ} 0 1 = cc in omega (arith, z)
 
-unwritten : (w : Writing) (n f : List ℕ) {r : Refusal} {l : ℕ} → writtenAnswer w .answer ≡ Refused r l → Demands.Unwritten w n f r l
+unwritten : (w : Writing) (n f : List ℕ) {r : Refusal} {l : ℕ} → writtenAnswer w .answer ≡ Refused r l →
+    Demands.Unwritten w n f r l
 unwritten (writes a b) n f e = absurd (good-not e)
-unwritten (refuses q m) n f e = record { answer = ap (λ (a : Answer). record { answer = a; «name_len» = 0; «file_len» = 0 }) e; name = refl; file = refl }
+unwritten (refuses q m) n f e =
+    record { answer = ap (λ (a : Answer). record { answer = a; «name_len» = 0; «file_len» = 0 }) e; name = refl; file = refl }
 
-looked : (a : Answer) (o : Option Entry) {r : Refusal} {l : ℕ} → lookupOf a o .answer ≡ Refused r l → lookupOf a o ≡ record { answer = Refused r l; setting = none }
+looked : (a : Answer) (o : Option Entry) {r : Refusal} {l : ℕ} → lookupOf a o .answer ≡ Refused r l →
+    lookupOf a o ≡ record { answer = Refused r l; setting = none }
 looked Good o e = absurd (good-not e)
 looked (Refused q m) o e = ap (λ (a : Answer). record { answer = a; setting = none }) e
 
-unjoined : (j : Joined) (s : List (List ℕ)) {r : Refusal} {l : ℕ} → recordAnswer j .answer ≡ Refused r l → (recordAnswer j ≡ record { answer = Refused r l; «record» = zeroRecord }) × (serversAfter j s ≡ s)
+unjoined : (j : Joined) (s : List (List ℕ)) {r : Refusal} {l : ℕ} → recordAnswer j .answer ≡ Refused r l →
+    (recordAnswer j ≡ record { answer = Refused r l; «record» = zeroRecord }) × (serversAfter j s ≡ s)
 unjoined (J.joined i) s e = absurd (good-not e)
 unjoined (J.refused q m) s e = (ap (λ (a : Answer). record { answer = a; «record» = zeroRecord }) e, refl)
 
@@ -63,22 +67,30 @@ pub demand-1-refusal : Demands.Demand-1-refusal
 unfolding iwdRecord iwdRecordServers serviceRecord serviceRecordServers
 demand-1-refusal (Demands.check d name file) r l e = go (reading d name file) e
   where
-    go : (x : Reading) → asked x ≡ Refused r l → seenOf x ≡ record { number = numberOf r; line = l; settings = 0; services = 0 }
+    go : (x : Reading) → asked x ≡ Refused r l →
+        seenOf x ≡ record { number = numberOf r; line = l; settings = 0; services = 0 }
     go (R.Accepted n m) q = absurd (good-not q)
-    go (R.Refused s m) q = ap (λ (a : Answer). record { number = answerNumber a; line = answerLine a; settings = 0; services = 0 }) q
+    go (R.Refused s m) q =
+        ap (λ (a : Answer). record { number = answerNumber a; line = answerLine a; settings = 0; services = 0 }) q
 demand-1-refusal (Demands.iwd-settings name file s) r l e = go (asked (reading Iwd name file)) e
   where
-    go : (a : Answer) → iwdAnswerOf a (sectionsOf Iwd file) .answer ≡ Refused r l → (iwdAnswerOf a (sectionsOf Iwd file) ≡ record { answer = Refused r l; settings = iwdSettings (λ g k. none) }) × (iwdServersOf a (sectionsOf Iwd file) s ≡ s)
+    go : (a : Answer) → iwdAnswerOf a (sectionsOf Iwd file) .answer ≡ Refused r l →
+        (iwdAnswerOf a (sectionsOf Iwd file) ≡ record { answer = Refused r l; settings = iwdSettings (λ g k. none) }) × (iwdServersOf a (sectionsOf Iwd file) s ≡ s)
     go Good q = absurd (good-not q)
     go (Refused t m) q = (ap (λ (a : Answer). record { answer = a; settings = iwdSettings (λ g k. none) }) q, refl)
-demand-1-refusal (Demands.service-settings name file w s) r l e = go (askedOf w (reading ConnMan name file)) (serviceAt w (sectionsOf ConnMan file)) e
+demand-1-refusal (Demands.service-settings name file w s) r l e =
+    go (askedOf w (reading ConnMan name file)) (serviceAt w (sectionsOf ConnMan file)) e
   where
-    go : (a : Answer) (es : List Entry) → serviceAnswerOf a es .answer ≡ Refused r l → (serviceAnswerOf a es ≡ record { answer = Refused r l; settings = serviceSettings (λ k. none) }) × (serviceServersOf a es s ≡ s)
+    go : (a : Answer) (es : List Entry) → serviceAnswerOf a es .answer ≡ Refused r l →
+        (serviceAnswerOf a es ≡ record { answer = Refused r l; settings = serviceSettings (λ k. none) }) × (serviceServersOf a es s ≡ s)
     go Good es q = absurd (good-not q)
     go (Refused t m) es q = (ap (λ (a : Answer). record { answer = a; settings = serviceSettings (λ k. none) }) q, refl)
-demand-1-refusal (Demands.iwd-string group key name file) r l e = looked (asked (reading Iwd name file)) (entryOf key (entriesIn group (sectionsOf Iwd file))) e
-demand-1-refusal (Demands.global-string key name file) r l e = looked (asked (reading ConnMan name file)) (entryOf key (entriesIn (word "global") (sectionsOf ConnMan file))) e
-demand-1-refusal (Demands.service-string w key name file) r l e = looked (askedOf w (reading ConnMan name file)) (entryOf key (serviceAt w (sectionsOf ConnMan file))) e
+demand-1-refusal (Demands.iwd-string group key name file) r l e =
+    looked (asked (reading Iwd name file)) (entryOf key (entriesIn group (sectionsOf Iwd file))) e
+demand-1-refusal (Demands.global-string key name file) r l e =
+    looked (asked (reading ConnMan name file)) (entryOf key (entriesIn (word "global") (sectionsOf ConnMan file))) e
+demand-1-refusal (Demands.service-string w key name file) r l e =
+    looked (askedOf w (reading ConnMan name file)) (entryOf key (serviceAt w (sectionsOf ConnMan file))) e
 demand-1-refusal (Demands.iwd-record name file s) r l e = unjoined (iwdJoined name file) s e
 demand-1-refusal (Demands.service-record name file w s) r l e = unjoined (serviceJoined name file w) s e
 demand-1-refusal (Demands.write q s n f) r l e = unwritten (writing q s n f) n f e
@@ -101,7 +113,8 @@ pub demand-2-service-values : Demands.Demand-2-service-values
 demand-2-service-values name file n m e w key = service-gives name file e w key
 
 pub demand-2-iwd-fields : Demands.Demand-2-iwd-fields
-demand-2-iwd-fields name file e = iwd-settings-given name file (sym (settings-answer (asked (reading Iwd name file)) (sectionsOf Iwd file)) ∙ e)
+demand-2-iwd-fields name file e =
+    iwd-settings-given name file (sym (settings-answer (asked (reading Iwd name file)) (sectionsOf Iwd file)) ∙ e)
 
 pub demand-2-service-fields : Demands.Demand-2-service-fields
 demand-2-service-fields name file w e =
@@ -121,7 +134,8 @@ demand-2-round-trip r s n f w =
     }
   where
     is : writing r s n f ≡ writes (nameText (joined r s)) (fileText (joined r s))
-    is = rw (w .formed-is, w .placed, le-leb (length (nameText (joined r s))) (length n) (w .name-room), le-leb (length (fileText (joined r s))) (length f) (w .file-room))
+    is =
+        rw (w .formed-is, w .placed, le-leb (length (nameText (joined r s))) (length n) (w .name-room), le-leb (length (fileText (joined r s))) (length f) (w .file-room))
 
 -- ---- demand 3
 
@@ -129,7 +143,8 @@ pub demand-3 : Demands.Demand-3
 demand-3 name file w n f x y a m = M.demand-3 (m .movable) (m .writes)
 
 pub demand-3-record : Demands.Demand-3-record
-demand-3-record name file w n f x y a m = record { struct = M.record-kept (m .movable) (m .writes); servers = M.servers-kept (m .movable) (m .writes) }
+demand-3-record name file w n f x y a m =
+    record { struct = M.record-kept (m .movable) (m .writes); servers = M.servers-kept (m .movable) (m .writes) }
 
 pub demand-3-key : Demands.Demand-3-key
 demand-3-key name file w n f x y a h e = good-key-kept name file w n f h e
@@ -137,17 +152,26 @@ demand-3-key name file w n f x y a h e = good-key-kept name file w n f h e
 -- ---- that Saturday
 
 -- the refusal of a file is the answer of every call that reads it
-all-refuse : (name file : List ℕ) {d : Dialect} {r : Refusal} {l : ℕ} → reading d name file ≡ R.Refused r l → (c : Demands.Call) → Demands.ReadsFile name file d c → Demands.answerOf c ≡ Refused r l
+all-refuse : (name file : List ℕ) {d : Dialect} {r : Refusal} {l : ℕ} → reading d name file ≡ R.Refused r l →
+    (c : Demands.Call) → Demands.ReadsFile name file d c → Demands.answerOf c ≡ Refused r l
 unfolding iwdRecord serviceRecord moving
 all-refuse name file e c (Demands.by-check d) = ap asked e
-all-refuse name file e c (Demands.by-iwd-settings s) = ap (λ (q : Reading). iwdAnswerOf (asked q) (sectionsOf Iwd file) .answer) e
-all-refuse name file e c (Demands.by-service-settings w s) = ap (λ (q : Reading). serviceAnswerOf (askedOf w q) (serviceAt w (sectionsOf ConnMan file)) .answer) e
-all-refuse name file e c (Demands.by-iwd-string group key) = ap (λ (q : Reading). lookupOf (asked q) (entryOf key (entriesIn group (sectionsOf Iwd file))) .answer) e
-all-refuse name file e c (Demands.by-global-string key) = ap (λ (q : Reading). lookupOf (asked q) (entryOf key (entriesIn (word "global") (sectionsOf ConnMan file))) .answer) e
-all-refuse name file e c (Demands.by-service-string w key) = ap (λ (q : Reading). lookupOf (askedOf w q) (entryOf key (serviceAt w (sectionsOf ConnMan file))) .answer) e
-all-refuse name file e c (Demands.by-iwd-record s) = ap (λ (q : Reading). recordAnswer (J.orRefused (asked q) (J.joined (iwdJoin (networkName (networkOf name)) (iwdEntry (sectionsOf Iwd file))))) .answer) e
-all-refuse name file e c (Demands.by-service-record w s) = ap (λ (q : Reading). recordAnswer (J.orRefused (askedOf w q) (orNoPlace (noRecord (settingOf w file)) (serviceJoin (settingOf w file)))) .answer) e
-all-refuse name file e c (Demands.by-move w n f) = ap (λ (q : Reading). writtenAnswer (orRefused (askedOf w q) (movingOf (settingOf w file) n f)) .answer) e
+all-refuse name file e c (Demands.by-iwd-settings s) =
+    ap (λ (q : Reading). iwdAnswerOf (asked q) (sectionsOf Iwd file) .answer) e
+all-refuse name file e c (Demands.by-service-settings w s) =
+    ap (λ (q : Reading). serviceAnswerOf (askedOf w q) (serviceAt w (sectionsOf ConnMan file)) .answer) e
+all-refuse name file e c (Demands.by-iwd-string group key) =
+    ap (λ (q : Reading). lookupOf (asked q) (entryOf key (entriesIn group (sectionsOf Iwd file))) .answer) e
+all-refuse name file e c (Demands.by-global-string key) =
+    ap (λ (q : Reading). lookupOf (asked q) (entryOf key (entriesIn (word "global") (sectionsOf ConnMan file))) .answer) e
+all-refuse name file e c (Demands.by-service-string w key) =
+    ap (λ (q : Reading). lookupOf (askedOf w q) (entryOf key (serviceAt w (sectionsOf ConnMan file))) .answer) e
+all-refuse name file e c (Demands.by-iwd-record s) =
+    ap (λ (q : Reading). recordAnswer (J.orRefused (asked q) (J.joined (iwdJoin (networkName (networkOf name)) (iwdEntry (sectionsOf Iwd file))))) .answer) e
+all-refuse name file e c (Demands.by-service-record w s) =
+    ap (λ (q : Reading). recordAnswer (J.orRefused (askedOf w q) (orNoPlace (noRecord (settingOf w file)) (serviceJoin (settingOf w file)))) .answer) e
+all-refuse name file e c (Demands.by-move w n f) =
+    ap (λ (q : Reading). writtenAnswer (orRefused (askedOf w q) (movingOf (settingOf w file) n f)) .answer) e
 
 pub saturday : Demands.Saturday
 saturday d name file n p =

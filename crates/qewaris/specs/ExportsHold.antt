@@ -68,41 +68,54 @@ number-some N.Malformed = refl
 
 -- ---- the table
 
-reading-given : (k : ℕ) (rs : List Row) (r : Reading) → Given k rs (asked r) → listed k rs (readingAt r .number) (readingAt r .line) ≡ true
+reading-given : (k : ℕ) (rs : List Row) (r : Reading) → Given k rs (asked r) →
+    listed k rs (readingAt r .number) (readingAt r .line) ≡ true
 reading-given k rs (R.Accepted n m) h = h
 reading-given k rs (R.Refused r l) h = h
 
-text-given : (file : List ℕ) (rs : List Row) (a : Answer) (o : Option Entry) → Given (length (lines file)) (bare 0 ∷ rs) a → Holds (EntryStands file) o → listed (length (lines file)) (placed 0 ∷ rs) (textAt (placeOf (lookupOf a o)) .number) (textAt (placeOf (lookupOf a o)) .line) ≡ true
+text-given : (file : List ℕ) (rs : List Row) (a : Answer) (o : Option Entry) →
+    Given (length (lines file)) (bare 0 ∷ rs) a → Holds (EntryStands file) o →
+    listed (length (lines file)) (placed 0 ∷ rs) (textAt (placeOf (lookupOf a o)) .number) (textAt (placeOf (lookupOf a o)) .line) ≡ true
 text-given file rs Good none h e = rw (inside {x = 0} 0 (length (lines file)) (omega arith) (omega arith))
-text-given file rs Good (some x) h e = rw (inside {x = x .line} 0 (length (lines file)) (omega arith) (between-high {x = x .line} 1 (length (lines file)) (e .line)))
+text-given file rs Good (some x) h e =
+    rw (inside {x = x .line} 0 (length (lines file)) (omega arith) (between-high {x = x .line} 1 (length (lines file)) (e .line)))
 text-given file rs (Refused r l) o h e = rw (number-some r) (rw (number-some r) at h)
 
-known-given : (b : Bool) (w : Writing) → Given 0 writerRows (writtenAnswer w .answer) → Given 0 writerRows (writtenAnswer (cond b w (refuses N.Malformed 0)) .answer)
+known-given : (b : Bool) (w : Writing) → Given 0 writerRows (writtenAnswer w .answer) →
+    Given 0 writerRows (writtenAnswer (cond b w (refuses N.Malformed 0)) .answer)
 known-given true w h = h
 known-given false w h = refl
 
 module _ (name file : List ℕ) where
-  group-text-given : (d : Dialect) (group key : List ℕ) → listed (length (lines file)) (placed 0 ∷ ownRows d) (textAt (placeOf (lookupOf (asked (reading d name file)) (iwdEntry (sectionsOf d file) group key))) .number) (textAt (placeOf (lookupOf (asked (reading d name file)) (iwdEntry (sectionsOf d file) group key))) .line) ≡ true
-  group-text-given d group key = text-given file (ownRows d) (asked (reading d name file)) (iwdEntry (sectionsOf d file) group key) (asked-given d name file) (group-stands d file group key)
+  group-text-given : (d : Dialect) (group key : List ℕ) →
+      listed (length (lines file)) (placed 0 ∷ ownRows d) (textAt (placeOf (lookupOf (asked (reading d name file)) (iwdEntry (sectionsOf d file) group key))) .number) (textAt (placeOf (lookupOf (asked (reading d name file)) (iwdEntry (sectionsOf d file) group key))) .line) ≡ true
+  group-text-given d group key =
+      text-given file (ownRows d) (asked (reading d name file)) (iwdEntry (sectionsOf d file) group key) (asked-given d name file) (group-stands d file group key)
 
-  service-text-given : (w : ℕ) (key : List ℕ) → listed (length (lines file)) (placed 0 ∷ serviceRefusals) (textAt (placeOf (lookupOf (askedOf w (reading ConnMan name file)) (settingOf w file key))) .number) (textAt (placeOf (lookupOf (askedOf w (reading ConnMan name file)) (settingOf w file key))) .line) ≡ true
-  service-text-given w key = text-given file serviceRefusals (askedOf w (reading ConnMan name file)) (settingOf w file key) (asked-service-given name file w) (service-stands ConnMan file w key)
+  service-text-given : (w : ℕ) (key : List ℕ) →
+      listed (length (lines file)) (placed 0 ∷ serviceRefusals) (textAt (placeOf (lookupOf (askedOf w (reading ConnMan name file)) (settingOf w file key))) .number) (textAt (placeOf (lookupOf (askedOf w (reading ConnMan name file)) (settingOf w file key))) .line) ≡ true
+  service-text-given w key =
+      text-given file serviceRefusals (askedOf w (reading ConnMan name file)) (settingOf w file key) (asked-service-given name file w) (service-stands ConnMan file w key)
 
 pub exported-table : Exported-table
-exported-table (E.check-iwd name file) = reading-given (length (lines file)) (bare 0 ∷ ownRows Iwd) (reading Iwd name file) (asked-given Iwd name file)
-exported-table (E.check-connman name file) = reading-given (length (lines file)) (bare 0 ∷ ownRows ConnMan) (reading ConnMan name file) (asked-given ConnMan name file)
+exported-table (E.check-iwd name file) =
+    reading-given (length (lines file)) (bare 0 ∷ ownRows Iwd) (reading Iwd name file) (asked-given Iwd name file)
+exported-table (E.check-connman name file) =
+    reading-given (length (lines file)) (bare 0 ∷ ownRows ConnMan) (reading ConnMan name file) (asked-given ConnMan name file)
 exported-table (E.iwd-settings-of name file) = demand-1-table (D.iwd-settings name file noServers)
 exported-table (E.service-settings-of name file w) = demand-1-table (D.service-settings name file w noServers)
 exported-table (E.iwd-passphrase name file) = group-text-given name file Iwd (word "Security") (word "Passphrase")
 exported-table (E.iwd-domain-name name file) = group-text-given name file Iwd (word "IPv4") (word "DomainName")
 exported-table (E.global-name name file) = group-text-given name file ConnMan (word "global") (word "Name")
-exported-table (E.global-description name file) = group-text-given name file ConnMan (word "global") (word "Description")
+exported-table (E.global-description name file) =
+    group-text-given name file ConnMan (word "global") (word "Description")
 exported-table (E.service-name name file w) = service-text-given name file w (word "Name")
 exported-table (E.service-passphrase name file w) = service-text-given name file w (word "Passphrase")
 exported-table (E.service-domain name file w) = service-text-given name file w (word "Domain")
 exported-table (E.iwd-record name file) = demand-1-table (D.iwd-record name file noServers)
 exported-table (E.service-record name file w) = demand-1-table (D.service-record name file w noServers)
-exported-table (E.write-iwd c n f) = known-given (known c) (writing (recordIn c) (serversIn c) n f) (write-given (recordIn c) (serversIn c) n f)
+exported-table (E.write-iwd c n f) =
+    known-given (known c) (writing (recordIn c) (serversIn c) n f) (write-given (recordIn c) (serversIn c) n f)
 exported-table (E.move-service name file w n f) = demand-1-table (D.move name file w n f)
 
 -- ---- refusals; an answer that is good has the number 0
@@ -111,21 +124,27 @@ reading-zeros : (r : Reading) → 0 < readingAt r .number → reads (readingAt r
 reading-zeros (R.Accepted n m) h = absurd (omega arith)
 reading-zeros (R.Refused r l) h = refl
 
-text-zeros : (a : Answer) (o : Option Entry) → 0 < textAt (placeOf (lookupOf a o)) .number → says (textAt (placeOf (lookupOf a o))) ≡ zeroed (says (textAt (placeOf (lookupOf a o))))
+text-zeros : (a : Answer) (o : Option Entry) → 0 < textAt (placeOf (lookupOf a o)) .number →
+    says (textAt (placeOf (lookupOf a o))) ≡ zeroed (says (textAt (placeOf (lookupOf a o))))
 text-zeros Good o h = absurd (omega arith)
 text-zeros (Refused r l) o h = refl
 
-iwd-zeros : (a : Answer) (gs : List Section) → 0 < iwdSettingsAt (iwdAnswerOf a gs) (iwdServersOf a gs noServers) .number → iwd-settings (iwdSettingsAt (iwdAnswerOf a gs) (iwdServersOf a gs noServers)) ≡ zeroed (iwd-settings (iwdSettingsAt (iwdAnswerOf a gs) (iwdServersOf a gs noServers)))
+iwd-zeros : (a : Answer) (gs : List Section) →
+    0 < iwdSettingsAt (iwdAnswerOf a gs) (iwdServersOf a gs noServers) .number →
+    iwd-settings (iwdSettingsAt (iwdAnswerOf a gs) (iwdServersOf a gs noServers)) ≡ zeroed (iwd-settings (iwdSettingsAt (iwdAnswerOf a gs) (iwdServersOf a gs noServers)))
 unfolding keysOf
 iwd-zeros Good gs h = absurd (omega arith)
 iwd-zeros (Refused r l) gs h = refl
 
-service-zeros : (a : Answer) (es : List Entry) → 0 < serviceSettingsAt (serviceAnswerOf a es) (serviceServersOf a es noServers) .number → service-settings (serviceSettingsAt (serviceAnswerOf a es) (serviceServersOf a es noServers)) ≡ zeroed (service-settings (serviceSettingsAt (serviceAnswerOf a es) (serviceServersOf a es noServers)))
+service-zeros : (a : Answer) (es : List Entry) →
+    0 < serviceSettingsAt (serviceAnswerOf a es) (serviceServersOf a es noServers) .number →
+    service-settings (serviceSettingsAt (serviceAnswerOf a es) (serviceServersOf a es noServers)) ≡ zeroed (service-settings (serviceSettingsAt (serviceAnswerOf a es) (serviceServersOf a es noServers)))
 unfolding keysOf
 service-zeros Good es h = absurd (omega arith)
 service-zeros (Refused r l) es h = refl
 
-record-zeros : (j : Joined) → 0 < recordAnswerAt (recordAnswer j) (serversAfter j noServers) .number → joins (recordAnswerAt (recordAnswer j) (serversAfter j noServers)) ≡ zeroed (joins (recordAnswerAt (recordAnswer j) (serversAfter j noServers)))
+record-zeros : (j : Joined) → 0 < recordAnswerAt (recordAnswer j) (serversAfter j noServers) .number →
+    joins (recordAnswerAt (recordAnswer j) (serversAfter j noServers)) ≡ zeroed (joins (recordAnswerAt (recordAnswer j) (serversAfter j noServers)))
 record-zeros (J.joined j) h = absurd (omega arith)
 record-zeros (J.refused r l) h = refl
 
@@ -142,17 +161,30 @@ unwritten (refuses r l) n f h = record { zeros = refl; name = refl; file = refl 
 pub exported-refusal : Exported-refusal
 unfolding iwdRecord iwdRecordServers serviceRecord serviceRecordServers
 exported-refusal (E.check-iwd name file) h = record { zeros = reading-zeros (reading Iwd name file) h; buffers = refl }
-exported-refusal (E.check-connman name file) h = record { zeros = reading-zeros (reading ConnMan name file) h; buffers = refl }
-exported-refusal (E.iwd-settings-of name file) h = record { zeros = iwd-zeros (asked (reading Iwd name file)) (sectionsOf Iwd file) h; buffers = refl }
-exported-refusal (E.service-settings-of name file w) h = record { zeros = service-zeros (askedOf w (reading ConnMan name file)) (serviceAt w (sectionsOf ConnMan file)) h; buffers = refl }
-exported-refusal (E.iwd-passphrase name file) h = record { zeros = text-zeros (asked (reading Iwd name file)) (iwdEntry (sectionsOf Iwd file) (word "Security") (word "Passphrase")) h; buffers = refl }
-exported-refusal (E.iwd-domain-name name file) h = record { zeros = text-zeros (asked (reading Iwd name file)) (iwdEntry (sectionsOf Iwd file) (word "IPv4") (word "DomainName")) h; buffers = refl }
-exported-refusal (E.global-name name file) h = record { zeros = text-zeros (asked (reading ConnMan name file)) (iwdEntry (sectionsOf ConnMan file) (word "global") (word "Name")) h; buffers = refl }
-exported-refusal (E.global-description name file) h = record { zeros = text-zeros (asked (reading ConnMan name file)) (iwdEntry (sectionsOf ConnMan file) (word "global") (word "Description")) h; buffers = refl }
-exported-refusal (E.service-name name file w) h = record { zeros = text-zeros (askedOf w (reading ConnMan name file)) (settingOf w file (word "Name")) h; buffers = refl }
-exported-refusal (E.service-passphrase name file w) h = record { zeros = text-zeros (askedOf w (reading ConnMan name file)) (settingOf w file (word "Passphrase")) h; buffers = refl }
-exported-refusal (E.service-domain name file w) h = record { zeros = text-zeros (askedOf w (reading ConnMan name file)) (settingOf w file (word "Domain")) h; buffers = refl }
+exported-refusal (E.check-connman name file) h =
+    record { zeros = reading-zeros (reading ConnMan name file) h; buffers = refl }
+exported-refusal (E.iwd-settings-of name file) h =
+    record { zeros = iwd-zeros (asked (reading Iwd name file)) (sectionsOf Iwd file) h; buffers = refl }
+exported-refusal (E.service-settings-of name file w) h =
+    record { zeros = service-zeros (askedOf w (reading ConnMan name file)) (serviceAt w (sectionsOf ConnMan file)) h; buffers = refl }
+exported-refusal (E.iwd-passphrase name file) h =
+    record { zeros = text-zeros (asked (reading Iwd name file)) (iwdEntry (sectionsOf Iwd file) (word "Security") (word "Passphrase")) h; buffers = refl }
+exported-refusal (E.iwd-domain-name name file) h =
+    record { zeros = text-zeros (asked (reading Iwd name file)) (iwdEntry (sectionsOf Iwd file) (word "IPv4") (word "DomainName")) h; buffers = refl }
+exported-refusal (E.global-name name file) h =
+    record { zeros = text-zeros (asked (reading ConnMan name file)) (iwdEntry (sectionsOf ConnMan file) (word "global") (word "Name")) h; buffers = refl }
+exported-refusal (E.global-description name file) h =
+    record { zeros = text-zeros (asked (reading ConnMan name file)) (iwdEntry (sectionsOf ConnMan file) (word "global") (word "Description")) h; buffers = refl }
+exported-refusal (E.service-name name file w) h =
+    record { zeros = text-zeros (askedOf w (reading ConnMan name file)) (settingOf w file (word "Name")) h; buffers = refl }
+exported-refusal (E.service-passphrase name file w) h =
+    record { zeros = text-zeros (askedOf w (reading ConnMan name file)) (settingOf w file (word "Passphrase")) h; buffers = refl }
+exported-refusal (E.service-domain name file w) h =
+    record { zeros = text-zeros (askedOf w (reading ConnMan name file)) (settingOf w file (word "Domain")) h; buffers = refl }
 exported-refusal (E.iwd-record name file) h = record { zeros = record-zeros (iwdJoined name file) h; buffers = refl }
-exported-refusal (E.service-record name file w) h = record { zeros = record-zeros (serviceJoined name file w) h; buffers = refl }
-exported-refusal (E.write-iwd c n f) h = let u = unwritten (writingIn c n f) n f h in record { zeros = u .zeros; buffers = rw (u .name, u .file) }
-exported-refusal (E.move-service name file w n f) h = let u = unwritten (moving name file w n f) n f h in record { zeros = u .zeros; buffers = rw (u .name, u .file) }
+exported-refusal (E.service-record name file w) h =
+    record { zeros = record-zeros (serviceJoined name file w) h; buffers = refl }
+exported-refusal (E.write-iwd c n f) h =
+    let u = unwritten (writingIn c n f) n f h in record { zeros = u .zeros; buffers = rw (u .name, u .file) }
+exported-refusal (E.move-service name file w n f) h =
+    let u = unwritten (moving name file w n f) n f h in record { zeros = u .zeros; buffers = rw (u .name, u .file) }

@@ -40,18 +40,23 @@ use Rattle.qewaris.specs.ExportsHold.{number-some}
 
 -- ---- strings
 
-string-stands : (file : List ℕ) (a : Answer) (o : Option Entry) → Holds (EntryStands file) o → Stands file (lookupOf a o) (textAt (placeOf (lookupOf a o)))
+string-stands : (file : List ℕ) (a : Answer) (o : Option Entry) → Holds (EntryStands file) o →
+    Stands file (lookupOf a o) (textAt (placeOf (lookupOf a o)))
 string-stands file Good none h = record { within = omega arith; value = refl }
 string-stands file Good (some e) h =
     let q : e .start + length (e .value) - e .start ≡ length (e .value) = omega arith in
     record { within = omega (arith, h .within); value = ap (λ (n : ℕ). part (e .start) (e .start + n) file) q ∙ h .value }
 string-stands file (Refused r l) o h = record { within = omega arith; value = refl }
 
-group-string : (d : Dialect) (name file group key : List ℕ) → Stands file (lookupOf (asked (reading d name file)) (iwdEntry (sectionsOf d file) group key)) (textAt (placeOf (lookupOf (asked (reading d name file)) (iwdEntry (sectionsOf d file) group key))))
-group-string d name file group key = string-stands file (asked (reading d name file)) (iwdEntry (sectionsOf d file) group key) (group-stands d file group key)
+group-string : (d : Dialect) (name file group key : List ℕ) →
+    Stands file (lookupOf (asked (reading d name file)) (iwdEntry (sectionsOf d file) group key)) (textAt (placeOf (lookupOf (asked (reading d name file)) (iwdEntry (sectionsOf d file) group key))))
+group-string d name file group key =
+    string-stands file (asked (reading d name file)) (iwdEntry (sectionsOf d file) group key) (group-stands d file group key)
 
-service-string : (name file : List ℕ) (w : ℕ) (key : List ℕ) → Stands file (lookupOf (askedOf w (reading ConnMan name file)) (settingOf w file key)) (textAt (placeOf (lookupOf (askedOf w (reading ConnMan name file)) (settingOf w file key))))
-service-string name file w key = string-stands file (askedOf w (reading ConnMan name file)) (settingOf w file key) (service-stands ConnMan file w key)
+service-string : (name file : List ℕ) (w : ℕ) (key : List ℕ) →
+    Stands file (lookupOf (askedOf w (reading ConnMan name file)) (settingOf w file key)) (textAt (placeOf (lookupOf (askedOf w (reading ConnMan name file)) (settingOf w file key))))
+service-string name file w key =
+    string-stands file (askedOf w (reading ConnMan name file)) (settingOf w file key) (service-stands ConnMan file w key)
 
 pub exported-strings : Exported-strings
 exported-strings name file w =
@@ -70,23 +75,30 @@ exported-strings name file w =
 -- an entry in front of what stands at a place of the file, one byte, and the next entry behind it
 abbrev Spread : List ℕ → ℕ → List (List ℕ) → Type 0
 Spread file at [] = Unit
-Spread file at (e ∷ es) = (at + length e ≤ length file) × (take (length e) (drop at file) ≡ e) × Spread file (at + length e + 1) es
+Spread file at (e ∷ es) =
+    (at + length e ≤ length file) × (take (length e) (drop at file) ≡ e) × Spread file (at + length e + 1) es
 
 module _ (file : List ℕ) where
   -- a byte in front of the first
-  spread-onto : (at x : ℕ) (r : List ℕ) (ps : List (List ℕ)) → at < length file → drop at file ≡ x ∷ r → Spread file (at + 1) ps → Spread file at (onto x ps)
+  spread-onto : (at x : ℕ) (r : List ℕ) (ps : List (List ℕ)) → at < length file → drop at file ≡ x ∷ r →
+      Spread file (at + 1) ps → Spread file at (onto x ps)
   spread-onto at x r [] h q s = (omega arith, ap (take 1) q, tt)
   spread-onto at x r (p ∷ ps) h q s =
       let d : drop (at + 1) file ≡ r = sym (drop-drop 1 at file) ∙ ap (drop 1) q in
       let k : at + 1 + length p + 1 ≡ at + suc (length p) + 1 = omega arith in
       (omega (arith, s .0), ap (take (suc (length p))) q ∙ ap (λ (t : List ℕ). x ∷ t) (ap (take (length p)) (sym d) ∙ s .1), subst (λ (i : ℕ). Spread file i ps) k (s .2))
 
-  pieces-spread : (at : ℕ) (s r : List ℕ) → at + length s ≤ length file → drop at file ≡ s ++ r → Spread file at (pieces 44 s)
+  pieces-spread : (at : ℕ) (s r : List ℕ) → at + length s ≤ length file → drop at file ≡ s ++ r →
+      Spread file at (pieces 44 s)
   pieces-spread at [] r h q = (omega (arith, h), refl, tt)
-  pieces-spread at (x ∷ s) r h q = go (eqb x 44) (pieces-spread (at + 1) s r (omega (arith, h)) (sym (drop-drop 1 at file) ∙ ap (drop 1) q))
+  pieces-spread at (x ∷ s) r h q =
+      go (eqb x 44) (pieces-spread (at + 1) s r (omega (arith, h)) (sym (drop-drop 1 at file) ∙ ap (drop 1) q))
     where
-      go : (b : Bool) → Spread file (at + 1) (pieces 44 s) → Spread file at (cond b ([] ∷ pieces 44 s) (onto x (pieces 44 s)))
-      go true k = let i : at + 1 ≡ at + 0 + 1 = omega arith in (omega (arith, h), refl, subst (λ (j : ℕ). Spread file j (pieces 44 s)) i k)
+      go : (b : Bool) → Spread file (at + 1) (pieces 44 s) →
+          Spread file at (cond b ([] ∷ pieces 44 s) (onto x (pieces 44 s)))
+      go true k =
+          let i : at + 1 ≡ at + 0 + 1 = omega arith in
+          (omega (arith, h), refl, subst (λ (j : ℕ). Spread file j (pieces 44 s)) i k)
       go false k = spread-onto at x (s ++ r) (pieces 44 s) (omega (arith, h)) q k
 
   -- where entry i starts and ends
@@ -121,7 +133,8 @@ four-at f (suc (suc (suc zero))) h = refl
 four-at f (suc (suc (suc (suc i)))) h = absurd (omega arith)
 
 -- entries that are spread from `at` on, laid out
-laid-entry : (file : List ℕ) (at : ℕ) (es : List (List ℕ)) → length es ≤ 4 → Spread file at es → (i : ℕ) → i < length es → EntryAt file es (entriesAt (entriesAnswer at (some es))) i
+laid-entry : (file : List ℕ) (at : ℕ) (es : List (List ℕ)) → length es ≤ 4 → Spread file at es → (i : ℕ) →
+    i < length es → EntryAt file es (entriesAt (entriesAnswer at (some es))) i
 laid-entry file at es few s i h =
     let e = entriesAnswer at (some es) in
     let b = spread-between file at es i h s in
@@ -140,16 +153,20 @@ each-entry (p ∷ ps) {es} e =
     let o = only-some (all isEntryByte p) (some p) (z .1) in
     go (t .0) (Option·some-injective p (t .0) (o .1)) (each entry ps) refl (λ t k. each-entry ps k) (t .2)
   where
-    go : (a : List ℕ) → p ≡ a → (o : Option (List (List ℕ))) → each entry ps ≡ o → ((t : List (List ℕ)) → each entry ps ≡ some t → ps ≡ t) → prepend a o ≡ some es → p ∷ ps ≡ es
+    go : (a : List ℕ) → p ≡ a → (o : Option (List (List ℕ))) → each entry ps ≡ o →
+        ((t : List (List ℕ)) → each entry ps ≡ some t → ps ≡ t) → prepend a o ≡ some es → p ∷ ps ≡ es
     go a q none k f z = absurd (Option·none-ne-some es z)
-    go a q (some t) k f z = ap₂ (λ (x : List ℕ) (y : List (List ℕ)). x ∷ y) q (f t k) ∙ Option·some-injective (a ∷ t) es z
+    go a q (some t) k f z =
+        ap₂ (λ (x : List ℕ) (y : List (List ℕ)). x ∷ y) q (f t k) ∙ Option·some-injective (a ∷ t) es z
 
-list-stands : (file : List ℕ) (o : Option Entry) → Holds (EntryStands file) o → ListStands file (plain (readAs entries o)) (entriesAt (entriesAnswer (startIn o) (readAs entries o)))
+list-stands : (file : List ℕ) (o : Option Entry) → Holds (EntryStands file) o →
+    ListStands file (plain (readAs entries o)) (entriesAt (entriesAnswer (startIn o) (readAs entries o)))
 unfolding entries
 list-stands file none h = record { count = refl; each = λ i k. absurd (omega (arith, k)) }
 list-stands file (some e) h = go (entries (e .value)) refl
   where
-    go : (r : Option (List (List ℕ))) → entries (e .value) ≡ r → ListStands file (plain r) (entriesAt (entriesAnswer (e .start) r))
+    go : (r : Option (List (List ℕ))) → entries (e .value) ≡ r →
+        ListStands file (plain r) (entriesAt (entriesAnswer (e .start) r))
     go none q = record { count = refl; each = λ i k. absurd (omega (arith, k)) }
     go (some es) q =
         let s = sized-some 1 4 (each entry (pieces 44 (e .value))) q in
@@ -163,9 +180,11 @@ pub exported-lists : Exported-lists
 unfolding keysOf
 exported-lists name file w e = go (askedOf w (reading ConnMan name file)) e
   where
-    stands : (key : List ℕ) → ListStands file (entriesOf file w key) (entriesAt (entriesAnswer (startIn (settingOf w file key)) (readAs entries (settingOf w file key))))
+    stands : (key : List ℕ) →
+        ListStands file (entriesOf file w key) (entriesAt (entriesAnswer (startIn (settingOf w file key)) (readAs entries (settingOf w file key))))
     stands key = list-stands file (settingOf w file key) (service-stands ConnMan file w key)
 
-    go : (a : Answer) → answerNumber (serviceAnswerOf a (serviceAt w (sectionsOf ConnMan file)) .answer) ≡ 0 → Lists file w (serviceSettingsAt (serviceAnswerOf a (serviceAt w (sectionsOf ConnMan file))) (serviceServersOf a (serviceAt w (sectionsOf ConnMan file)) noServers))
+    go : (a : Answer) → answerNumber (serviceAnswerOf a (serviceAt w (sectionsOf ConnMan file)) .answer) ≡ 0 →
+        Lists file w (serviceSettingsAt (serviceAnswerOf a (serviceAt w (sectionsOf ConnMan file))) (serviceServersOf a (serviceAt w (sectionsOf ConnMan file)) noServers))
     go Good e = record { search-domains = stands (word "SearchDomains"); timeservers = stands (word "Timeservers") }
     go (Refused r l) e = absurd (true≢false (sym (eq-eqb (numberOf r) 0 e) ∙ number-some r))

@@ -55,7 +55,8 @@ use Rattle.qewaris.specs.ExportsHold.{number-some}
 
 number-good : (a : Answer) → answerNumber a ≡ 0 → a ≡ Good
 number-good Good e = refl
-number-good (Refused r l) e = let z : true ≡ false = sym (eq-eqb (numberOf r) 0 e) ∙ number-some r in absurd (true≢false z)
+number-good (Refused r l) e =
+    let z : true ≡ false = sym (eq-eqb (numberOf r) 0 e) ∙ number-some r in absurd (true≢false z)
 
 -- said of a number that is another
 of-number : {A : Type 0} {n m : ℕ} → n ≡ m → (A ↔ (m ≡ 0)) → A ↔ (n ≡ 0)
@@ -67,17 +68,21 @@ reading-number : (r : Reading) → readingAt r .number ≡ answerNumber (asked r
 reading-number (R.Accepted n m) = refl
 reading-number (R.Refused r l) = refl
 
-file-success : (d : Dialect) (name file : List ℕ) → ObeysTheRules d name file ↔ (answerNumber (asked (reading d name file)) ≡ 0)
+file-success : (d : Dialect) (name file : List ℕ) →
+    ObeysTheRules d name file ↔ (answerNumber (asked (reading d name file)) ≡ 0)
 file-success d name file = (
   λ o. ap (λ (r : Reading). answerNumber (asked r)) (accepted-exactly d name file (o .settings) (o .services) .1 (o .accepted)),
   λ e. let h = asked-reading (reading d name file) (number-good (asked (reading d name file)) e) in record { settings = h .0; services = h .1 .0; accepted = accepted-exactly d name file (h .0) (h .1 .0) .0 (h .1 .1) },
 )
 
-service-success : (name file : List ℕ) (w : ℕ) → Service name file w ↔ (answerNumber (askedOf w (reading ConnMan name file)) ≡ 0)
+service-success : (name file : List ℕ) (w : ℕ) →
+    Service name file w ↔ (answerNumber (askedOf w (reading ConnMan name file)) ≡ 0)
 service-success name file w = (there, found)
   where
     there : Service name file w → answerNumber (askedOf w (reading ConnMan name file)) ≡ 0
-    there s = ap (λ (r : Reading). answerNumber (askedOf w r)) (s .accepted) ∙ ap (λ (b : Bool). answerNumber (cond b Good (Refused NoService 0))) (inside {x = w} 1 (s .services) (s .low) (s .high))
+    there s =
+        ap (λ (r : Reading). answerNumber (askedOf w r)) (s .accepted)
+        ∙ ap (λ (b : Bool). answerNumber (cond b Good (Refused NoService 0))) (inside {x = w} 1 (s .services) (s .low) (s .high))
 
     found : answerNumber (askedOf w (reading ConnMan name file)) ≡ 0 → Service name file w
     found e =
@@ -86,19 +91,24 @@ service-success name file w = (there, found)
 
 -- ---- its record
 
-record-number : (a : Answer) (o : Option ℕ) (j : Join) → answerNumber (recordAnswer (J.orRefused a (orNoPlace o j)) .answer) ≡ 0 → (answerNumber a ≡ 0) × (o ≡ none)
+record-number : (a : Answer) (o : Option ℕ) (j : Join) →
+    answerNumber (recordAnswer (J.orRefused a (orNoPlace o j)) .answer) ≡ 0 → (answerNumber a ≡ 0) × (o ≡ none)
 record-number Good none j e = (refl, refl)
 record-number Good (some l) j e = absurd (omega (arith, e))
 record-number (Refused r l) o j e = absurd (true≢false (sym (eq-eqb (numberOf r) 0 e) ∙ number-some r))
 
-record-success : (name file : List ℕ) (w : ℕ) → Joinable name file w ↔ (answerNumber (serviceRecord name file w .answer) ≡ 0)
+record-success : (name file : List ℕ) (w : ℕ) →
+    Joinable name file w ↔ (answerNumber (serviceRecord name file w .answer) ≡ 0)
 unfolding serviceRecord
 record-success name file w = (there, found)
   where
-    there : Joinable name file w → answerNumber (recordAnswer (J.orRefused (askedOf w (reading ConnMan name file)) (orNoPlace (noRecord (settingOf w file)) (serviceJoin (settingOf w file)))) .answer) ≡ 0
-    there j = rw (number-good (askedOf w (reading ConnMan name file)) (service-success name file w .0 (j .service)), j .wireless)
+    there : Joinable name file w →
+        answerNumber (recordAnswer (J.orRefused (askedOf w (reading ConnMan name file)) (orNoPlace (noRecord (settingOf w file)) (serviceJoin (settingOf w file)))) .answer) ≡ 0
+    there j =
+        rw (number-good (askedOf w (reading ConnMan name file)) (service-success name file w .0 (j .service)), j .wireless)
 
-    found : answerNumber (recordAnswer (J.orRefused (askedOf w (reading ConnMan name file)) (orNoPlace (noRecord (settingOf w file)) (serviceJoin (settingOf w file)))) .answer) ≡ 0 → Joinable name file w
+    found : answerNumber (recordAnswer (J.orRefused (askedOf w (reading ConnMan name file)) (orNoPlace (noRecord (settingOf w file)) (serviceJoin (settingOf w file)))) .answer) ≡ 0 →
+        Joinable name file w
     found e =
         let h = record-number (askedOf w (reading ConnMan name file)) (noRecord (settingOf w file)) (serviceJoin (settingOf w file)) e in
         record { service = service-success name file w .1 (h .0); wireless = h .1 }
@@ -111,17 +121,23 @@ module _ (c : CRecord) (n f : List ℕ) where
 
   brought-writing : Writable c n f → writing (recordIn c) (serversIn c) n f ≡ writes (nameText j) (fileText j)
   unfolding writing
-  brought-writing w = rw (w .formed-is, w .placed, le-leb (length (nameText j)) (length n) (w .name-room), le-leb (length (fileText j)) (length f) (w .file-room))
+  brought-writing w =
+      rw (w .formed-is, w .placed, le-leb (length (nameText j)) (length n) (w .name-room), le-leb (length (fileText j)) (length f) (w .file-room))
 
   writable-writes : Writable c n f → writingIn c n f ≡ writes (nameText j) (fileText j)
   writable-writes w = rw (w .codes) (brought-writing w)
 
   written-writable : answerNumber (writtenAnswer (writingIn c n f) .answer) ≡ 0 → Writable c n f
   unfolding writing
-  written-writable = go (known c) refl (formed (recordIn c) (serversIn c)) refl (hasPlace (j .ipv4)) refl (room (nameText j) n) refl (room (fileText j) f) refl
+  written-writable =
+      go (known c) refl (formed (recordIn c) (serversIn c)) refl (hasPlace (j .ipv4)) refl (room (nameText j) n) refl (room (fileText j) f) refl
     where
-      go : (a : Bool) → known c ≡ a → (b : Bool) → formed (recordIn c) (serversIn c) ≡ b → (p : Bool) → hasPlace (j .ipv4) ≡ p → (x : Bool) → room (nameText j) n ≡ x → (y : Bool) → room (fileText j) f ≡ y → answerNumber (writtenAnswer (cond a (cond b (cond p (cond (x && y) (writes (nameText j) (fileText j)) (refuses ShortBuffer 0)) (refuses NoPlace 0)) (refuses Malformed 0)) (refuses Malformed 0)) .answer) ≡ 0 → Writable c n f
-      go true ea true eb true ep true ex true ey e = record { codes = ea; formed-is = eb; placed = ep; name-room = leb-true (length (nameText j)) (length n) ex; file-room = leb-true (length (fileText j)) (length f) ey }
+      go : (a : Bool) → known c ≡ a → (b : Bool) → formed (recordIn c) (serversIn c) ≡ b → (p : Bool) →
+          hasPlace (j .ipv4) ≡ p → (x : Bool) → room (nameText j) n ≡ x → (y : Bool) → room (fileText j) f ≡ y →
+          answerNumber (writtenAnswer (cond a (cond b (cond p (cond (x && y) (writes (nameText j) (fileText j)) (refuses ShortBuffer 0)) (refuses NoPlace 0)) (refuses Malformed 0)) (refuses Malformed 0)) .answer) ≡ 0 →
+          Writable c n f
+      go true ea true eb true ep true ex true ey e =
+          record { codes = ea; formed-is = eb; placed = ep; name-room = leb-true (length (nameText j)) (length n) ex; file-room = leb-true (length (fileText j)) (length f) ey }
       go true ea true eb true ep true ex false ey e = absurd (omega (arith, e))
       go true ea true eb true ep false ex y ey e = absurd (omega (arith, e))
       go true ea true eb false ep x ex y ey e = absurd (omega (arith, e))
@@ -129,7 +145,8 @@ module _ (c : CRecord) (n f : List ℕ) where
       go false ea b eb p ep x ex y ey e = absurd (omega (arith, e))
 
   write-success : Writable c n f ↔ (answerNumber (writtenAnswer (writingIn c n f) .answer) ≡ 0)
-  write-success = (λ w. ap (λ (v : Writing). answerNumber (writtenAnswer v .answer)) (writable-writes w), written-writable)
+  write-success =
+      (λ w. ap (λ (v : Writing). answerNumber (writtenAnswer v .answer)) (writable-writes w), written-writable)
 
 -- ---- a move
 
@@ -138,31 +155,42 @@ module _ (name file : List ℕ) (w : ℕ) (n f : List ℕ) where
   leaves = record { answer = refl; name = refl; file = refl }
 
   move-success : Movable name file w n f ↔ (answerNumber (writtenAnswer (moving name file w n f) .answer) ≡ 0)
-  move-success = (λ m. ap (λ (v : Writing). answerNumber (writtenAnswer v .answer)) (M.movable-writes m), λ e. good-movable name file w n f leaves (number-good (writtenAnswer (moving name file w n f) .answer) e))
+  move-success =
+      (λ m. ap (λ (v : Writing). answerNumber (writtenAnswer v .answer)) (M.movable-writes m), λ e. good-movable name file w n f leaves (number-good (writtenAnswer (moving name file w n f) .answer) e))
 
 -- ---- every call
 
 module _ (name file : List ℕ) where
-  group-text-success : (d : Dialect) (group key : List ℕ) → ObeysTheRules d name file ↔ (answerNumber (lookupOf (asked (reading d name file)) (iwdEntry (sectionsOf d file) group key) .answer) ≡ 0)
-  group-text-success d group key = of-number (ap answerNumber (lookup-answer (asked (reading d name file)) (iwdEntry (sectionsOf d file) group key))) (file-success d name file)
+  group-text-success : (d : Dialect) (group key : List ℕ) →
+      ObeysTheRules d name file ↔ (answerNumber (lookupOf (asked (reading d name file)) (iwdEntry (sectionsOf d file) group key) .answer) ≡ 0)
+  group-text-success d group key =
+      of-number (ap answerNumber (lookup-answer (asked (reading d name file)) (iwdEntry (sectionsOf d file) group key))) (file-success d name file)
 
-  service-text-success : (w : ℕ) (key : List ℕ) → Service name file w ↔ (answerNumber (lookupOf (askedOf w (reading ConnMan name file)) (settingOf w file key) .answer) ≡ 0)
-  service-text-success w key = of-number (ap answerNumber (lookup-answer (askedOf w (reading ConnMan name file)) (settingOf w file key))) (service-success name file w)
+  service-text-success : (w : ℕ) (key : List ℕ) →
+      Service name file w ↔ (answerNumber (lookupOf (askedOf w (reading ConnMan name file)) (settingOf w file key) .answer) ≡ 0)
+  service-text-success w key =
+      of-number (ap answerNumber (lookup-answer (askedOf w (reading ConnMan name file)) (settingOf w file key))) (service-success name file w)
 
 pub exported-success : Exported-success
 unfolding iwdRecord
-exported-success (E.check-iwd name file) = of-number (reading-number (reading Iwd name file)) (file-success Iwd name file)
-exported-success (E.check-connman name file) = of-number (reading-number (reading ConnMan name file)) (file-success ConnMan name file)
-exported-success (E.iwd-settings-of name file) = of-number (ap answerNumber (settings-answer (asked (reading Iwd name file)) (sectionsOf Iwd file))) (file-success Iwd name file)
-exported-success (E.service-settings-of name file w) = of-number (ap answerNumber (service-answer (askedOf w (reading ConnMan name file)) (serviceAt w (sectionsOf ConnMan file)))) (service-success name file w)
+exported-success (E.check-iwd name file) =
+    of-number (reading-number (reading Iwd name file)) (file-success Iwd name file)
+exported-success (E.check-connman name file) =
+    of-number (reading-number (reading ConnMan name file)) (file-success ConnMan name file)
+exported-success (E.iwd-settings-of name file) =
+    of-number (ap answerNumber (settings-answer (asked (reading Iwd name file)) (sectionsOf Iwd file))) (file-success Iwd name file)
+exported-success (E.service-settings-of name file w) =
+    of-number (ap answerNumber (service-answer (askedOf w (reading ConnMan name file)) (serviceAt w (sectionsOf ConnMan file)))) (service-success name file w)
 exported-success (E.iwd-passphrase name file) = group-text-success name file Iwd (word "Security") (word "Passphrase")
 exported-success (E.iwd-domain-name name file) = group-text-success name file Iwd (word "IPv4") (word "DomainName")
 exported-success (E.global-name name file) = group-text-success name file ConnMan (word "global") (word "Name")
-exported-success (E.global-description name file) = group-text-success name file ConnMan (word "global") (word "Description")
+exported-success (E.global-description name file) =
+    group-text-success name file ConnMan (word "global") (word "Description")
 exported-success (E.service-name name file w) = service-text-success name file w (word "Name")
 exported-success (E.service-passphrase name file w) = service-text-success name file w (word "Passphrase")
 exported-success (E.service-domain name file w) = service-text-success name file w (word "Domain")
-exported-success (E.iwd-record name file) = of-number (ap answerNumber (joined-answer (asked (reading Iwd name file)) (iwdJoin (networkName (networkOf name)) (iwdEntry (sectionsOf Iwd file))))) (file-success Iwd name file)
+exported-success (E.iwd-record name file) =
+    of-number (ap answerNumber (joined-answer (asked (reading Iwd name file)) (iwdJoin (networkName (networkOf name)) (iwdEntry (sectionsOf Iwd file))))) (file-success Iwd name file)
 exported-success (E.service-record name file w) = record-success name file w
 exported-success (E.write-iwd c n f) = write-success c n f
 exported-success (E.move-service name file w n f) = move-success name file w n f
@@ -170,7 +198,8 @@ exported-success (E.move-service name file w n f) = move-success name file w n f
 -- ---- what is left in the buffers
 
 old-behind : (w : Writing) (n f : List ℕ) → OldBehind (leftOf w n f) n f
-old-behind (writes a b) n f = record { name = drop-append-seam a (drop (length a) n); file = drop-append-seam b (drop (length b) f) }
+old-behind (writes a b) n f =
+    record { name = drop-append-seam a (drop (length a) n); file = drop-append-seam b (drop (length b) f) }
 old-behind (refuses r l) n f = record { name = refl; file = refl }
 
 pub exported-write : Exported-write

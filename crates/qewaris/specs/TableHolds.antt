@@ -59,9 +59,11 @@ either-true true b e = refl
 either-true false b e = e
 
 -- good, or refused with a row of rs
-answer-given : (k : ℕ) (rs : List Row) (a : Answer) → ((r : Refusal) (l : ℕ) → a ≡ Refused r l → listed k rs (numberOf r) l ≡ true) → Given k (bare 0 ∷ rs) a
+answer-given : (k : ℕ) (rs : List Row) (a : Answer) →
+    ((r : Refusal) (l : ℕ) → a ≡ Refused r l → listed k rs (numberOf r) l ≡ true) → Given k (bare 0 ∷ rs) a
 answer-given k rs Good h = refl
-answer-given k rs (Refused r l) h = either-true (fits k (numberOf r) l (bare 0)) (listed k rs (numberOf r) l) (h r l refl)
+answer-given k rs (Refused r l) h =
+    either-true (fits k (numberOf r) l (bare 0)) (listed k rs (numberOf r) l) (h r l refl)
 
 -- ---- a file
 
@@ -69,19 +71,23 @@ asked-refused : (x : Reading) {r : Refusal} {l : ℕ} → asked x ≡ Refused r 
 asked-refused (R.Accepted n m) e = let z : _≡_ {A = ℕ} 0 1 = cc in absurd (omega arith)
 asked-refused (R.Refused q m) {r} {l} e = let a : q ≡ r = cc in let b : m ≡ l = cc in rw (a, b)
 
-pub asked-given : (d : Dialect) (name file : List ℕ) → Given (length (lines file)) (bare 0 ∷ ownRows d) (asked (reading d name file))
-asked-given d name file = answer-given (length (lines file)) (ownRows d) (asked (reading d name file)) (λ r l e. reading-listed d name file (asked-refused (reading d name file) e))
+pub asked-given : (d : Dialect) (name file : List ℕ) →
+    Given (length (lines file)) (bare 0 ∷ ownRows d) (asked (reading d name file))
+asked-given d name file =
+    answer-given (length (lines file)) (ownRows d) (asked (reading d name file)) (λ r l e. reading-listed d name file (asked-refused (reading d name file) e))
 
 -- ---- a service of it
 
-pub asked-service-given : (name file : List ℕ) (w : ℕ) → Given (length (lines file)) serviceRows (askedOf w (reading ConnMan name file))
+pub asked-service-given : (name file : List ℕ) (w : ℕ) →
+    Given (length (lines file)) serviceRows (askedOf w (reading ConnMan name file))
 asked-service-given name file w = go (reading ConnMan name file) (asked-given ConnMan name file)
   where
     count : (b : Bool) → Given (length (lines file)) serviceRows (cond b Good (Refused NoService 0))
     count true = refl
     count false = refl
 
-    go : (x : Reading) → Given (length (lines file)) (bare 0 ∷ ownRows ConnMan) (asked x) → Given (length (lines file)) serviceRows (askedOf w x)
+    go : (x : Reading) → Given (length (lines file)) (bare 0 ∷ ownRows ConnMan) (asked x) →
+        Given (length (lines file)) serviceRows (askedOf w x)
     go (R.Accepted n m) h = count (between 1 m w)
     go (R.Refused r l) h = listed-more (length (lines file)) (bare 0 ∷ ownRows ConnMan) (bare 18 ∷ []) (numberOf r) l h
 
@@ -91,7 +97,8 @@ module _ (file : List ℕ) where
   OnLine l = isLine file l ≡ true
 
   -- a setting's line, where what it holds is such that an absent one does not hold it
-  line-only : (b : Option Entry → Bool) → b none ≡ false → (o : Option Entry) → Holds (EntryStands file) o → Holds OnLine (only (b o) (some (lineIn o)))
+  line-only : (b : Option Entry → Bool) → b none ≡ false → (o : Option Entry) → Holds (EntryStands file) o →
+      Holds OnLine (only (b o) (some (lineIn o)))
   line-only b q none h = rw q tt
   line-only b q (some e) h = go (b (some e))
     where
@@ -99,7 +106,8 @@ module _ (file : List ℕ) where
       go true = h .line
       go false = tt
 
-  line-if : (b : Option Entry → Bool) → b none ≡ false → (o : Option Entry) → Holds (EntryStands file) o → Each OnLine (lineIf (b o) o)
+  line-if : (b : Option Entry → Bool) → b none ≡ false → (o : Option Entry) → Holds (EntryStands file) o →
+      Each OnLine (lineIf (b o) o)
   line-if b q none h = rw q tt
   line-if b q (some e) h = go (b (some e))
     where
@@ -167,25 +175,34 @@ module _ (file : List ℕ) where
 
 -- ---- records and files
 
-record-given : (k : ℕ) (a : Answer) (o : Option ℕ) (j : Join) → Given k serviceRows a → Holds (λ l. between 1 k l ≡ true) o → Given k serviceRecordRows (recordAnswer (J.orRefused a (orNoPlace o j)) .answer)
+record-given : (k : ℕ) (a : Answer) (o : Option ℕ) (j : Join) → Given k serviceRows a →
+    Holds (λ l. between 1 k l ≡ true) o →
+    Given k serviceRecordRows (recordAnswer (J.orRefused a (orNoPlace o j)) .answer)
 record-given k Good none j h p = refl
 record-given k Good (some l) j h p = rw p
 record-given k (Refused r l) o j h p = listed-more k serviceRows (lined 16 ∷ []) (numberOf r) l h
 
-room-given : (k : ℕ) (b : Bool) (x y : List ℕ) → Given k moveRows (writtenAnswer (cond b (writes x y) (refuses ShortBuffer 0)) .answer)
+room-given : (k : ℕ) (b : Bool) (x y : List ℕ) →
+    Given k moveRows (writtenAnswer (cond b (writes x y) (refuses ShortBuffer 0)) .answer)
 room-given k true x y = refl
 room-given k false x y = refl
 
-move-given : (k : ℕ) (a : Answer) (o : Option ℕ) (j : Join) (n f : List ℕ) → Given k serviceRows a → Holds (λ l. between 1 k l ≡ true) o → Given k moveRows (writtenAnswer (orRefused a (orUnplaced o (writingOf j n f))) .answer)
+move-given : (k : ℕ) (a : Answer) (o : Option ℕ) (j : Join) (n f : List ℕ) → Given k serviceRows a →
+    Holds (λ l. between 1 k l ≡ true) o →
+    Given k moveRows (writtenAnswer (orRefused a (orUnplaced o (writingOf j n f))) .answer)
 move-given k Good none j n f h p = room-given k (room (nameText j) n && room (fileText j) f) (nameText j) (fileText j)
 move-given k Good (some l) j n f h p = rw p
-move-given k (Refused r l) o j n f h p = listed-more k serviceRecordRows (bare 17 ∷ []) (numberOf r) l (listed-more k serviceRows (lined 16 ∷ []) (numberOf r) l h)
+move-given k (Refused r l) o j n f h p =
+    listed-more k serviceRecordRows (bare 17 ∷ []) (numberOf r) l (listed-more k serviceRows (lined 16 ∷ []) (numberOf r) l h)
 
-pub write-given : (r : JoinRecord) (s : List (List ℕ)) (n f : List ℕ) → Given 0 writerRows (writtenAnswer (writing r s n f) .answer)
+pub write-given : (r : JoinRecord) (s : List (List ℕ)) (n f : List ℕ) →
+    Given 0 writerRows (writtenAnswer (writing r s n f) .answer)
 unfolding writing
-write-given r s n f = go (formed r s) (hasPlace (joined r s .ipv4)) (room (nameText (joined r s)) n && room (fileText (joined r s)) f) (nameText (joined r s)) (fileText (joined r s))
+write-given r s n f =
+    go (formed r s) (hasPlace (joined r s .ipv4)) (room (nameText (joined r s)) n && room (fileText (joined r s)) f) (nameText (joined r s)) (fileText (joined r s))
   where
-    go : (a b c : Bool) (x y : List ℕ) → Given 0 writerRows (writtenAnswer (cond a (cond b (cond c (writes x y) (refuses ShortBuffer 0)) (refuses NoPlace 0)) (refuses Malformed 0)) .answer)
+    go : (a b c : Bool) (x y : List ℕ) →
+        Given 0 writerRows (writtenAnswer (cond a (cond b (cond c (writes x y) (refuses ShortBuffer 0)) (refuses NoPlace 0)) (refuses Malformed 0)) .answer)
     go true true true x y = refl
     go true true false x y = refl
     go true false c x y = refl
@@ -212,12 +229,20 @@ joined-answer (Refused r l) j = refl
 pub demand-1-table : Demand-1-table
 unfolding iwdRecord serviceRecord moving
 demand-1-table (D.check d name file) = asked-given d name file
-demand-1-table (D.iwd-settings name file s) = rw (settings-answer (asked (reading Iwd name file)) (sectionsOf Iwd file)) (asked-given Iwd name file)
-demand-1-table (D.service-settings name file w s) = rw (service-answer (askedOf w (reading ConnMan name file)) (serviceAt w (sectionsOf ConnMan file))) (asked-service-given name file w)
-demand-1-table (D.iwd-string group key name file) = rw (lookup-answer (asked (reading Iwd name file)) (iwdEntry (sectionsOf Iwd file) group key)) (asked-given Iwd name file)
-demand-1-table (D.global-string key name file) = rw (lookup-answer (asked (reading ConnMan name file)) (iwdEntry (sectionsOf ConnMan file) (word "global") key)) (asked-given ConnMan name file)
-demand-1-table (D.service-string w key name file) = rw (lookup-answer (askedOf w (reading ConnMan name file)) (settingOf w file key)) (asked-service-given name file w)
-demand-1-table (D.iwd-record name file s) = rw (joined-answer (asked (reading Iwd name file)) (iwdJoin (networkName (networkOf name)) (iwdEntry (sectionsOf Iwd file)))) (asked-given Iwd name file)
-demand-1-table (D.service-record name file w s) = record-given (length (lines file)) (askedOf w (reading ConnMan name file)) (noRecord (settingOf w file)) (serviceJoin (settingOf w file)) (asked-service-given name file w) (no-record-line file w)
+demand-1-table (D.iwd-settings name file s) =
+    rw (settings-answer (asked (reading Iwd name file)) (sectionsOf Iwd file)) (asked-given Iwd name file)
+demand-1-table (D.service-settings name file w s) =
+    rw (service-answer (askedOf w (reading ConnMan name file)) (serviceAt w (sectionsOf ConnMan file))) (asked-service-given name file w)
+demand-1-table (D.iwd-string group key name file) =
+    rw (lookup-answer (asked (reading Iwd name file)) (iwdEntry (sectionsOf Iwd file) group key)) (asked-given Iwd name file)
+demand-1-table (D.global-string key name file) =
+    rw (lookup-answer (asked (reading ConnMan name file)) (iwdEntry (sectionsOf ConnMan file) (word "global") key)) (asked-given ConnMan name file)
+demand-1-table (D.service-string w key name file) =
+    rw (lookup-answer (askedOf w (reading ConnMan name file)) (settingOf w file key)) (asked-service-given name file w)
+demand-1-table (D.iwd-record name file s) =
+    rw (joined-answer (asked (reading Iwd name file)) (iwdJoin (networkName (networkOf name)) (iwdEntry (sectionsOf Iwd file)))) (asked-given Iwd name file)
+demand-1-table (D.service-record name file w s) =
+    record-given (length (lines file)) (askedOf w (reading ConnMan name file)) (noRecord (settingOf w file)) (serviceJoin (settingOf w file)) (asked-service-given name file w) (no-record-line file w)
 demand-1-table (D.write r s n f) = write-given r s n f
-demand-1-table (D.move name file w n f) = move-given (length (lines file)) (askedOf w (reading ConnMan name file)) (earliest (unplaced (settingOf w file))) (serviceJoin (settingOf w file)) n f (asked-service-given name file w) (unplaced-line file w)
+demand-1-table (D.move name file w n f) =
+    move-given (length (lines file)) (askedOf w (reading ConnMan name file)) (earliest (unplaced (settingOf w file))) (serviceJoin (settingOf w file)) n f (asked-service-given name file w) (unplaced-line file w)

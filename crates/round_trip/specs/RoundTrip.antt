@@ -50,7 +50,8 @@ module _ (j : Join) (w : WellFormed j) where
   unfolding fileText
   blocks = file-blocks Iwd (blocksOf j) (blocks-good j w) (names-apart j)
 
-  reads : (n k : List ℕ) {A : Type 0} (f : List ℕ → Option A) → readAs f (iwdEntry (groupsOf j) n k) ≡ andThen (valueIn k (rowsIn n (blocksOf j))) f
+  reads : (n k : List ℕ) {A : Type 0} (f : List ℕ → Option A) →
+      readAs f (iwdEntry (groupsOf j) n k) ≡ andThen (valueIn k (rowsIn n (blocksOf j))) f
   reads n k f = read-rows (groupsOf j) (blocksOf j) (names-apart j) blocks n k f
 
   holds : (n k : List ℕ) → has n k (groupsOf j) ≡ isSome (valueIn k (rowsIn n (blocksOf j)))
@@ -58,8 +59,11 @@ module _ (j : Join) (w : WellFormed j) where
 
   -- the keys of the group IPv4 but for its last two
   module _ (k : List ℕ) (a : same k (word "DNS") ≡ false) (b : same k (word "DomainName") ≡ false) where
-    number-reads : {A : Type 0} (f : List ℕ → Option A) → readAs f (iwdEntry (groupsOf j) (word "IPv4") k) ≡ andThen (valueIn k (numberRows (j .ipv4))) f
-    number-reads f = reads (word "IPv4") k f ∙ ap (λ (o : Option (List ℕ)). andThen o f) (number-value (j .ipv4) (j .servers) (j .domain) k a b)
+    number-reads : {A : Type 0} (f : List ℕ → Option A) →
+        readAs f (iwdEntry (groupsOf j) (word "IPv4") k) ≡ andThen (valueIn k (numberRows (j .ipv4))) f
+    number-reads f =
+        reads (word "IPv4") k f
+        ∙ ap (λ (o : Option (List ℕ)). andThen o f) (number-value (j .ipv4) (j .servers) (j .domain) k a b)
 
     number-holds : has (word "IPv4") k (groupsOf j) ≡ isSome (valueIn k (numberRows (j .ipv4)))
     number-holds = holds (word "IPv4") k ∙ ap isSome (number-value (j .ipv4) (j .servers) (j .domain) k a b)
@@ -67,20 +71,27 @@ module _ (j : Join) (w : WellFormed j) where
   -- each part of the record
   secret-read : iwdSecret (iwdEntry (groupsOf j) (word "Security")) ≡ j .credential
   unfolding keysOf
-  secret-read = ap₂ secretFrom (reads (word "Security") (word "Passphrase") (K.passphrase Iwd)) (reads (word "Security") (word "PreSharedKey") K.key) ∙ secret-back (j .credential) (w .credential)
+  secret-read =
+      ap₂ secretFrom (reads (word "Security") (word "Passphrase") (K.passphrase Iwd)) (reads (word "Security") (word "PreSharedKey") K.key)
+      ∙ secret-back (j .credential) (w .credential)
 
   hidden-read : orFalse (readAs (flag Iwd) (iwdEntry (groupsOf j) (word "Settings") (word "Hidden"))) ≡ j .hidden
   hidden-read = ap orFalse (reads (word "Settings") (word "Hidden") (flag Iwd)) ∙ hidden-back (j .hidden)
 
   ipv4-read : hasPlace (j .ipv4) ≡ true → iwdIpv4 (iwdEntry (groupsOf j) (word "IPv4")) ≡ j .ipv4
   unfolding keysOf
-  ipv4-read p = rw (number-reads (word "Address") refl refl address, number-reads (word "Netmask") refl refl netmask, number-reads (word "Gateway") refl refl address) (ipv4-back (j .ipv4) (w .ipv4) p)
+  ipv4-read p =
+      rw (number-reads (word "Address") refl refl address, number-reads (word "Netmask") refl refl netmask, number-reads (word "Gateway") refl refl address) (ipv4-back (j .ipv4) (w .ipv4) p)
 
   servers-read : plain (readAs (addresses Spaces) (iwdEntry (groupsOf j) (word "IPv4") (word "DNS"))) ≡ j .servers
-  servers-read = ap plain (reads (word "IPv4") (word "DNS") (addresses Spaces) ∙ ap (λ (o : Option (List ℕ)). andThen o (addresses Spaces)) (server-value (j .ipv4) (j .servers) (j .domain))) ∙ servers-back (j .servers) (w .servers)
+  servers-read =
+      ap plain (reads (word "IPv4") (word "DNS") (addresses Spaces) ∙ ap (λ (o : Option (List ℕ)). andThen o (addresses Spaces)) (server-value (j .ipv4) (j .servers) (j .domain)))
+      ∙ servers-back (j .servers) (w .servers)
 
   domain-read : plain (readAs (string Iwd 1 253) (iwdEntry (groupsOf j) (word "IPv4") (word "DomainName"))) ≡ j .domain
-  domain-read = ap plain (reads (word "IPv4") (word "DomainName") (string Iwd 1 253) ∙ ap (λ (o : Option (List ℕ)). andThen o (string Iwd 1 253)) (domain-value (j .ipv4) (j .servers) (j .domain))) ∙ domain-back (j .domain) (w .domain)
+  domain-read =
+      ap plain (reads (word "IPv4") (word "DomainName") (string Iwd 1 253) ∙ ap (λ (o : Option (List ℕ)). andThen o (string Iwd 1 253)) (domain-value (j .ipv4) (j .servers) (j .domain)))
+      ∙ domain-back (j .domain) (w .domain)
 
   ipv6-read : enabledIpv6 (readAs (flag Iwd) (iwdEntry (groupsOf j) (word "IPv6") (word "Enabled"))) ≡ j .ipv6
   ipv6-read = ap enabledIpv6 (reads (word "IPv6") (word "Enabled") (flag Iwd)) ∙ ipv6-back (j .ipv6)
@@ -104,7 +115,8 @@ written-obeys j w p =
     }
 
 -- it is accepted, and has the settings that were written
-pub written-accepted : (j : Join) → WellFormed j → hasPlace (j .ipv4) ≡ true → reading Iwd (nameText j) (fileText j) ≡ Accepted (rowCount (blocksOf j)) 0
+pub written-accepted : (j : Join) → WellFormed j → hasPlace (j .ipv4) ≡ true →
+    reading Iwd (nameText j) (fileText j) ≡ Accepted (rowCount (blocksOf j)) 0
 written-accepted j w p =
     let a = obeys-accepted Iwd (nameText j) (fileText j) (written-obeys j w p) in
     a ∙ ap₂ Accepted (settings-rows (groupsOf j) (blocksOf j) (blocks j w)) (iwd-services (nameText j) (fileText j) a)
@@ -116,10 +128,12 @@ round-trip j w p =
     ∙ ap joined (join-read j w p)
 
 -- and so are the answers
-pub round-trip-record : (j : Join) → WellFormed j → hasPlace (j .ipv4) ≡ true → iwdRecord (nameText j) (fileText j) ≡ record { answer = Good; «record» = laid j }
+pub round-trip-record : (j : Join) → WellFormed j → hasPlace (j .ipv4) ≡ true →
+    iwdRecord (nameText j) (fileText j) ≡ record { answer = Good; «record» = laid j }
 unfolding iwdRecord
 round-trip-record j w p = ap recordAnswer (round-trip j w p)
 
-pub round-trip-servers : (j : Join) → WellFormed j → hasPlace (j .ipv4) ≡ true → (old : List (List ℕ)) → iwdRecordServers (nameText j) (fileText j) old ≡ laidServers j
+pub round-trip-servers : (j : Join) → WellFormed j → hasPlace (j .ipv4) ≡ true → (old : List (List ℕ)) →
+    iwdRecordServers (nameText j) (fileText j) old ≡ laidServers j
 unfolding iwdRecordServers
 round-trip-servers j w p old = ap (λ (x : Joined). serversAfter x old) (round-trip j w p)

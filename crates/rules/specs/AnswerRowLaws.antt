@@ -51,7 +51,8 @@ pub listed-more : (k : ℕ) (rs ss : List Row) (n l : ℕ) → listed k rs n l �
 listed-more k [] ss n l e = absurd (true≢false (sym e))
 listed-more k (r ∷ rs) ss n l e = go (fits k n l r) e (λ q. listed-more k rs ss n l q)
   where
-    go : (b : Bool) → b || listed k rs n l ≡ true → (listed k rs n l ≡ true → listed k (rs ++ ss) n l ≡ true) → b || listed k (rs ++ ss) n l ≡ true
+    go : (b : Bool) → b || listed k rs n l ≡ true → (listed k rs n l ≡ true → listed k (rs ++ ss) n l ≡ true) →
+        b || listed k (rs ++ ss) n l ≡ true
     go true q f = refl
     go false q f = f q
 
@@ -67,7 +68,8 @@ line-listed k [] n l h e = absurd (true≢false (sym e))
 line-listed k (bare m ∷ rs) n l h e = or-right (fits k n l (bare m)) (listed k rs n l) (line-listed k rs n l h e)
 line-listed k (lined m ∷ rs) n l h e = go (eqb n m) e (λ q. line-listed k rs n l h q)
   where
-    go : (b : Bool) → b || hasLine n rs ≡ true → (hasLine n rs ≡ true → listed k rs n l ≡ true) → (b && between 1 k l) || listed k rs n l ≡ true
+    go : (b : Bool) → b || hasLine n rs ≡ true → (hasLine n rs ≡ true → listed k rs n l ≡ true) →
+        (b && between 1 k l) || listed k rs n l ≡ true
     go true q f = rw h
     go false q f = f q
 line-listed k (placed m ∷ rs) n l h e = or-right (fits k n l (placed m)) (listed k rs n l) (line-listed k rs n l h e)
@@ -83,22 +85,28 @@ module _ (k l : ℕ) (here : between 1 k l ≡ true) where
   Own d r = listed k (ownRows d) (numberOf r) l ≡ true
 
   -- a refusal of both dialects
-  either : (d : Dialect) (r : Refusal) → hasLine (numberOf r) (ownRows Iwd) && hasLine (numberOf r) (ownRows ConnMan) ≡ true → Own d r
-  either Iwd r e = line-listed k (ownRows Iwd) (numberOf r) l here (and-true (hasLine (numberOf r) (ownRows Iwd)) (hasLine (numberOf r) (ownRows ConnMan)) e .0)
-  either ConnMan r e = line-listed k (ownRows ConnMan) (numberOf r) l here (and-true (hasLine (numberOf r) (ownRows Iwd)) (hasLine (numberOf r) (ownRows ConnMan)) e .1)
+  either : (d : Dialect) (r : Refusal) →
+      hasLine (numberOf r) (ownRows Iwd) && hasLine (numberOf r) (ownRows ConnMan) ≡ true → Own d r
+  either Iwd r e =
+      line-listed k (ownRows Iwd) (numberOf r) l here (and-true (hasLine (numberOf r) (ownRows Iwd)) (hasLine (numberOf r) (ownRows ConnMan)) e .0)
+  either ConnMan r e =
+      line-listed k (ownRows ConnMan) (numberOf r) l here (and-true (hasLine (numberOf r) (ownRows Iwd)) (hasLine (numberOf r) (ownRows ConnMan)) e .1)
 
   -- only ConnMan has services to count, and only iwd has extensions
-  header-listed : (d : Dialect) (n : List ℕ) (o : Option Group) (gs : List Section) → groupOf d n ≡ o → Holds (Own d) (headerFault n o gs)
+  header-listed : (d : Dialect) (n : List ℕ) (o : Option Group) (gs : List Section) → groupOf d n ≡ o →
+      Holds (Own d) (headerFault n o gs)
   header-listed d n none gs q = either d N.UnknownGroup refl
   header-listed d n (some g) gs q = go d q (nameGiven n gs)
     where
-      many : (d : Dialect) → groupOf d n ≡ some g → (a b : Bool) → serves g ≡ a → Holds (Own d) (cond (a && b) (some ManyServices) none)
+      many : (d : Dialect) → groupOf d n ≡ some g → (a b : Bool) → serves g ≡ a →
+          Holds (Own d) (cond (a && b) (some ManyServices) none)
       many d q false b p = tt
       many d q true false p = tt
       many Iwd q true true p = absurd (true≢false (sym p ∙ iwd-plain n g q))
       many ConnMan q true true p = line-listed k (ownRows ConnMan) 13 l here refl
 
-      go : (d : Dialect) → groupOf d n ≡ some g → (a : Bool) → Holds (Own d) (cond a (some RepeatedGroup) (cond (serves g && leb 8 (services gs)) (some ManyServices) none))
+      go : (d : Dialect) → groupOf d n ≡ some g → (a : Bool) →
+          Holds (Own d) (cond a (some RepeatedGroup) (cond (serves g && leb 8 (services gs)) (some ManyServices) none))
       go d q true = either d RepeatedGroup refl
       go d q false = many d q (serves g) (leb 8 (services gs)) refl
 
@@ -107,7 +115,8 @@ module _ (k l : ℕ) (here : between 1 k l ≡ true) where
   value-listed d brokenText = either d N.ValueText refl
   value-listed d brokenKind = either d N.ValueKind refl
 
-  key-listed : (d : Dialect) (key v : List ℕ) (o : Option Kind) (es : List Entry) → Holds (Own d) (keyFault d key v o es)
+  key-listed : (d : Dialect) (key v : List ℕ) (o : Option Kind) (es : List Entry) →
+      Holds (Own d) (keyFault d key v o es)
   key-listed d key v none es = either d N.UnknownKey refl
   key-listed d key v (some x) es = go (given key es)
     where
@@ -123,7 +132,8 @@ module _ (k l : ℕ) (here : between 1 k l ≡ true) where
   extension-listed Iwd t e = line-listed k (ownRows Iwd) 4 l here refl
   extension-listed ConnMan t e = absurd (no-extension t e)
 
-  fault-listed : (d : Dialect) (gs : List Section) (t : List ℕ) (x : Line) → lineOf d t ≡ x → Holds (Own d) (fault d gs x)
+  fault-listed : (d : Dialect) (gs : List Section) (t : List ℕ) (x : Line) → lineOf d t ≡ x →
+      Holds (Own d) (fault d gs x)
   unfolding fault
   fault-listed d gs t blank e = tt
   fault-listed d gs t comment e = tt
@@ -137,12 +147,14 @@ module _ (k l : ℕ) (here : between 1 k l ≡ true) where
 
 -- a fault of a group, which has the line l
 module _ (k l : ℕ) where
-  iwd-rule : (a b : Bool) → Holds (λ f. listed k (ownRows Iwd) (numberOf (f .refusal)) (f .line) ≡ true) (faultAt 0 (lackOrClash a b))
+  iwd-rule : (a b : Bool) →
+      Holds (λ f. listed k (ownRows Iwd) (numberOf (f .refusal)) (f .line) ≡ true) (faultAt 0 (lackOrClash a b))
   iwd-rule true b = refl
   iwd-rule false true = refl
   iwd-rule false false = tt
 
-  service-rule : between 1 k l ≡ true → (a b : Bool) → Holds (λ f. listed k (ownRows ConnMan) (numberOf (f .refusal)) (f .line) ≡ true) (faultAt l (lackOrClash a b))
+  service-rule : between 1 k l ≡ true → (a b : Bool) →
+      Holds (λ f. listed k (ownRows ConnMan) (numberOf (f .refusal)) (f .line) ≡ true) (faultAt l (lackOrClash a b))
   service-rule h true b = line-listed k (ownRows ConnMan) 14 l h refl
   service-rule h false true = line-listed k (ownRows ConnMan) 15 l h refl
   service-rule h false false = tt
@@ -159,45 +171,57 @@ module _ (file : List ℕ) where
   unfolding serviceFault
   section-listed g h = go (serves (g .group))
     where
-      go : (b : Bool) → Holds (OwnFault ConnMan) (cond b (faultAt (g .line) (lackOrClash (lacks (g .entries)) (clashes (g .entries)))) none)
+      go : (b : Bool) →
+          Holds (OwnFault ConnMan) (cond b (faultAt (g .line) (lackOrClash (lacks (g .entries)) (clashes (g .entries)))) none)
       go true = service-rule (length (lines file)) (g .line) (h .line) (lacks (g .entries)) (clashes (g .entries))
       go false = tt
 
   services-listed : (gs : List Section) → Each (SectionStands file) gs → Holds (OwnFault ConnMan) (servicesFault gs)
   services-listed [] h = tt
-  services-listed (g ∷ gs) h = go (sectionFault g) (section-listed g (h .0)) (servicesFault gs) (services-listed gs (h .1))
+  services-listed (g ∷ gs) h =
+      go (sectionFault g) (section-listed g (h .0)) (servicesFault gs) (services-listed gs (h .1))
     where
-      go : (a : Option Fault) → Holds (OwnFault ConnMan) a → (b : Option Fault) → Holds (OwnFault ConnMan) b → Holds (OwnFault ConnMan) (orElse a b)
+      go : (a : Option Fault) → Holds (OwnFault ConnMan) a → (b : Option Fault) → Holds (OwnFault ConnMan) b →
+          Holds (OwnFault ConnMan) (orElse a b)
       go none p b q = q
       go (some f) p b q = p
 
-  groups-listed : (d : Dialect) (name : List ℕ) {n : Name} → nameIn d name ≡ some n → Holds (OwnFault d) (groupsFault n (sectionsOf d file))
+  groups-listed : (d : Dialect) (name : List ℕ) {n : Name} → nameIn d name ≡ some n →
+      Holds (OwnFault d) (groupsFault n (sectionsOf d file))
   groups-listed Iwd name {n} e = go (networkOf name) e
     where
-      go : (o : Option Network) → mapped (λ x. iwdName (x .suffix)) o ≡ some n → Holds (OwnFault Iwd) (groupsFault n (sectionsOf Iwd file))
+      go : (o : Option Network) → mapped (λ x. iwdName (x .suffix)) o ≡ some n →
+          Holds (OwnFault Iwd) (groupsFault n (sectionsOf Iwd file))
       go none q = absurd (Option·none-ne-some n q)
-      go (some x) q = rw (← Option·some-injective (iwdName (x .suffix)) n q) (file-listed (x .suffix) (sectionsOf Iwd file))
+      go (some x) q =
+          rw (← Option·some-injective (iwdName (x .suffix)) n q) (file-listed (x .suffix) (sectionsOf Iwd file))
   groups-listed ConnMan name {n} e = go (connmanName name) e
     where
-      go : (b : Bool) → only b (some connmanFile) ≡ some n → Holds (OwnFault ConnMan) (groupsFault n (sectionsOf ConnMan file))
-      go true q = rw (← Option·some-injective connmanFile n q) (services-listed (sectionsOf ConnMan file) (sections-stand ConnMan file))
+      go : (b : Bool) → only b (some connmanFile) ≡ some n →
+          Holds (OwnFault ConnMan) (groupsFault n (sectionsOf ConnMan file))
+      go true q =
+          rw (← Option·some-injective connmanFile n q) (services-listed (sectionsOf ConnMan file) (sections-stand ConnMan file))
       go false q = absurd (Option·none-ne-some n q)
 
 -- ---- the file
 
 -- the line of a faulty line is a line of the file
-faulty-line : (d : Dialect) (file : List ℕ) {f : Fault} → FaultyLine d 1 0 [] (lines file) f → isLine file (f .line) ≡ true
+faulty-line : (d : Dialect) (file : List ℕ) {f : Fault} → FaultyLine d 1 0 [] (lines file) f →
+    isLine file (f .line) ≡ true
 faulty-line d file {f} w =
     let n : length (lines file) ≡ length (w .before) + length (w .line ∷ w .rest) = ap length (w .is) ∙ length-append (w .before) (w .line ∷ w .rest) in
     inside {x = f .line} 1 (length (lines file)) (omega (arith, w .number)) (omega (arith, w .number, n))
 
-offends-listed : (d : Dialect) (name file : List ℕ) {r : Refusal} {l : ℕ} → Offends d name file r l → listed (length (lines file)) (ownRows d) (numberOf r) l ≡ true
+offends-listed : (d : Dialect) (name file : List ℕ) {r : Refusal} {l : ℕ} → Offends d name file r l →
+    listed (length (lines file)) (ownRows d) (numberOf r) l ≡ true
 offends-listed Iwd name file (too-long h) = refl
 offends-listed ConnMan name file (too-long h) = refl
 offends-listed Iwd name file (misnamed h n) = refl
 offends-listed ConnMan name file (misnamed h n) = refl
-offends-listed d name file (in-line h n {f} w) = holds-some (λ r. listed (length (lines file)) (ownRows d) (numberOf r) (f .line) ≡ true) (fault-listed (length (lines file)) (f .line) (faulty-line d file w) d (grown d 1 0 [] (w .before)) (w .line) (lineOf d (w .line)) refl) (w .faulty)
+offends-listed d name file (in-line h n {f} w) =
+    holds-some (λ r. listed (length (lines file)) (ownRows d) (numberOf r) (f .line) ≡ true) (fault-listed (length (lines file)) (f .line) (faulty-line d file w) d (grown d 1 0 [] (w .before)) (w .line) (lineOf d (w .line)) refl) (w .faulty)
 offends-listed d name file (in-group h n o e) = holds-some (OwnFault file d) (groups-listed file d name n) e
 
-pub reading-listed : (d : Dialect) (name file : List ℕ) {r : Refusal} {l : ℕ} → reading d name file ≡ R.Refused r l → listed (length (lines file)) (ownRows d) (numberOf r) l ≡ true
+pub reading-listed : (d : Dialect) (name file : List ℕ) {r : Refusal} {l : ℕ} → reading d name file ≡ R.Refused r l →
+    listed (length (lines file)) (ownRows d) (numberOf r) l ≡ true
 reading-listed d name file e = offends-listed d name file (refused-offends d name file e)

@@ -32,23 +32,28 @@ counted-last : (es : List Entry) (e : Entry) → Counted es → 1 ≤ e .line �
 counted-last [] e h k = (k, tt)
 counted-last (x ∷ es) e h k = (h .0, counted-last es e (h .1) k)
 
-group-counted : (n : List ℕ) (o : Option Group) (l s : ℕ) (gs : List Section) → AllCounted gs → AllCounted (withGroup n o l s gs)
+group-counted : (n : List ℕ) (o : Option Group) (l s : ℕ) (gs : List Section) → AllCounted gs →
+    AllCounted (withGroup n o l s gs)
 group-counted n none l s gs h = h
 group-counted n (some g) l s gs h = (tt, h)
 
-after-counted : (d : Dialect) (n s v : ℕ) (p : Line) (gs : List Section) → 1 ≤ n → AllCounted gs → AllCounted (after d n s v p gs)
+after-counted : (d : Dialect) (n s v : ℕ) (p : Line) (gs : List Section) → 1 ≤ n → AllCounted gs →
+    AllCounted (after d n s v p gs)
 unfolding after
 after-counted d n s v blank gs l h = h
 after-counted d n s v comment gs l h = h
 after-counted d n s v (broken b) gs l h = h
 after-counted d n s v (header m) gs l h = group-counted m (groupOf d m) n s gs h
 after-counted d n s v (setting k u) [] l h = tt
-after-counted d n s v (setting k u) (g ∷ gs) l h = (counted-last (g .entries) (record { key = k; value = u; line = n; start = s + v }) (h .0) l, h .1)
+after-counted d n s v (setting k u) (g ∷ gs) l h =
+    (counted-last (g .entries) (record { key = k; value = u; line = n; start = s + v }) (h .0) l, h .1)
 
-grown-counted : (d : Dialect) (n s : ℕ) (gs : List Section) (ls : List (List ℕ)) → 1 ≤ n → AllCounted gs → AllCounted (grown d n s gs ls)
+grown-counted : (d : Dialect) (n s : ℕ) (gs : List Section) (ls : List (List ℕ)) → 1 ≤ n → AllCounted gs →
+    AllCounted (grown d n s gs ls)
 unfolding grown
 grown-counted d n s gs [] k h = h
-grown-counted d n s gs (l ∷ ls) k h = grown-counted d (suc n) (s + length l + 1) (afterLine d n s l gs) ls (omega arith) (after-counted d n s (valueStart d l) (lineOf d l) gs k h)
+grown-counted d n s gs (l ∷ ls) k h =
+    grown-counted d (suc n) (s + length l + 1) (afterLine d n s l gs) ls (omega arith) (after-counted d n s (valueStart d l) (lineOf d l) gs k h)
 
 sections-last : (a : List Section) (g : Section) → AllCounted a → Counted (g .entries) → AllCounted (a ++ (g ∷ []))
 sections-last [] g h k = (k, tt)
@@ -60,7 +65,8 @@ counted-reverse (g ∷ gs) h = rw (reverse-cons g gs) (sections-last (reverse gs
 
 sections-counted : (d : Dialect) (file : List ℕ) → AllCounted (sectionsOf d file)
 unfolding sectionsOf
-sections-counted d file = counted-reverse (grown d 1 0 [] (lines file)) (grown-counted d 1 0 [] (lines file) (omega arith) tt)
+sections-counted d file =
+    counted-reverse (grown d 1 0 [] (lines file)) (grown-counted d 1 0 [] (lines file) (omega arith) tt)
 
 -- ---- a setting that is asked for
 
@@ -68,7 +74,8 @@ entry-counted : (k : List ℕ) (es : List Entry) → Counted es → Holds (λ e.
 entry-counted k [] h = tt
 entry-counted k (x ∷ es) h = go (same k (x .key)) (entry-counted k es (h .1))
   where
-    go : (b : Bool) → Holds (λ e. 1 ≤ e .line) (entryOf k es) → Holds (λ e. 1 ≤ e .line) (cond b (some x) (entryOf k es))
+    go : (b : Bool) → Holds (λ e. 1 ≤ e .line) (entryOf k es) →
+        Holds (λ e. 1 ≤ e .line) (cond b (some x) (entryOf k es))
     go true i = h .0
     go false i = i
 
@@ -83,16 +90,22 @@ entries-counted n (s ∷ gs) h = go (same n (s .name)) (entries-counted n gs (h 
 service-counted : (w : ℕ) (gs : List Section) → AllCounted gs → Counted (serviceAt w gs)
 service-counted zero gs h = tt
 service-counted (suc n) [] h = tt
-service-counted (suc n) (s ∷ gs) h = go (serves (s .group)) n (service-counted n gs (h .1)) (service-counted (suc n) gs (h .1))
+service-counted (suc n) (s ∷ gs) h =
+    go (serves (s .group)) n (service-counted n gs (h .1)) (service-counted (suc n) gs (h .1))
   where
-    go : (b : Bool) (n : ℕ) → Counted (serviceAt n gs) → Counted (serviceAt (suc n) gs) → Counted (cond b (firstOr n (s .entries) (serviceAt n gs)) (serviceAt (suc n) gs))
+    go : (b : Bool) (n : ℕ) → Counted (serviceAt n gs) → Counted (serviceAt (suc n) gs) →
+        Counted (cond b (firstOr n (s .entries) (serviceAt n gs)) (serviceAt (suc n) gs))
     go true zero i j = h .0
     go true (suc m) i j = i
     go false n i j = j
 
 -- in the group with a name, and in service w
-pub group-line : (d : Dialect) (file group key : List ℕ) → Holds (λ e. 1 ≤ e .line) (entryOf key (entriesIn group (sectionsOf d file)))
-group-line d file group key = entry-counted key (entriesIn group (sectionsOf d file)) (entries-counted group (sectionsOf d file) (sections-counted d file))
+pub group-line : (d : Dialect) (file group key : List ℕ) →
+    Holds (λ e. 1 ≤ e .line) (entryOf key (entriesIn group (sectionsOf d file)))
+group-line d file group key =
+    entry-counted key (entriesIn group (sectionsOf d file)) (entries-counted group (sectionsOf d file) (sections-counted d file))
 
-pub service-line : (d : Dialect) (file : List ℕ) (w : ℕ) (key : List ℕ) → Holds (λ e. 1 ≤ e .line) (entryOf key (serviceAt w (sectionsOf d file)))
-service-line d file w key = entry-counted key (serviceAt w (sectionsOf d file)) (service-counted w (sectionsOf d file) (sections-counted d file))
+pub service-line : (d : Dialect) (file : List ℕ) (w : ℕ) (key : List ℕ) →
+    Holds (λ e. 1 ≤ e .line) (entryOf key (serviceAt w (sectionsOf d file)))
+service-line d file w key =
+    entry-counted key (serviceAt w (sectionsOf d file)) (service-counted w (sectionsOf d file) (sections-counted d file))

@@ -144,7 +144,8 @@ settings-append (g ∷ a) b = rw (settings-append a b) (omega arith)
 
 settings-reverse : (gs : List Section) → settings (reverse gs) ≡ settings gs
 settings-reverse [] = refl
-settings-reverse (g ∷ gs) = rw (reverse-cons g gs, settings-append (reverse gs) (g ∷ []), settings-reverse gs) (omega arith)
+settings-reverse (g ∷ gs) =
+    rw (reverse-cons g gs, settings-append (reverse gs) (g ∷ []), settings-reverse gs) (omega arith)
 
 services-append : (a b : List Section) → services (a ++ b) ≡ services a + services b
 services-append [] b = omega arith

@@ -74,9 +74,12 @@ typed-valued d (Kind.Text low high) v = refl
 
 pub group-dialect : (d : Dialect) (n : List ℕ) {g : Group} → groupOf d n ≡ some g → dialectOf g ≡ d
 unfolding groupOf
-group-dialect Iwd n {g} e = go (same n (word "Settings")) (same n (word "Security")) (same n (word "IPv4")) (same n (word "IPv6")) e
+group-dialect Iwd n {g} e =
+    go (same n (word "Settings")) (same n (word "Security")) (same n (word "IPv4")) (same n (word "IPv6")) e
   where
-    go : (a b c d : Bool) → cond a (some Settings) (cond b (some Security) (cond c (some Ipv4) (cond d (some Ipv6) none))) ≡ some g → dialectOf g ≡ Iwd
+    go : (a b c d : Bool) →
+        cond a (some Settings) (cond b (some Security) (cond c (some Ipv4) (cond d (some Ipv6) none))) ≡ some g →
+        dialectOf g ≡ Iwd
     go true b c d q = ap dialectOf (sym (Option·some-injective Settings g q))
     go false true c d q = ap dialectOf (sym (Option·some-injective Security g q))
     go false false true d q = ap dialectOf (sym (Option·some-injective Ipv4 g q))
@@ -102,7 +105,8 @@ named-group Service s = absurd (true≢false s)
 -- ---- one key
 
 -- what is read from a setting has a property that its kind gives to all it reads
-pub read-holds : {A : Type 0} (P : A → Type 0) (f : List ℕ → Option A) (o : Option Entry) → ((e : Entry) → o ≡ some e → (a : A) → f (e .value) ≡ some a → P a) → Holds P (readAs f o)
+pub read-holds : {A : Type 0} (P : A → Type 0) (f : List ℕ → Option A) (o : Option Entry) →
+    ((e : Entry) → o ≡ some e → (a : A) → f (e .value) ≡ some a → P a) → Holds P (readAs f o)
 read-holds P f none h = tt
 read-holds {A} P f (some e) h = go (f (e .value)) refl
   where
@@ -110,7 +114,8 @@ read-holds {A} P f (some e) h = go (f (e .value)) refl
     go none q = tt
     go (some a) q = h e refl a q
 
-good-gives : (d : Dialect) (k : Kind) {e : Entry} → GoodValue d k (e .value) → KindGives d k (some e) (valued d k (e .value))
+good-gives : (d : Dialect) (k : Kind) {e : Entry} → GoodValue d k (e .value) →
+    KindGives d k (some e) (valued d k (e .value))
 good-gives d k {e} g = go (valued d k (e .value)) (typed-valued d k (e .value))
   where
     go : (o : Option (KindValue k)) → typed d k (e .value) ≡ mapped (typedAs k) o → KindGives d k (some e) o
@@ -118,9 +123,14 @@ good-gives d k {e} g = go (valued d k (e .value)) (typed-valued d k (e .value))
     go (some x) q = present (typed-value d k (e .value) q)
 
 -- a setting that is listed, and good for its kind, by whatever kind that is
-key-gives : (d : Dialect) (g : Group) (key : List ℕ) (s : Option Entry) → ((e : Entry) → s ≡ some e → Asked d g key e) → ((k : Kind) → kindOf g key ≡ some k → (e : Entry) → s ≡ some e → GoodValue d k (e .value)) → (o : Option Kind) → kindOf g key ≡ o → Gives d o s (readBy d o s)
+key-gives : (d : Dialect) (g : Group) (key : List ℕ) (s : Option Entry) →
+    ((e : Entry) → s ≡ some e → Asked d g key e) →
+    ((k : Kind) → kindOf g key ≡ some k → (e : Entry) → s ≡ some e → GoodValue d k (e .value)) → (o : Option Kind) →
+    kindOf g key ≡ o → Gives d o s (readBy d o s)
 key-gives d g key none a h none q = (refl, refl)
-key-gives d g key (some e) a h none q = let x = a e refl in absurd (Option·none-ne-some (x .entry .kind) (sym q ∙ ap (kindOf g) (sym (x .key)) ∙ x .entry .listed))
+key-gives d g key (some e) a h none q =
+    let x = a e refl in
+    absurd (Option·none-ne-some (x .entry .kind) (sym q ∙ ap (kindOf g) (sym (x .key)) ∙ x .entry .listed))
 key-gives d g key none a h (some k) q = absent
 key-gives d g key (some e) a h (some k) q = good-gives d k (h k q e refl)
 
@@ -143,7 +153,8 @@ group-gives d name file a group {g} q key =
 -- in service w
 pub service-gives : (name file : List ℕ) {n m : ℕ} → reading ConnMan name file ≡ Accepted n m → (w : ℕ) (key : List ℕ)
     → Gives ConnMan (kindOf Service key) (serviceEntry (sectionsOf ConnMan file) w key) (valueOf Service (serviceEntry (sectionsOf ConnMan file) w) key)
-service-gives name file a w key = key-gives ConnMan Service key (serviceEntry (sectionsOf ConnMan file) w key) (λ e t. service-asked ConnMan name file a w key t) (λ k l e t. service-value ConnMan name file a w key l t) (kindOf Service key) refl
+service-gives name file a w key =
+    key-gives ConnMan Service key (serviceEntry (sectionsOf ConnMan file) w key) (λ e t. service-asked ConnMan name file a w key t) (λ k l e t. service-value ConnMan name file a w key l t) (kindOf Service key) refl
 
 -- in the group that is no service, by its own name
 pub value-gives : (g : Group) → serves g ≡ false
@@ -162,7 +173,8 @@ entry-given k (x ∷ es) = go (same k (x .key)) (entry-given k es)
     go true h = refl
     go false h = h
 
-gives-some : (d : Dialect) (o : Option Kind) (e : Option Entry) (x : Option (ValueOf o)) → Gives d o e x → isSome x ≡ isSome e
+gives-some : (d : Dialect) (o : Option Kind) (e : Option Entry) (x : Option (ValueOf o)) → Gives d o e x →
+    isSome x ≡ isSome e
 gives-some d none e x h = ap isSome (h .1) ∙ sym (ap isSome (h .0))
 gives-some d (some k) e x absent = refl
 gives-some d (some k) e x (present q) = refl

@@ -130,7 +130,8 @@ module _ (d : Dialect) where
           Ruled (ServiceLacks since) (ServiceClashes since) o →
           ServicesVerdict (earlier ++ header (g .name) ∷ since) (cond b (faultAt (g .line) o) none)
       go (fails n) o v = sound-more earlier (g .name) since (a .latest) h (λ s. absurd (n s))
-      go (holds s) none v = sound-more earlier (g .name) since (a .latest) h (λ t. rw (group-lines-whole since (a .latest)) v)
+      go (holds s) none v =
+          sound-more earlier (g .name) since (a .latest) h (λ t. rw (group-lines-whole since (a .latest)) v)
       go (holds s) (some r) v = record {
         before = earlier;
         at = header (g .name);
@@ -204,7 +205,8 @@ lines-in-first n (broken b ∷ a) c h = lines-in-first n a c (λ k. h (inr k))
 
 -- the settings of the group with a name are those of these lines
 entries-lines : (d : Dialect) (n : List ℕ) (gs : List Section) (before : List Line) → SectionsStand d gs before →
-    (hs : List Section) (tail : List Line) → groupLines tail ≡ [] → entryPairs (entriesIn n hs) ≡ linePairs (linesIn n tail) →
+    (hs : List Section) (tail : List Line) → groupLines tail ≡ [] →
+    entryPairs (entriesIn n hs) ≡ linePairs (linesIn n tail) →
     entryPairs (entriesIn n (reverse gs ++ hs)) ≡ linePairs (linesIn n (before ++ tail))
 entries-lines d n [] before s hs tail e q = q ∙ ap linePairs (sym (lines-in-headless n before tail (s .0)))
 entries-lines d n (g ∷ gs) before s hs tail e q =

@@ -61,7 +61,9 @@ module _ {d : Dialect} {before : List Line} where
 
   module _ {key : List ℕ} where
     kind-in : (x : KeyHere d before key) (y : Here d before) → kindOf (y .group) key ≡ some (x .kind)
-    kind-in x y = ap (λ (g : Group). kindOf g key) (here-group y (x .here)) ∙ key-kind (x .here .group) key (x .kind) (x .listed)
+    kind-in x y =
+        ap (λ (g : Group). kindOf g key) (here-group y (x .here))
+        ∙ key-kind (x .here .group) key (x .kind) (x .listed)
 
     pub kind-unique : (x y : KeyHere d before key) → x .kind ≡ y .kind
     kind-unique x y = Option·some-injective (x .kind) (y .kind) (sym (kind-in x (x .here)) ∙ kind-in y (x .here))

@@ -147,7 +147,8 @@ NoRow d before l = Each (λ r. ¬ RowApplies d before l r) (rowsOf l)
 
 setting-no-row : (d : Dialect) (before : List Line) (k v : List ℕ) → AllowedSetting d before k v →
     NoRow d before (setting k v)
-setting-no-row d before k v a = (never, (here-headed (a .place .here), (key-known (a .place), (once, (text, (value, tt))))))
+setting-no-row d before k v a =
+    (never, (here-headed (a .place .here), (key-known (a .place), (once, (text, (value, tt))))))
   where
     once : ¬ ((y : Here d before) × Some (GivesKey k) (y .since))
     once z = since-without k (a .place .here) (z .0) (a .once) (z .1)

@@ -81,7 +81,8 @@ behind-tail d l =
 
 -- ---- the value of a setting in its line
 
-setting-ended : (d : Dialect) (l : List ℕ) {k v : List ℕ} → lineOf d l ≡ setting k v → v ≡ ended d (behindEqual d (after isBlank l))
+setting-ended : (d : Dialect) (l : List ℕ) {k v : List ℕ} → lineOf d l ≡ setting k v →
+    v ≡ ended d (behindEqual d (after isBlank l))
 unfolding lineOf bracketOf settingOf
 setting-ended d l {k} {v} = body (after isBlank l)
   where
@@ -89,11 +90,13 @@ setting-ended d l {k} {v} = body (after isBlank l)
     equal key [] e = let z : _≡_ {A = ℕ} 0 1 = cc in absurd (omega arith)
     equal key (c ∷ s) e = go (not (empty key) && eqb c 61) e
       where
-        go : (b : Bool) → cond b (setting key (ended d (after isBlank s))) (broken Unrecognized) ≡ setting k v → v ≡ ended d (after isBlank s)
+        go : (b : Bool) → cond b (setting key (ended d (after isBlank s))) (broken Unrecognized) ≡ setting k v →
+            v ≡ ended d (after isBlank s)
         go true e = cc
         go false e = let z : _≡_ {A = ℕ} 0 1 = cc in absurd (omega arith)
 
-    bracket : (n : List ℕ) (a b : Bool) → cond a (broken Extension) (cond b (header n) (broken BadHeader)) ≡ setting k v → ⊥
+    bracket : (n : List ℕ) (a b : Bool) →
+        cond a (broken Extension) (cond b (header n) (broken BadHeader)) ≡ setting k v → ⊥
     bracket n true b e = let z : _≡_ {A = ℕ} 0 1 = cc in omega arith
     bracket n false true e = let z : _≡_ {A = ℕ} 0 1 = cc in omega arith
     bracket n false false e = let z : _≡_ {A = ℕ} 0 1 = cc in omega arith
@@ -102,9 +105,11 @@ setting-ended d l {k} {v} = body (after isBlank l)
     body [] e = let z : _≡_ {A = ℕ} 0 1 = cc in absurd (omega arith)
     body (c ∷ s) e = go (eqb c 35) (eqb c 91) e
       where
-        go : (a b : Bool) → cond a comment (cond b (bracketOf d s) (settingOf d (c ∷ s))) ≡ setting k v → v ≡ ended d (behindEqual d (c ∷ s))
+        go : (a b : Bool) → cond a comment (cond b (bracketOf d s) (settingOf d (c ∷ s))) ≡ setting k v →
+            v ≡ ended d (behindEqual d (c ∷ s))
         go true b e = let z : _≡_ {A = ℕ} 0 1 = cc in absurd (omega arith)
-        go false true e = absurd (bracket (front isHeaderByte s) (extends d s) (not (empty (front isHeaderByte s)) && closed (after isHeaderByte s)) e)
+        go false true e =
+            absurd (bracket (front isHeaderByte s) (extends d s) (not (empty (front isHeaderByte s)) && closed (after isHeaderByte s)) e)
         go false false e = equal (front (isKeyByte d) (c ∷ s)) (after isBlank (after (isKeyByte d) (c ∷ s))) e
 
 -- what is kept of a value is its front
@@ -112,7 +117,8 @@ trimmed-front : (w : List ℕ) → (length (trimmed w) ≤ length w) × (take (l
 trimmed-front [] = (omega arith, refl)
 trimmed-front (x ∷ w) = go (isBlank x && all isBlank w) (trimmed-front w)
   where
-    go : (b : Bool) → (length (trimmed w) ≤ length w) × (take (length (trimmed w)) w ≡ trimmed w) → (length (cond b [] (x ∷ trimmed w)) ≤ length (x ∷ w)) × (take (length (cond b [] (x ∷ trimmed w))) (x ∷ w) ≡ cond b [] (x ∷ trimmed w))
+    go : (b : Bool) → (length (trimmed w) ≤ length w) × (take (length (trimmed w)) w ≡ trimmed w) →
+        (length (cond b [] (x ∷ trimmed w)) ≤ length (x ∷ w)) × (take (length (cond b [] (x ∷ trimmed w))) (x ∷ w) ≡ cond b [] (x ∷ trimmed w))
     go true h = (omega arith, refl)
     go false h = (omega arith, ap (λ (r : List ℕ). x ∷ r) (h .1))
 
@@ -162,7 +168,9 @@ first-line (x ∷ t) {l} {ls} e =
 
 module _ (d : Dialect) (file : List ℕ) where
   -- a line l that starts at s, and the setting that it is
-  line-entry : (n s : ℕ) (l : List ℕ) {ls : List (List ℕ)} {k v : List ℕ} → isLine file n ≡ true → FirstLine (drop s file) l ls → lineOf d l ≡ setting k v → EntryStands file (record { key = k; value = v; line = n; start = s + valueStart d l })
+  line-entry : (n s : ℕ) (l : List ℕ) {ls : List (List ℕ)} {k v : List ℕ} → isLine file n ≡ true →
+      FirstLine (drop s file) l ls → lineOf d l ≡ setting k v →
+      EntryStands file (record { key = k; value = v; line = n; start = s + valueStart d l })
   line-entry n s l {k = k} {v = v} h f e =
       let w = value-stands d l e in
       let g : length (drop s file) ≡ length file - s = length-drop s file in
@@ -180,15 +188,19 @@ module _ (d : Dialect) (file : List ℕ) where
             ∙ w .is;
       }
 
-  group-after : (n s : ℕ) (gs : List Section) (m : List ℕ) (o : Option Group) → isLine file n ≡ true → Each (SectionStands file) gs → Each (SectionStands file) (withGroup m o n s gs)
+  group-after : (n s : ℕ) (gs : List Section) (m : List ℕ) (o : Option Group) → isLine file n ≡ true →
+      Each (SectionStands file) gs → Each (SectionStands file) (withGroup m o n s gs)
   group-after n s gs m none h k = k
   group-after n s gs m (some g) h k = (record { line = h; entries = tt }, k)
 
-  entry-after : (e : Entry) (gs : List Section) → EntryStands file e → Each (SectionStands file) gs → Each (SectionStands file) (withEntry e gs)
+  entry-after : (e : Entry) (gs : List Section) → EntryStands file e → Each (SectionStands file) gs →
+      Each (SectionStands file) (withEntry e gs)
   entry-after e [] h k = tt
-  entry-after e (g ∷ gs) h k = (record { line = k .0 .line; entries = each-append (EntryStands file) (g .entries) (e ∷ []) (k .0 .entries) (h, tt) }, k .1)
+  entry-after e (g ∷ gs) h k =
+      (record { line = k .0 .line; entries = each-append (EntryStands file) (g .entries) (e ∷ []) (k .0 .entries) (h, tt) }, k .1)
 
-  line-after : (n s : ℕ) (l : List ℕ) {ls : List (List ℕ)} (gs : List Section) → isLine file n ≡ true → FirstLine (drop s file) l ls → Each (SectionStands file) gs → Each (SectionStands file) (afterLine d n s l gs)
+  line-after : (n s : ℕ) (l : List ℕ) {ls : List (List ℕ)} (gs : List Section) → isLine file n ≡ true →
+      FirstLine (drop s file) l ls → Each (SectionStands file) gs → Each (SectionStands file) (afterLine d n s l gs)
   unfolding afterFor
   line-after n s l gs h f k = go (lineOf d l) refl
     where
@@ -197,9 +209,12 @@ module _ (d : Dialect) (file : List ℕ) where
       go comment e = k
       go (broken b) e = k
       go (header m) e = group-after n s gs m (groupOf d m) h k
-      go (setting key v) e = entry-after (record { key = key; value = v; line = n; start = s + valueStart d l }) gs (line-entry n s l h f e) k
+      go (setting key v) e =
+          entry-after (record { key = key; value = v; line = n; start = s + valueStart d l }) gs (line-entry n s l h f e) k
 
-  grown-stands : (n s : ℕ) (gs : List Section) (ls : List (List ℕ)) → 1 ≤ n → n + length ls ≡ suc (length (lines file)) → lines (drop s file) ≡ ls → Each (SectionStands file) gs → Each (SectionStands file) (grown d n s gs ls)
+  grown-stands : (n s : ℕ) (gs : List Section) (ls : List (List ℕ)) → 1 ≤ n →
+      n + length ls ≡ suc (length (lines file)) → lines (drop s file) ≡ ls → Each (SectionStands file) gs →
+      Each (SectionStands file) (grown d n s gs ls)
   unfolding grown
   grown-stands n s gs [] h q e k = k
   grown-stands n s gs (l ∷ ls) h q e k =
@@ -210,39 +225,49 @@ module _ (d : Dialect) (file : List ℕ) where
 
   pub sections-stand : Each (SectionStands file) (sectionsOf d file)
   unfolding sectionsOf
-  sections-stand = each-reverse (SectionStands file) (grown d 1 0 [] (lines file)) (grown-stands 1 0 [] (lines file) (omega arith) (omega arith) refl tt)
+  sections-stand =
+      each-reverse (SectionStands file) (grown d 1 0 [] (lines file)) (grown-stands 1 0 [] (lines file) (omega arith) (omega arith) refl tt)
 
   -- ---- a setting that is asked for
 
-  entry-stands : (key : List ℕ) (es : List Entry) → Each (EntryStands file) es → Holds (EntryStands file) (entryOf key es)
+  entry-stands : (key : List ℕ) (es : List Entry) → Each (EntryStands file) es →
+      Holds (EntryStands file) (entryOf key es)
   entry-stands key [] h = tt
   entry-stands key (x ∷ es) h = go (same key (x .key)) (entry-stands key es (h .1))
     where
-      go : (b : Bool) → Holds (EntryStands file) (entryOf key es) → Holds (EntryStands file) (cond b (some x) (entryOf key es))
+      go : (b : Bool) → Holds (EntryStands file) (entryOf key es) →
+          Holds (EntryStands file) (cond b (some x) (entryOf key es))
       go true k = h .0
       go false k = k
 
-  named-stand : (group : List ℕ) (gs : List Section) → Each (SectionStands file) gs → Each (EntryStands file) (entriesIn group gs)
+  named-stand : (group : List ℕ) (gs : List Section) → Each (SectionStands file) gs →
+      Each (EntryStands file) (entriesIn group gs)
   named-stand group [] h = tt
   named-stand group (g ∷ gs) h = go (same group (g .name)) (named-stand group gs (h .1))
     where
-      go : (b : Bool) → Each (EntryStands file) (entriesIn group gs) → Each (EntryStands file) (cond b (g .entries) (entriesIn group gs))
+      go : (b : Bool) → Each (EntryStands file) (entriesIn group gs) →
+          Each (EntryStands file) (cond b (g .entries) (entriesIn group gs))
       go true k = h .0 .entries
       go false k = k
 
   numbered-stand : (w : ℕ) (gs : List Section) → Each (SectionStands file) gs → Each (EntryStands file) (serviceAt w gs)
   numbered-stand zero gs h = tt
   numbered-stand (suc n) [] h = tt
-  numbered-stand (suc n) (g ∷ gs) h = go (serves (g .group)) n (numbered-stand n gs (h .1)) (numbered-stand (suc n) gs (h .1))
+  numbered-stand (suc n) (g ∷ gs) h =
+      go (serves (g .group)) n (numbered-stand n gs (h .1)) (numbered-stand (suc n) gs (h .1))
     where
-      go : (b : Bool) (n : ℕ) → Each (EntryStands file) (serviceAt n gs) → Each (EntryStands file) (serviceAt (suc n) gs) → Each (EntryStands file) (cond b (firstOr n (g .entries) (serviceAt n gs)) (serviceAt (suc n) gs))
+      go : (b : Bool) (n : ℕ) → Each (EntryStands file) (serviceAt n gs) →
+          Each (EntryStands file) (serviceAt (suc n) gs) →
+          Each (EntryStands file) (cond b (firstOr n (g .entries) (serviceAt n gs)) (serviceAt (suc n) gs))
       go true zero k i = h .0 .entries
       go true (suc m) k i = k
       go false n k i = i
 
   -- by its key, in the group with a name and in service w
   pub group-stands : (group key : List ℕ) → Holds (EntryStands file) (entryOf key (entriesIn group (sectionsOf d file)))
-  group-stands group key = entry-stands key (entriesIn group (sectionsOf d file)) (named-stand group (sectionsOf d file) sections-stand)
+  group-stands group key =
+      entry-stands key (entriesIn group (sectionsOf d file)) (named-stand group (sectionsOf d file) sections-stand)
 
   pub service-stands : (w : ℕ) (key : List ℕ) → Holds (EntryStands file) (entryOf key (serviceAt w (sectionsOf d file)))
-  service-stands w key = entry-stands key (serviceAt w (sectionsOf d file)) (numbered-stand w (sectionsOf d file) sections-stand)
+  service-stands w key =
+      entry-stands key (serviceAt w (sectionsOf d file)) (numbered-stand w (sectionsOf d file) sections-stand)

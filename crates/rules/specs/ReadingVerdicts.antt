@@ -60,7 +60,8 @@ module _ (d : Dialect) (name file : List ℕ) where
       settings = settings-counted d (grown d 1 0 [] (lines file)) (linesOf d file) (lines-stand d (lines file) e);
       services = services-counted d (grown d 1 0 [] (lines file)) (linesOf d file) (lines-stand d (lines file) e);
     }
-    group-answer e h (some f) v = at-group (record { kind = k; ls = linesOf d file; admitted = a; allowed = h; faulty = v })
+    group-answer e h (some f) v =
+        at-group (record { kind = k; ls = linesOf d file; admitted = a; allowed = h; faulty = v })
 
     line-answer : (o : Option Fault) → firstFault d file ≡ o → LinesVerdict d (linesOf d file) o →
         Answers d name file (verdict (orElse o (groupsFault k (sectionsOf d file))) (sectionsOf d file))

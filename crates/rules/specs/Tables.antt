@@ -33,7 +33,8 @@ groupOf ConnMan n = cond (same n (word "global")) (some Global) (only (isService
 
 -- the keys of each group, with their kinds
 unfoldable pub keysOf : Group → List (List ℕ × Kind)
-keysOf Settings = (word "AutoConnect", K.Flag) ∷ (word "Hidden", K.Flag) ∷ (word "AlwaysRandomizeAddress", K.Flag) ∷ (word "AddressOverride", K.Mac) ∷ []
+keysOf Settings =
+    (word "AutoConnect", K.Flag) ∷ (word "Hidden", K.Flag) ∷ (word "AlwaysRandomizeAddress", K.Flag) ∷ (word "AddressOverride", K.Mac) ∷ []
 keysOf Security = (word "Passphrase", K.Passphrase) ∷ (word "PreSharedKey", K.Key) ∷ []
 keysOf Ipv4 =
     (word "Address", K.Address)

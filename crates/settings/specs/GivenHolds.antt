@@ -88,17 +88,21 @@ line-given none h = refl
 line-given (some e) h = positive (e .line) h
 
 netmask-given : (o : Option Entry) → nonzero (lengthOr0 (readAs netmask o)) ≡ isSome (readAs netmask o)
-netmask-given o = length-given (readAs netmask o) (read-holds (λ (n : ℕ). 1 ≤ n) netmask o (λ e q n r. netmask-good (e .value) r .0))
+netmask-given o =
+    length-given (readAs netmask o) (read-holds (λ (n : ℕ). 1 ≤ n) netmask o (λ e q n r. netmask-good (e .value) r .0))
 
-addresses-given : (sep : Separator) (o : Option Entry) → nonzero (length (plain (readAs (addresses sep) o))) ≡ isSome (readAs (addresses sep) o)
-addresses-given sep o = count-given (readAs (addresses sep) o) (read-holds (λ (l : List (List ℕ)). 1 ≤ length l) (addresses sep) o (λ e q l r. addresses-good sep (e .value) r .0))
+addresses-given : (sep : Separator) (o : Option Entry) →
+    nonzero (length (plain (readAs (addresses sep) o))) ≡ isSome (readAs (addresses sep) o)
+addresses-given sep o =
+    count-given (readAs (addresses sep) o) (read-holds (λ (l : List (List ℕ)). 1 ≤ length l) (addresses sep) o (λ e q l r. addresses-good sep (e .value) r .0))
 
 entries-low : (v : List ℕ) {l : List (List ℕ)} → entries v ≡ some l → 1 ≤ length l
 unfolding entries
 entries-low v {l} e = between-low {x = length l} 1 4 (sized-some 1 4 (each entry (pieces 44 v)) e .0)
 
 entries-given : (o : Option Entry) → nonzero (length (plain (readAs entries o))) ≡ isSome (readAs entries o)
-entries-given o = count-given (readAs entries o) (read-holds (λ (l : List (List ℕ)). 1 ≤ length l) entries o (λ e q l r. entries-low (e .value) r))
+entries-given o =
+    count-given (readAs entries o) (read-holds (λ (l : List (List ℕ)). 1 ≤ length l) entries o (λ e q l r. entries-low (e .value) r))
 
 -- ---- an iwd file
 
@@ -106,11 +110,15 @@ module _ (name file : List ℕ) (a : asked (reading Iwd name file) ≡ Good) whe
   at : List ℕ → List ℕ → Option Entry
   at = iwdEntry (sectionsOf Iwd file)
 
-  value-given : (g : Group) → groupOf Iwd (groupName g) ≡ some g → (key : List ℕ) → isSome (groupValue g (iwdEntry (sectionsOf Iwd file)) key) ≡ has (groupName g) key (sectionsOf Iwd file)
+  value-given : (g : Group) → groupOf Iwd (groupName g) ≡ some g → (key : List ℕ) →
+      isSome (groupValue g (iwdEntry (sectionsOf Iwd file)) key) ≡ has (groupName g) key (sectionsOf Iwd file)
   value-given g q key = group-given Iwd name file (asked-reading (reading Iwd name file) a .1 .1) (groupName g) q key
 
-  string-given : (group key : List ℕ) → nonzero (lineIn (iwdEntry (sectionsOf Iwd file) group key)) ≡ has group key (sectionsOf Iwd file)
-  string-given group key = line-given (iwdEntry (sectionsOf Iwd file) group key) (group-line Iwd file group key) ∙ entry-given key (entriesIn group (sectionsOf Iwd file))
+  string-given : (group key : List ℕ) →
+      nonzero (lineIn (iwdEntry (sectionsOf Iwd file) group key)) ≡ has group key (sectionsOf Iwd file)
+  string-given group key =
+      line-given (iwdEntry (sectionsOf Iwd file) group key) (group-line Iwd file group key)
+      ∙ entry-given key (entriesIn group (sectionsOf Iwd file))
 
   pub iwd-settings-given : IwdGiven (sectionsOf Iwd file) (iwdAnswered name file .settings)
   unfolding groupOf keysOf at
@@ -139,11 +147,15 @@ module _ (name file : List ℕ) (w : ℕ) (a : askedOf w (reading ConnMan name f
   of : List ℕ → Option Entry
   of k = entryOf k (serviceAt w (sectionsOf ConnMan file))
 
-  key-value-given : (key : List ℕ) → isSome (valueOf Service (λ k. entryOf k (serviceAt w (sectionsOf ConnMan file))) key) ≡ given key (serviceAt w (sectionsOf ConnMan file))
+  key-value-given : (key : List ℕ) →
+      isSome (valueOf Service (λ k. entryOf k (serviceAt w (sectionsOf ConnMan file))) key) ≡ given key (serviceAt w (sectionsOf ConnMan file))
   key-value-given key = service-given name file (asked-service w (reading ConnMan name file) a .is) w key
 
-  key-string-given : (key : List ℕ) → nonzero (lineIn (entryOf key (serviceAt w (sectionsOf ConnMan file)))) ≡ given key (serviceAt w (sectionsOf ConnMan file))
-  key-string-given key = line-given (entryOf key (serviceAt w (sectionsOf ConnMan file))) (service-line ConnMan file w key) ∙ entry-given key (serviceAt w (sectionsOf ConnMan file))
+  key-string-given : (key : List ℕ) →
+      nonzero (lineIn (entryOf key (serviceAt w (sectionsOf ConnMan file)))) ≡ given key (serviceAt w (sectionsOf ConnMan file))
+  key-string-given key =
+      line-given (entryOf key (serviceAt w (sectionsOf ConnMan file))) (service-line ConnMan file w key)
+      ∙ entry-given key (serviceAt w (sectionsOf ConnMan file))
 
   pub service-settings-given : ServiceGiven (serviceAt w (sectionsOf ConnMan file)) (serviceAnswered name file w .settings)
   unfolding keysOf of

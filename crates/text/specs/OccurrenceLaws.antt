@@ -44,7 +44,8 @@ module _ {A : Type 0} where
   compared-more p (later t i j) = later t (ap₂ _∷_ p i) j
   compared-more p (sooner t i j) = sooner t (ap₂ _∷_ (sym p) i) j
 
-  pub compare : (a : List A) (x : A) (c b : List A) (y : A) (e : List A) → a ++ x ∷ c ≡ b ++ y ∷ e → Compared a x c b y e
+  pub compare : (a : List A) (x : A) (c b : List A) (y : A) (e : List A) → a ++ x ∷ c ≡ b ++ y ∷ e →
+      Compared a x c b y e
   compare [] x c [] y e q = alike refl (cc) (cc)
   compare [] x c (z ∷ b) y e q = let p : z ≡ x = cc in sooner b (ap (λ (w : A). w ∷ b) p) (cc)
   compare (z ∷ a) x c [] y e q = let p : z ≡ y = cc in later a (ap (λ (w : A). w ∷ a) p) (cc)

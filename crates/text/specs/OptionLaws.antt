@@ -19,15 +19,18 @@ module _ {A : Type 0} where
   only-some true o e = (refl, e)
   only-some false o {a} e = absurd (Option·none-ne-some a e)
 
-  pub then-some : {B : Type 0} (o : Option A) (f : A → Option B) {b : B} → andThen o f ≡ some b → (a : A) × (o ≡ some a) × (f a ≡ some b)
+  pub then-some : {B : Type 0} (o : Option A) (f : A → Option B) {b : B} → andThen o f ≡ some b →
+      (a : A) × (o ≡ some a) × (f a ≡ some b)
   then-some none f {b} e = absurd (Option·none-ne-some b e)
   then-some (some a) f e = (a, refl, e)
 
-  pub sized-some : (m n : ℕ) (o : Option (List A)) {t : List A} → sized m n o ≡ some t → (between m n (length t) ≡ true) × (o ≡ some t)
+  pub sized-some : (m n : ℕ) (o : Option (List A)) {t : List A} → sized m n o ≡ some t →
+      (between m n (length t) ≡ true) × (o ≡ some t)
   sized-some m n none {t} e = absurd (Option·none-ne-some t e)
   sized-some m n (some u) {t} e = go (between m n (length u)) refl e
     where
-      go : (b : Bool) → between m n (length u) ≡ b → cond b (some u) none ≡ some t → (between m n (length t) ≡ true) × (some u ≡ some t)
+      go : (b : Bool) → between m n (length u) ≡ b → cond b (some u) none ≡ some t →
+          (between m n (length t) ≡ true) × (some u ≡ some t)
       go true h k = (rw (Option·some-injective u t k) at h, k)
       go false h k = absurd (Option·none-ne-some t k)
 
@@ -43,19 +46,23 @@ module _ {A : Type 0} where
   unsized m n t h = go (between m n (length t)) refl
     where
       go : (b : Bool) → between m n (length t) ≡ b → cond b (some t) none ≡ none
-      go true e = absurd (h (record { least = between-low {x = length t} m n e; most = between-high {x = length t} m n e }))
+      go true e =
+          absurd (h (record { least = between-low {x = length t} m n e; most = between-high {x = length t} m n e }))
       go false e = refl
 
-  pub mapped-some : {B : Type 0} (f : A → B) (o : Option A) {b : B} → mapped f o ≡ some b → (a : A) × (o ≡ some a) × (f a ≡ b)
+  pub mapped-some : {B : Type 0} (f : A → B) (o : Option A) {b : B} → mapped f o ≡ some b →
+      (a : A) × (o ≡ some a) × (f a ≡ b)
   mapped-some f none {b} e = absurd (Option·none-ne-some b e)
   mapped-some f (some a) {b} e = (a, refl, Option·some-injective (f a) b e)
 
-  pub prepend-some : (x : A) (o : Option (List A)) {t : List A} → prepend x o ≡ some t → (u : List A) × (o ≡ some u) × (x ∷ u ≡ t)
+  pub prepend-some : (x : A) (o : Option (List A)) {t : List A} → prepend x o ≡ some t →
+      (u : List A) × (o ≡ some u) × (x ∷ u ≡ t)
   prepend-some x none {t} e = absurd (Option·none-ne-some t e)
   prepend-some x (some u) {t} e = (u, refl, Option·some-injective (x ∷ u) t e)
 
 -- what is read on from a list of a right length is read of that list
-pub sized-then : {A B : Type 0} (m n : ℕ) (f : List A → Option B) (t : List A) {b : B} → andThen (sized m n (some t)) f ≡ some b → Sized m n t × (f t ≡ some b)
+pub sized-then : {A B : Type 0} (m n : ℕ) (f : List A → Option B) (t : List A) {b : B} →
+    andThen (sized m n (some t)) f ≡ some b → Sized m n t × (f t ≡ some b)
 sized-then m n f t e =
     let k = then-some (sized m n (some t)) f e in
     let s = sized-is m n (some t) (k .1) in
@@ -64,14 +71,16 @@ sized-then m n f t e =
 
 -- texts are read each exactly where they stand pairwise, as R says, to what is read of them
 module _ {A : Type 0} (f : List ℕ → Option A) (R : List ℕ → A → Type 0) where
-  pub each-pairwise : ((p : List ℕ) (a : A) → f p ≡ some a → R p a) → (ps : List (List ℕ)) {xs : List A} → each f ps ≡ some xs → Pairwise R ps xs
+  pub each-pairwise : ((p : List ℕ) (a : A) → f p ≡ some a → R p a) → (ps : List (List ℕ)) {xs : List A} →
+      each f ps ≡ some xs → Pairwise R ps xs
   each-pairwise g [] {xs} e = subst (Pairwise R []) (Option·some-injective [] xs e) tt
   each-pairwise g (p ∷ ps) {xs} e =
       let k = then-some (f p) (λ a. prepend a (each f ps)) e in
       let u = prepend-some (k .0) (each f ps) (k .2) in
       subst (Pairwise R (p ∷ ps)) (u .2) (g p (k .0) (k .1), each-pairwise g ps (u .1))
 
-  pub pairwise-each : ((p : List ℕ) (a : A) → R p a → f p ≡ some a) → (ps : List (List ℕ)) (xs : List A) → Pairwise R ps xs → each f ps ≡ some xs
+  pub pairwise-each : ((p : List ℕ) (a : A) → R p a → f p ≡ some a) → (ps : List (List ℕ)) (xs : List A) →
+      Pairwise R ps xs → each f ps ≡ some xs
   pairwise-each g [] [] h = refl
   pairwise-each g [] (x ∷ xs) h = absurd h
   pairwise-each g (p ∷ ps) [] h = absurd h
@@ -90,10 +99,12 @@ module _ {A : Type 0} (P : A → Type 0) where
   holds-map Q f none h = tt
   holds-map Q f (some a) h = f a h
 
-pub sized-holds : {A : Type 0} (P : List A → Type 0) (low high : ℕ) (o : Option (List A)) → Holds P o → Holds (λ l. (between low high (length l) ≡ true) × P l) (sized low high o)
+pub sized-holds : {A : Type 0} (P : List A → Type 0) (low high : ℕ) (o : Option (List A)) → Holds P o →
+    Holds (λ l. (between low high (length l) ≡ true) × P l) (sized low high o)
 sized-holds P low high none h = tt
 sized-holds {A} P low high (some l) h = go (between low high (length l)) refl
   where
-    go : (t : Bool) → between low high (length l) ≡ t → Holds (λ (k : List A). (between low high (length k) ≡ true) × P k) (cond t (some l) none)
+    go : (t : Bool) → between low high (length l) ≡ t →
+        Holds (λ (k : List A). (between low high (length k) ≡ true) × P k) (cond t (some l) none)
     go true e = (e, h)
     go false e = tt

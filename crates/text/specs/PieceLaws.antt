@@ -9,7 +9,8 @@ use Rattle.text.specs.Parts.{onto, pieces}
 use Rattle.text.specs.Pieces.{Pieces, last, next}
 use Rattle.text.specs.Laws.{pieces-append, pieces-last}
 
-onto-pieces : (b x : ℕ) {s : List ℕ} {ps : List (List ℕ)} → eqb x b ≡ false → Pieces b s ps → Pieces b (x ∷ s) (onto x ps)
+onto-pieces : (b x : ℕ) {s : List ℕ} {ps : List (List ℕ)} → eqb x b ≡ false → Pieces b s ps →
+    Pieces b (x ∷ s) (onto x ps)
 onto-pieces b x e (last {p} h) = last {p = x ∷ p} (rw e h)
 onto-pieces b x e (next {p} h k) = next {p = x ∷ p} (rw e h) k
 
@@ -17,7 +18,8 @@ pub pieces-are : (b : ℕ) (v : List ℕ) → Pieces b v (pieces b v)
 pieces-are b [] = last refl
 pieces-are b (x ∷ v) = go (eqb x b) refl (pieces-are b v)
   where
-    go : (t : Bool) → eqb x b ≡ t → Pieces b v (pieces b v) → Pieces b (x ∷ v) (cond t ([] ∷ pieces b v) (onto x (pieces b v)))
+    go : (t : Bool) → eqb x b ≡ t → Pieces b v (pieces b v) →
+        Pieces b (x ∷ v) (cond t ([] ∷ pieces b v) (onto x (pieces b v)))
     go true e k = let q : x ≡ b = eqb-true x b e in rw q (next {p = []} refl k)
     go false e k = onto-pieces b x e k
 

@@ -21,7 +21,8 @@ module _ (p : ℕ → Bool) where
   front-after [] = refl
   front-after (x ∷ s) = go (p x) (front-after s)
     where
-      go : (b : Bool) → front p s ++ after p s ≡ s → take (cond b (suc (lead p s)) 0) (x ∷ s) ++ drop (cond b (suc (lead p s)) 0) (x ∷ s) ≡ x ∷ s
+      go : (b : Bool) → front p s ++ after p s ≡ s →
+          take (cond b (suc (lead p s)) 0) (x ∷ s) ++ drop (cond b (suc (lead p s)) 0) (x ∷ s) ≡ x ∷ s
       go true h = ap (λ (r : List ℕ). x ∷ r) h
       go false h = refl
 
@@ -33,7 +34,8 @@ module _ (p : ℕ → Bool) where
   after-stop [] y r h = let z : _≡_ {A = ℕ} 0 1 = cc in absurd (omega arith)
   after-stop (x ∷ s) y r h = go (p x) refl (after-stop s y r) h
     where
-      go : (b : Bool) → p x ≡ b → (after p s ≡ y ∷ r → p y ≡ false) → drop (cond b (suc (lead p s)) 0) (x ∷ s) ≡ y ∷ r → p y ≡ false
+      go : (b : Bool) → p x ≡ b → (after p s ≡ y ∷ r → p y ≡ false) →
+          drop (cond b (suc (lead p s)) 0) (x ∷ s) ≡ y ∷ r → p y ≡ false
       go true e f h = f h
       go false e f h = let q : x ≡ y = cc in ap p (sym q) ∙ e
 

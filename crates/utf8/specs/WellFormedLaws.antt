@@ -31,7 +31,8 @@ Apart n ([] ∷ rows) = ⊥
 Apart n ((r ∷ row) ∷ rows) = (n ≤ r .low) × (r .low ≤ r .high) × Apart (suc (r .high)) rows
 
 table-apart : Apart 0 table
-table-apart = (omega arith, omega arith, (omega arith, omega arith, (omega arith, omega arith, (omega arith, omega arith, (omega arith, omega arith, (omega arith, omega arith, (omega arith, omega arith, (omega arith, omega arith, (omega arith, omega arith, tt)))))))))
+table-apart =
+    (omega arith, omega arith, (omega arith, omega arith, (omega arith, omega arith, (omega arith, omega arith, (omega arith, omega arith, (omega arith, omega arith, (omega arith, omega arith, (omega arith, omega arith, (omega arith, omega arith, tt)))))))))
 
 -- the bytes of one of the rows
 abbrev InRow : List (List Range) → List ℕ → Type 0
@@ -41,16 +42,19 @@ within-between : (r : Range) (b : ℕ) → Within r b → between (r .low) (r .h
 within-between r b h = inside {x = b} (r .low) (r .high) (h .least) (h .most)
 
 between-within : (r : Range) (b : ℕ) → between (r .low) (r .high) b ≡ true → Within r b
-between-within r b h = record { least = between-low {x = b} (r .low) (r .high) h; most = between-high {x = b} (r .low) (r .high) h }
+between-within r b h =
+    record { least = between-low {x = b} (r .low) (r .high) h; most = between-high {x = b} (r .low) (r .high) h }
 
 -- a first byte is no less than where the rows begin
 row-least : (n b : ℕ) (q : List ℕ) (rows : List (List Range)) → Apart n rows → InRow rows (b ∷ q) → n ≤ b
 row-least n b q [] a h = absurd h
 row-least n b q ([] ∷ rows) a h = absurd a
 row-least n b q ((r ∷ row) ∷ rows) a (inl h) = let l = h .0 .least in let m = a .0 in omega arith
-row-least n b q ((r ∷ row) ∷ rows) a (inr h) = let l = row-least (suc (r .high)) b q rows (a .2) h in let m = a .0 in let k = a .1 in omega arith
+row-least n b q ((r ∷ row) ∷ rows) a (inr h) =
+    let l = row-least (suc (r .high)) b q rows (a .2) h in let m = a .0 in let k = a .1 in omega arith
 
-row-found : (n b : ℕ) (q : List ℕ) (rows : List (List Range)) → Apart n rows → InRow rows (b ∷ q) → Pairwise Within (found b rows) q
+row-found : (n b : ℕ) (q : List ℕ) (rows : List (List Range)) → Apart n rows → InRow rows (b ∷ q) →
+    Pairwise Within (found b rows) q
 row-found n b q [] a h = absurd h
 row-found n b q ([] ∷ rows) a h = absurd a
 row-found n b q ((r ∷ row) ∷ rows) a (inl h) = rw (within-between r b (h .0)) (h .1)
@@ -64,7 +68,8 @@ found-row b (x ∷ q) [] h = let l = h .0 .least in let m = h .0 .most in absurd
 found-row b q ([] ∷ rows) h = inr (found-row b q rows h)
 found-row b q ((r ∷ row) ∷ rows) h = go (between (r .low) (r .high) b) refl (λ k. found-row b q rows k) h
   where
-    go : (t : Bool) → between (r .low) (r .high) b ≡ t → (Pairwise Within (found b rows) q → InRow rows (b ∷ q)) → Pairwise Within (cond t row (found b rows)) q → InRow ((r ∷ row) ∷ rows) (b ∷ q)
+    go : (t : Bool) → between (r .low) (r .high) b ≡ t → (Pairwise Within (found b rows) q → InRow rows (b ∷ q)) →
+        Pairwise Within (cond t row (found b rows)) q → InRow ((r ∷ row) ∷ rows) (b ∷ q)
     go true e f h = inl (between-within r b e, h)
     go false e f h = inr (f h)
 
@@ -104,7 +109,8 @@ from-goes : (rs : List Range) (s : List ℕ) → utf8From rs s ≡ true → Goes
 unfolding utf8From
 from-goes [] [] e = record { bytes = []; rest = []; is = refl; within = tt; formed = no-more }
 from-goes (r ∷ rs) [] e = absurd (false≢true e)
-from-goes [] (b ∷ s) e = record { bytes = []; rest = b ∷ s; is = refl; within = tt; formed = goes-formed b s (from-goes (follow b) s e) }
+from-goes [] (b ∷ s) e =
+    record { bytes = []; rest = b ∷ s; is = refl; within = tt; formed = goes-formed b s (from-goes (follow b) s e) }
 from-goes (r ∷ rs) (b ∷ s) e =
     let f = and-true (between (r .low) (r .high) b) (utf8From rs s) e in
     let k = from-goes rs s (f .1) in
