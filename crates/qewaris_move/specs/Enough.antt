@@ -1,10 +1,10 @@
 -- Why the kept part of the input is enough for a move.
 use Prim.Native.Nat.{ℕ, _<_}
 use mathlib.Core.Path.{_≡_, refl, ap, sym, _∙_}
-use mathlib.Core.Bool.{Bool, true, false, cond, _&&_}
+use mathlib.Core.Bool.{Bool, true, false}
 use mathlib.Core.List.{List, []}
 use native.Mathlib.Omega.{arith}
-use borrow.Author.Tests.{lt-leb, leb-true, leb-false}
+use borrow.Author.Tests.{leb-true, leb-false}
 use lib.Dec.{leb}
 use lib.ListN.{length, take, length-take}
 use lib.Seq.{take-all}
@@ -23,15 +23,14 @@ use Rattle.intake.specs.Forms.{formFrom, complete}
 use Rattle.intake.specs.Laws.{form-connman}
 use Rattle.rules.specs.Acceptance.{reading-large}
 use Rattle.intake.specs.Enough.{reading-name}
+use mathlib.Core.Option.{Option}
+use Rattle.text.specs.Options.{andThen}
+use Rattle.text.specs.OptionLaws.{unsized}
 use Rattle.qewaris_move.specs.Number.{orZero, serviceNumber}
 
 -- four bytes of a number line already count as 0, whatever follows
 pub number-long : (s : List ℕ) → 3 < length s → serviceNumber s ≡ 0
-number-long s h = rw (lt-leb (length s) 3 h) (go (leb 1 (length s)))
-  where
-    go : (b : Bool) → cond (b && false) (orZero (value 0 s)) 0 ≡ 0
-    go true = refl
-    go false = refl
+number-long s h = ap (λ (o : Option (List ℕ)). orZero (andThen o (value 0))) (unsized 1 3 s (λ z. omega (arith, z .most)))
 
 pub number-front : (s : List ℕ) (m : ℕ) → 3 < m → serviceNumber (take m s) ≡ serviceNumber s
 number-front s m h = go (leb (length s) m) refl

@@ -1,10 +1,8 @@
 -- The number of a service, from its line.
 use Prim.Native.Nat.{ℕ}
-use mathlib.Core.Bool.{cond}
 use mathlib.Core.List.{List}
 use mathlib.Core.Option.{Option, none, some}
-use lib.ListN.{length}
-use Rattle.text.specs.Bytes.{between}
+use Rattle.text.specs.Options.{andThen, sized}
 use Rattle.addresses.specs.Addresses.{value}
 
 -- what was read, or 0
@@ -14,4 +12,4 @@ orZero (some v) = v
 
 -- "anything but 1 to 3 decimal digits counts as 0"
 abbrev pub serviceNumber : List ℕ → ℕ
-serviceNumber s = cond (between 1 3 (length s)) (orZero (value 0 s)) 0
+serviceNumber s = orZero (andThen (sized 1 3 (some s)) (value 0))
