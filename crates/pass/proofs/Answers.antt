@@ -23,7 +23,7 @@ use Rattle.rules.specs.declared.Refusal.{Refusal}
 use Rattle.rules.specs.declared.Refusal.the-variants.{Size, FileName}
 use Rattle.reader.specs.Holds.{Holds}
 use Rattle.reader.specs.Steps.{Known}
-use Rattle.reader.specs.Ending.{kindOfName, dialectOf, Held, Ends}
+use Rattle.reader.specs.Ending.{kindOfName, dialectOf, Ends}
 use Rattle.reader.specs.declared.FileKind.{FileKind}
 use Rattle.reader.specs.declared.FileKind.the-variants as K
 use Rattle.reader.specs.declared.State.{State}
@@ -60,55 +60,56 @@ refused-accepted e = let z : _≡_ {A = ℕ} 0 1 = cc in absurd (omega arith)
 
 -- ---- a file whose size is allowed
 
-module _ {d : Dialect} {file : List ℕ} {w : ℕ} {y : List ℕ} where
-  pub kind-misnamed : {k : FileKind} → k ≡ K.Misnamed → ReadsKind k d file w y (Refused FileName 0)
-  kind-misnamed {k} e = record { is = λ name q. go (nameIn d name) q; found = λ q. refused-accepted q }
+module _ {d : Dialect} {file : List ℕ} {y : List ℕ} where
+  pub kind-misnamed : {k : FileKind} → k ≡ K.Misnamed → ReadsKind k d file y (Refused FileName 0)
+  kind-misnamed {k} e = record { is = λ name q. go (nameIn d name) q; found = λ q. refused-accepted q; few = λ q. refused-accepted q }
     where
       go : (o : Option Name) → k ≡ kindOfName o → Refused FileName 0 ≡ readingOf d o file
       go none q = refl
       go (some n) q = absurd (some-kind n (sym e ∙ q))
 
-module _ {d : Dialect} {file : List ℕ} {w : ℕ} {x : List ℕ} {r : Walked} (h : Walks d file w x r) where
-  walked : {q : Walked} → r ≡ q → WalkIs d file w x q
-  walked e = subst (WalkIs d file w x) e (h .is)
+module _ {d : Dialect} {file : List ℕ} {x : List ℕ} {r : Walked} (h : Walks d file x r) where
+  walked : {q : Walked} → r ≡ q → WalkIs d file x q
+  walked e = subst (WalkIs d file x) e (h .is)
 
-  pub walked-held : {st : State} → r ≡ Through st → Held file w st x
-  walked-held e = record { dialect = d; known = record { groups = grown d 1 0 [] (lines file); holds = walked e .1 } }
+  pub walked-held : {st : State} → r ≡ Through st → (length x ≡ 976) × (st .services ≤ 8)
+  walked-held e = (walked e .1 .table .long, walked e .1 .spans .few)
 
   module _ {k : FileKind} (t : OneOf (1 ∷ 2 ∷ []) (tagOf the-type k)) where
-    pub kind-stopped : {f : Refusal} {l : ℕ} → r ≡ Stopped f l → ReadsKind k d file w x (Refused f l)
-    kind-stopped {f} {l} e = record { is = λ name q. go (nameIn d name) q; found = λ q. refused-accepted q }
+    pub kind-stopped : {f : Refusal} {l : ℕ} → r ≡ Stopped f l → ReadsKind k d file x (Refused f l)
+    kind-stopped {f} {l} e = record { is = λ name q. go (nameIn d name) q; found = λ q. refused-accepted q; few = λ q. refused-accepted q }
       where
         go : (o : Option Name) → k ≡ kindOfName o → Refused f l ≡ readingOf d o file
         go none q = absurd (none-kind k t q)
         go (some n) q = rw (walked e)
 
-    pub kind-through : {st : State} → r ≡ Through st → {a : Reading} {y : List ℕ} → Ends k file w st x a y → ReadsKind k d file w y a
+    pub kind-through : {st : State} → r ≡ Through st → {a : Reading} → Ends k st x a → ReadsKind k d file x a
     unfolding sectionsOf
-    kind-through {st} e {a} {y} ends =
+    kind-through {st} e {a} ends =
         record {
           is = λ name q. go name (nameIn d name) refl q;
-          found = λ q. record { groups = grown d 1 0 [] (lines file); all = refl; kept = ends .kept d (grown d 1 0 [] (lines file)) (walked e .1) };
+          found = λ q. record { groups = grown d 1 0 [] (lines file); all = refl; kept = walked e .1 .table };
+          few = λ q. omega (arith, ends .counted q, walked e .1 .spans .few);
         }
       where
         go : (name : List ℕ) (o : Option Name) → nameIn d name ≡ o → k ≡ kindOfName o → a ≡ readingOf d o file
         go name none v q = absurd (none-kind k t q)
-        go name (some n) v q = rw (walked e .0) (ends .reading n q (grown d 1 0 [] (lines file)) (subst (λ (b : Dialect). Holds b file w st x (grown d 1 0 [] (lines file))) (sym (name-dialect d name v)) (walked e .1)))
+        go name (some n) v q = rw (walked e .0) (ends .reading n q (grown d 1 0 [] (lines file)) (subst (λ (b : Dialect). Holds b file st x (grown d 1 0 [] (lines file))) (sym (name-dialect d name v)) (walked e .1)))
 
 -- ---- any file
 
-module _ {d : Dialect} (name : List ℕ) {file : List ℕ} {w : ℕ} where
-  pub reads-large : {y : List ℕ} → 16384 < length file → y ≡ replicate 384 0 → Reads d name file w y (Refused Size 0)
+module _ {d : Dialect} (name : List ℕ) {file : List ℕ} where
+  pub reads-large : {y : List ℕ} → 16384 < length file → y ≡ replicate 976 0 → Reads d name file y (Refused Size 0)
   unfolding reading
-  reads-large l e = record { is = rw (lt-leb (length file) 16384 l); found = λ q. refused-accepted q; left = λ q. e }
+  reads-large l e = record { is = rw (lt-leb (length file) 16384 l); found = λ q. refused-accepted q; few = λ q. refused-accepted q; left = λ q. e }
 
-  module _ (l : length file ≤ 16384) {k : FileKind} (e : k ≡ kindOfName (nameIn d name)) {y : List ℕ} {r : Reading} (h : ReadsKind k d file w y r) where
+  module _ (l : length file ≤ 16384) {k : FileKind} (e : k ≡ kindOfName (nameIn d name)) {y : List ℕ} {r : Reading} (h : ReadsKind k d file y r) where
     is-reading : r ≡ reading d name file
     unfolding reading
     is-reading = rw (le-leb (length file) 16384 l) (h .is name e)
 
-    pub reads-accepted : {n m : ℕ} → r ≡ Accepted n m → Reads d name file w y (Accepted n m)
-    reads-accepted q = record { is = sym q ∙ is-reading; found = λ z. h .found q; left = λ z. refused-accepted (sym z) }
+    pub reads-accepted : {n m : ℕ} → r ≡ Accepted n m → Reads d name file y (Accepted n m)
+    reads-accepted q = record { is = sym q ∙ is-reading; found = λ z. h .found q; few = λ z. h .few (q ∙ z); left = λ z. refused-accepted (sym z) }
 
-    pub reads-refused : {f : Refusal} {i : ℕ} → r ≡ Refused f i → {z : List ℕ} → z ≡ replicate 384 0 → Reads d name file w z (Refused f i)
-    reads-refused q v = record { is = sym q ∙ is-reading; found = λ z. refused-accepted z; left = λ z. v }
+    pub reads-refused : {f : Refusal} {i : ℕ} → r ≡ Refused f i → {z : List ℕ} → z ≡ replicate 976 0 → Reads d name file z (Refused f i)
+    reads-refused q v = record { is = sym q ∙ is-reading; found = λ z. refused-accepted z; few = λ z. refused-accepted z; left = λ z. v }

@@ -1,5 +1,5 @@
 -- The walk over the lines: the invariant, and one law for each turn and return.
-use Prim.Native.Nat.{ℕ, suc, _+_, _-_, _≤_, _<_}
+use Prim.Native.Nat.{ℕ, suc, _+_, _*_, _-_, _≤_, _<_}
 use native.Mathlib.Omega.{arith}
 use native.Mathlib.Numerals.{add-one}
 use mathlib.Core.Path.{_≡_, refl, ap, ap₂, sym, _∙_, subst}
@@ -22,39 +22,37 @@ use Rattle.rules.specs.declared.Group.{Group}
 use Rattle.rules.specs.declared.Group.the-variants as G
 use Rattle.rules.specs.declared.Refusal.{Refusal}
 use Rattle.reader.specs.Store.{Slot, slot, emptySlot}
-use Rattle.reader.specs.History.{groupNumber, base, foundBase}
+use Rattle.reader.specs.History.{baseAt, groupAt}
 use Rattle.reader.specs.Holds.{Row, Holds}
 use Rattle.reader.specs.Steps.{Known, StepIs, Steps}
 use Rattle.reader.specs.declared.State.{State}
 use Rattle.reader.specs.declared.Current.the-variants.{Outside}
-use Rattle.reader.specs.declared.Pending.the-variants.{Nothing}
 use Rattle.reader.specs.declared.Stepped.{Stepped}
 use Rattle.reader.specs.declared.Stepped.the-variants.{Goes, Stops}
-use Rattle.reader.proofs.Rows.{keys-few}
-use Rattle.reader.proofs.SettingLine.{number-few}
+use Rattle.reader.proofs.Rows.{keys-few, lies}
 use Rattle.pass.specs.Pass.{Walks}
 use Rattle.pass.specs.declared.Walked.the-variants.{Through, Stopped}
 
 -- the rest of the file from at on, after the groups of which state and table tell, is what the whole file is
-pub record Running (d : Dialect) (file : List ℕ) (w : ℕ) (x : List ℕ) (st : State) (at line : ℕ) : Type 0 where
+pub record Running (d : Dialect) (file : List ℕ) (x : List ℕ) (st : State) (at line : ℕ) : Type 0 where
   pub small : length file ≤ 16384
   pub within : at ≤ length file + 1
   pub low : st .settings < line
   pub high : line ≤ at + 1
-  pub known : Known d file w st x
+  pub known : Known d file st x
   pub rest : lineFault d line at (known .groups) (lines (drop at file)) ≡ lineFault d 1 0 [] (lines file)
   pub all : grown d line at (known .groups) (lines (drop at file)) ≡ grown d 1 0 [] (lines file)
 
 -- ---- before the first line
 
-empty-slot : (i : ℕ) → i < 128 → slot i (replicate 384 0) ≡ emptySlot
-empty-slot i h = rw (getD-replicate {A = ℕ} 384 i 0 0 (omega (arith, h)), getD-replicate {A = ℕ} 384 (128 + i) 0 0 (omega (arith, h)), getD-replicate {A = ℕ} 384 (256 + i) 0 0 (omega (arith, h)))
+empty-slot : (i : ℕ) → i < 244 → slot i (replicate 976 0) ≡ emptySlot
+empty-slot i h = rw (getD-replicate {A = ℕ} 976 i 0 0 (omega (arith, h)), getD-replicate {A = ℕ} 976 (244 + i) 0 0 (omega (arith, h)), getD-replicate {A = ℕ} 976 (488 + i) 0 0 (omega (arith, h)), getD-replicate {A = ℕ} 976 (732 + i) 0 0 (omega (arith, h)))
 
-pub empty-row : (file : List ℕ) (b : ℕ) (t : List (List ℕ)) → ((k : List ℕ) → b + place k t < 128) → Row file (replicate 384 0) b t []
-empty-row file b t h = record { each = λ k z. empty-slot (b + place k t) (h k) }
+pub empty-row : (d : Dialect) (file : List ℕ) (b : ℕ) (g : Group) → b ≤ 200 → Row d file (replicate 976 0) b g []
+empty-row d file b g h = record { each = λ k z. empty-slot (b + place k (keyNames g)) (omega (arith, h, keys-few g k)) }
 
-pub running-first : (d : Dialect) (file : List ℕ) (w : ℕ) → length file ≤ 16384 → {x : List ℕ} → x ≡ replicate 384 0 → Running d file w x (record { current = Outside; services = 0; settings = 0; pending = Nothing }) 0 1
-running-first d file w h e =
+pub running-first : (d : Dialect) (file : List ℕ) → length file ≤ 16384 → {x : List ℕ} → x ≡ replicate 976 0 → Running d file x (record { current = Outside; services = 0; settings = 0 }) 0 1
+running-first d file h e =
     rw e
     (record {
       small = h;
@@ -64,17 +62,16 @@ running-first d file w h e =
       known = record {
         groups = [];
         holds = record {
-          long = length-replicate {A = ℕ} 384 0;
+          table = record {
+            long = length-replicate {A = ℕ} 976 0;
+            rows = record { few = omega arith; well = tt; each = λ r l. empty-row d file (baseAt r) (groupAt r) (let o = lies d r l in omega arith) };
+            heads = λ r l. empty-slot (baseAt r) (let o = lies d r l in omega arith);
+          };
           current = refl;
           services = refl;
           settings = refl;
-          pending = refl;
-          rows = λ g. empty-row file (base g) (keyNames g) (λ k. omega (arith, number-few g, keys-few g k));
-          heads = λ g. empty-slot (base g) (omega (arith, number-few g));
           spans = record { few = omega arith; each = λ i k. absurd (omega (arith, k)) };
           names = λ n q. refl;
-          found = empty-row file foundBase (keyNames G.Service) (λ k. omega (arith, keys-few G.Service k));
-          well = tt;
         };
       };
       rest = refl;
@@ -111,8 +108,8 @@ line-next : (d : Dialect) (n s : ℕ) (gs : List Section) (l : List ℕ) (ls : L
 unfolding grown
 line-next d n s gs l ls = refl
 
-module _ {d : Dialect} {file : List ℕ} {w : ℕ} {x : List ℕ} {st : State} {at line : ℕ} (h : Running d file w x st at line) where
-  module _ (l : at < length file) {end : ℕ} (t : Stop inLine file at end) {y : List ℕ} {r : Stepped} (p : Steps d file w st x line at (valueStart d (part at end file)) (lineOf d (part at end file)) y r) where
+module _ {d : Dialect} {file : List ℕ} {x : List ℕ} {st : State} {at line : ℕ} (h : Running d file x st at line) where
+  module _ (l : at < length file) {end : ℕ} (t : Stop inLine file at end) {y : List ℕ} {r : Stepped} (p : Steps d file st x line at (valueStart d (part at end file)) (lineOf d (part at end file)) y r) where
     abbrev this : List ℕ
     this = part at end file
 
@@ -122,13 +119,13 @@ module _ {d : Dialect} {file : List ℕ} {w : ℕ} {x : List ℕ} {st : State} {
     next : at + length this + 1 ≡ end + 1
     next = omega (arith, part-long file at end (stop-low t) (t .within), stop-low t)
 
-    stepped : {q : Stepped} → r ≡ q → StepIs d file w (h .known .groups) line at (valueStart d this) (lineOf d this) y q
-    stepped e = subst (StepIs d file w (h .known .groups) line at (valueStart d this) (lineOf d this) y) e (p .says (h .known .groups) (h .known .holds))
+    stepped : {q : Stepped} → r ≡ q → StepIs d file (h .known .groups) line at (valueStart d this) (lineOf d this) y q
+    stepped e = subst (StepIs d file (h .known .groups) line at (valueStart d this) (lineOf d this) y) e (p .says (h .known .groups) (h .known .holds))
 
-    pub running-stop : {f : Refusal} → r ≡ Stops f → Walks d file w y (Stopped f line)
+    pub running-stop : {f : Refusal} → r ≡ Stops f → Walks d file y (Stopped f line)
     running-stop e = record { is = sym (h .rest) ∙ ap (lineFault d line at (h .known .groups)) view ∙ line-bad d line at (h .known .groups) this (lines (drop (end + 1) file)) (stepped e) }
 
-    pub running-turn : {s : State} → r ≡ Goes s → Running d file w y s (end + 1) (line + 1)
+    pub running-turn : {s : State} → r ≡ Goes s → Running d file y s (end + 1) (line + 1)
     running-turn e =
         let k = stepped e in
         record {
@@ -145,9 +142,9 @@ module _ {d : Dialect} {file : List ℕ} {w : ℕ} {x : List ℕ} {st : State} {
     none-left : lines (drop at file) ≡ []
     none-left = ap lines (drop-of-length-le file l)
 
-    pub running-end : Walks d file w x (Through st)
+    pub running-end : Walks d file x (Through st)
     unfolding lineFault grown
     running-end =
         record {
-          is = (sym (h .rest) ∙ ap (lineFault d line at (h .known .groups)) none-left, subst (λ (gs : List Section). Holds d file w st x gs) (sym (ap (grown d line at (h .known .groups)) none-left) ∙ h .all) (h .known .holds));
+          is = (sym (h .rest) ∙ ap (lineFault d line at (h .known .groups)) none-left, subst (λ (gs : List Section). Holds d file st x gs) (sym (ap (grown d line at (h .known .groups)) none-left) ∙ h .all) (h .known .holds));
         }

@@ -1,5 +1,5 @@
 -- What the pass over a file answers, and what the table of places then says.
-use Prim.Native.Nat.{ℕ}
+use Prim.Native.Nat.{ℕ, _≤_}
 use mathlib.Core.Path.{_≡_}
 use mathlib.Core.List.{List, [], reverse}
 use mathlib.Core.Option.{Option, none, some}
@@ -11,34 +11,36 @@ use Rattle.rules.specs.Reading.{Name, lineFault, grown, sectionsOf, nameIn, rea
 use Rattle.rules.specs.declared.Reading.{Reading}
 use Rattle.rules.specs.declared.Reading.the-variants.{Accepted, Refused}
 use Rattle.rules.specs.declared.Refusal.{Refusal}
-use Rattle.reader.specs.Holds.{Holds}
-use Rattle.reader.specs.Ending.{kindOfName, Kept}
+use Rattle.reader.specs.Holds.{Table, Holds}
+use Rattle.reader.specs.Ending.{kindOfName}
 use Rattle.reader.specs.declared.FileKind.{FileKind}
 use Rattle.pass.specs.declared.Walked.{Walked}
 use Rattle.pass.specs.declared.Walked.the-variants.{Through, Stopped}
 
 -- no line is faulty, and the state and the table hold of the groups of the whole file; or the first faulty line
-abbrev pub WalkIs : Dialect → List ℕ → ℕ → List ℕ → Walked → Type 0
-WalkIs d file w y (Through st) =
-    (lineFault d 1 0 [] (lines file) ≡ none) × Holds d file w st y (grown d 1 0 [] (lines file))
-WalkIs d file w y (Stopped r l) = lineFault d 1 0 [] (lines file) ≡ some (record { refusal = r; line = l })
+abbrev pub WalkIs : Dialect → List ℕ → List ℕ → Walked → Type 0
+WalkIs d file y (Through st) =
+    (lineFault d 1 0 [] (lines file) ≡ none) × Holds d file st y (grown d 1 0 [] (lines file))
+WalkIs d file y (Stopped r l) = lineFault d 1 0 [] (lines file) ≡ some (record { refusal = r; line = l })
 
-pub record Walks (d : Dialect) (file : List ℕ) (w : ℕ) (y : List ℕ) (r : Walked) : Type 0 where
-  pub is : WalkIs d file w y r
+pub record Walks (d : Dialect) (file : List ℕ) (y : List ℕ) (r : Walked) : Type 0 where
+  pub is : WalkIs d file y r
 
--- where the settings of an accepted file stand, and those of service w
-pub record Found (d : Dialect) (file : List ℕ) (w : ℕ) (y : List ℕ) : Type 0 where
+-- where the settings of an accepted file stand
+pub record Found (d : Dialect) (file : List ℕ) (y : List ℕ) : Type 0 where
   pub groups : List Section
   pub all : reverse groups ≡ sectionsOf d file
-  pub kept : Kept d file w y groups
+  pub kept : Table d file y groups
 
 -- of a file whose size is allowed and whose name says the kind k
-pub record ReadsKind (k : FileKind) (d : Dialect) (file : List ℕ) (w : ℕ) (y : List ℕ) (r : Reading) : Type 0 where
+pub record ReadsKind (k : FileKind) (d : Dialect) (file : List ℕ) (y : List ℕ) (r : Reading) : Type 0 where
   pub is : (name : List ℕ) → k ≡ kindOfName (nameIn d name) → r ≡ readingOf d (nameIn d name) file
-  pub found : {n m : ℕ} → r ≡ Accepted n m → Found d file w y
+  pub found : {n m : ℕ} → r ≡ Accepted n m → Found d file y
+  pub few : {n m : ℕ} → r ≡ Accepted n m → m ≤ 8
 
 -- of any file; the table was empty before, and "Every answer but 0 leaves all lent buffers unchanged"
-pub record Reads (d : Dialect) (name file : List ℕ) (w : ℕ) (y : List ℕ) (r : Reading) : Type 0 where
+pub record Reads (d : Dialect) (name file : List ℕ) (y : List ℕ) (r : Reading) : Type 0 where
   pub is : r ≡ reading d name file
-  pub found : {n m : ℕ} → r ≡ Accepted n m → Found d file w y
-  pub left : {f : Refusal} {l : ℕ} → r ≡ Refused f l → y ≡ replicate 384 0
+  pub found : {n m : ℕ} → r ≡ Accepted n m → Found d file y
+  pub few : {n m : ℕ} → r ≡ Accepted n m → m ≤ 8
+  pub left : {f : Refusal} {l : ℕ} → r ≡ Refused f l → y ≡ replicate 976 0

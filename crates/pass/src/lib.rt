@@ -11,7 +11,6 @@ ghost use Rattle.reader.specs.Ending.{kindOfName};
 ghost use Rattle.pass.specs.Pass.{Walks, ReadsKind, Reads};
 use reader::Current;
 use reader::FileKind;
-use reader::Pending;
 use reader::State;
 use reader::Stepped;
 use rules::Reading;
@@ -55,22 +54,21 @@ fn kind_of(d: Dialect, name: &[u8]) -> FileKind
 }
 
 // Walks over the lines of a file, and stops at the first faulty one.
-fn walk(d: Dialect, file: &[u8], x: &mut [u16; 384], wanted: usize) -> Walked
+fn walk(d: Dialect, file: &[u8], x: &mut [u16; 976]) -> Walked
     requires small { ⌜ length (now file) ≤ 16384 ⌝ }
-    requires empty { ⌜ now x ≡ replicate 384 0 ⌝ }
-    ensures { λ r. ⌜ Walks d (now (file .entry)) wanted (now (x .exit)) r ⌝ }
+    requires empty { ⌜ now x ≡ replicate 976 0 ⌝ }
+    ensures { λ r. ⌜ Walks d (now (file .entry)) (now (x .exit)) r ⌝ }
 {
     let mut st = State {
         current: Current::Outside,
         services: 0,
         settings: 0,
-        pending: Pending::Nothing,
     };
     let mut at = 0;
     let mut line = 1;
     while at < file.len() {
         let end = text::scan::line_end(file, at);
-        let stepped = reader::steps::step(d, file, x, wanted, st, at, end, line);
+        let stepped = reader::steps::step(d, file, x, st, at, end, line);
         match stepped {
             Stepped::Stops(refusal) => {
                 return Walked::Stopped(refusal, line);
@@ -86,36 +84,36 @@ fn walk(d: Dialect, file: &[u8], x: &mut [u16; 384], wanted: usize) -> Walked
 }
 
 // The reading of a file whose size is allowed and whose name says this kind.
-fn read_kind(kind: FileKind, d: Dialect, file: &[u8], x: &mut [u16; 384], wanted: usize) -> Reading
+fn read_kind(kind: FileKind, d: Dialect, file: &[u8], x: &mut [u16; 976]) -> Reading
     requires small { ⌜ length (now file) ≤ 16384 ⌝ }
-    requires empty { ⌜ now x ≡ replicate 384 0 ⌝ }
-    ensures { λ r. ⌜ ReadsKind kind d (now (file .entry)) wanted (now (x .exit)) r ⌝ }
+    requires empty { ⌜ now x ≡ replicate 976 0 ⌝ }
+    ensures { λ r. ⌜ ReadsKind kind d (now (file .entry)) (now (x .exit)) r ⌝ }
 {
     if let FileKind::Misnamed = kind {
         return Reading::Refused(Refusal::FileName, 0);
     }
-    let walked = walk(d, file, x, wanted);
+    let walked = walk(d, file, x);
     match walked {
-        Walked::Through(st) => reader::ending::ending(kind, file, x, wanted, st),
+        Walked::Through(st) => reader::ending::ending(kind, x, st),
         Walked::Stopped(refusal, line) => Reading::Refused(refusal, line),
     }
 }
 
-// Reads a file, and leaves where its settings stand and those of the service asked for, counted from 1, in the table. A
-// refusal leaves the table as it was, empty.
-pub fn read(d: Dialect, name: &[u8], file: &[u8], x: &mut [u16; 384], wanted: usize) -> Reading
-    requires empty { ⌜ now x ≡ replicate 384 0 ⌝ }
-    ensures { λ r. ⌜ Reads d (now (name .entry)) (now (file .entry)) wanted (now (x .exit)) r ⌝ }
+// Reads a file, and leaves where its settings stand, those of each service in a row of their own, in the table. A refusal
+// leaves the table as it was, empty.
+pub fn read(d: Dialect, name: &[u8], file: &[u8], x: &mut [u16; 976]) -> Reading
+    requires empty { ⌜ now x ≡ replicate 976 0 ⌝ }
+    ensures { λ r. ⌜ Reads d (now (name .entry)) (now (file .entry)) (now (x .exit)) r ⌝ }
 {
     if 16384 < file.len() {
         return Reading::Refused(Refusal::Size, 0);
     }
     let kind = kind_of(d, name);
-    let reading = read_kind(kind, d, file, x, wanted);
+    let reading = read_kind(kind, d, file, x);
     match reading {
         Reading::Accepted(settings, services) => Reading::Accepted(settings, services),
         Reading::Refused(refusal, line) => {
-            *x = [0; 384];
+            *x = [0; 976];
             Reading::Refused(refusal, line)
         }
     }

@@ -15,7 +15,7 @@ use Rattle.rules.specs.Groups.{Fault, sectionFault, servicesFault, entriesIn}
 use Rattle.rules.specs.Reading.{settings}
 use Rattle.reader.specs.History.{allFault}
 use Rattle.reader.specs.Holds.{WellNamed}
-use Rattle.reader.proofs.ClosingFault.{or-none}
+use Rattle.reader.proofs.ServicesFault.{or-none}
 
 -- ---- how many services, how many settings
 

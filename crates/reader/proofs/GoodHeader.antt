@@ -11,7 +11,7 @@ use lib.ListN.{length}
 use Rattle.text.specs.Parts.{partAt, Inside}
 use Rattle.text.specs.declared.Dialect.{Dialect}
 use Rattle.text.specs.declared.Place.{Place}
-use Rattle.lines.specs.Lines.{header}
+use Rattle.lines.specs.Lines as Lines
 use Rattle.rules.specs.Tables.{groupOf}
 use Rattle.rules.specs.Faults.{Section, nameGiven, serves, services, headerFault, fault, after, withGroup}
 use Rattle.rules.specs.GoodEntries.{serves-service}
@@ -19,51 +19,43 @@ use Rattle.rules.specs.declared.Group.{Group}
 use Rattle.rules.specs.declared.Group.the-variants.{Service}
 use Rattle.rules.specs.declared.Refusal.{Refusal}
 use Rattle.rules.specs.declared.Refusal.the-variants.{RepeatedGroup, ManyServices}
-use Rattle.reader.specs.Store.{Slot, stored, Began}
-use Rattle.reader.specs.History.{base, headSlot}
-use Rattle.reader.specs.Holds.{Holds, pendingOf}
-use Rattle.reader.specs.Closing.{slotsFault, orPending}
+use Rattle.reader.specs.Store.{stored}
+use Rattle.reader.specs.History.{base, nameBase}
+use Rattle.reader.specs.Holds.{Holds}
 use Rattle.reader.specs.Headings.{slotsNamed, slotsOpen, slotsHeading}
-use Rattle.reader.specs.Steps.{Opened, Steps, StepIs}
+use Rattle.reader.specs.Steps.{header, named, Opened, Steps, StepIs}
 use Rattle.reader.specs.declared.State.{State}
 use Rattle.reader.specs.declared.Current.the-variants.{In}
 use Rattle.reader.specs.declared.Heading.{Heading}
 use Rattle.reader.specs.declared.Heading.the-variants.{Opens, Refused}
 use Rattle.reader.specs.declared.Stepped.the-variants.{Goes, Stops}
-use Rattle.reader.proofs.PlainHeading.{renamed, holds-plain}
+use Rattle.reader.proofs.PlainHeading.{holds-plain}
 use Rattle.reader.proofs.ServiceHeading.{holds-service}
-use Rattle.reader.proofs.HeadingFault.{headingFault, base-serves, heading-fault}
+use Rattle.reader.proofs.HeadingFault.{headingFault, heading-fault}
 
--- ---- whether the row is that of services
+-- ---- what is stored
 
-module _ (g : Group) {row : ℕ} (b : row ≡ base g) where
-  pub row-serves : row ≡ 80 → serves g ≡ true
-  row-serves e = sym (base-serves g) ∙ eq-eqb (base g) 80 (sym b ∙ e)
-
-  pub row-plain : (row ≡ 80 → ⊥) → serves g ≡ false
-  row-plain e = sym (base-serves g) ∙ ne-eqb (base g) 80 (λ q. e (b ∙ q))
-
-  pub room-few : row ≡ 80 → (n : ℕ) → (eqb (base g) 80 && leb 8 n) ≡ false → n < 8
-  room-few e n q = leb-false 8 n (ap (λ (t : Bool). t && leb 8 n) (sym (eq-eqb (base g) 80 (sym b ∙ e))) ∙ q)
-
-module _ {file : List ℕ} {w : ℕ} {st : State} {x : List ℕ} {g : Group} {s : ℕ} {p : Place} {l : ℕ} {r : State} {y : List ℕ} where
-  pub opened-service : serves g ≡ true → Began w (st .services) (record { start = s; end = s; line = l }) (record { start = p .start; end = p .end; line = l }) x y → r ≡ record { current = In g; services = st .services + 1; settings = st .settings; pending = orPending (st .pending) (pendingOf (slotsFault file x)) } → Opened file w st x g s p l r y
+module _ {st : State} {x : List ℕ} {g : Group} {s : ℕ} {p : Place} {l : ℕ} {r : State} {y : List ℕ} where
+  pub opened-service : serves g ≡ true → y ≡ stored (nameBase + st .services) (named p l) (stored (base g (st .services + 1)) (header s l) x) → r ≡ record { current = In g (base g (st .services + 1)); services = st .services + 1; settings = st .settings } → Opened st x g s p l r y
   opened-service v b e = record { plain = λ q. absurd (true≢false (sym v ∙ q)); service = λ q. (b, e) }
 
-  pub opened-plain : serves g ≡ false → y ≡ stored (base g) s s l x → r ≡ record { current = In g; services = st .services; settings = st .settings; pending = st .pending } → Opened file w st x g s p l r y
+  pub opened-plain : serves g ≡ false → y ≡ stored (base g (st .services)) (header s l) x → r ≡ record { current = In g (base g (st .services)); services = st .services; settings = st .settings } → Opened st x g s p l r y
   opened-plain v b e = record { plain = λ q. (b, e); service = λ q. absurd (true≢false (sym q ∙ v)) }
+
+pub room-few : {a : Bool} (n : ℕ) → a ≡ true → (a && leb 8 n) ≡ false → n < 8
+room-few n e q = leb-false 8 n (rw e at q)
 
 -- ---- a header that opens a group
 
 pub record Good (n : ℕ) (o : Option Group) (g : Group) : Type 0 where
   pub is : o ≡ some g
-  pub room : (eqb (base g) 80 && leb 8 n) ≡ false
+  pub room : (serves g && leb 8 n) ≡ false
 
 pub heading-good : (file x : List ℕ) (n : ℕ) (name : List ℕ) (o : Option Group) {g : Group} → slotsHeading file x n name o ≡ Opens g → Good n o g
 heading-good file x n name none {g} e = let z : _≡_ {A = ℕ} 0 1 = cc in absurd (omega arith)
-heading-good file x n name (some h) {g} e = go (slotsNamed file x n name (base h)) (eqb (base h) 80 && leb 8 n) refl e
+heading-good file x n name (some h) {g} e = go (slotsNamed file x n name h) (serves h && leb 8 n) refl e
   where
-    go : (a b : Bool) → (eqb (base h) 80 && leb 8 n) ≡ b → cond a (Refused RepeatedGroup) (cond b (Refused ManyServices) (Opens h)) ≡ Opens g → Good n (some h) g
+    go : (a b : Bool) → (serves h && leb 8 n) ≡ b → cond a (Refused RepeatedGroup) (cond b (Refused ManyServices) (Opens h)) ≡ Opens g → Good n (some h) g
     go true b q k = let z : _≡_ {A = ℕ} 0 1 = cc in absurd (omega arith)
     go false true q k = let z : _≡_ {A = ℕ} 0 1 = cc in absurd (omega arith)
     go false false q k = let t : h ≡ g = cc in subst (λ (i : Group). Good n (some h) i) t (record { is = refl; room = q })
@@ -77,38 +69,30 @@ new-name n g gs = go (nameGiven n gs) (serves g && leb 8 (services gs))
 
 -- ---- the step
 
-module _ {d : Dialect} {file : List ℕ} {w : ℕ} {st : State} {x : List ℕ} {s l : ℕ} {p : Place} (inside : Inside (length file) p) (k : 0 < l) {gs : List Section} (h : Holds d file w st x gs) {g : Group} (q : groupOf d (partAt file p) ≡ some g) (new : nameGiven (partAt file p) gs ≡ false) (room : (eqb (base g) 80 && leb 8 (st .services)) ≡ false) {r : State} {y : List ℕ} (o : Opened file w st x g s p l r y) where
-  abbrev Held : Type 0
-  Held = Holds d file w r y (record { name = partAt file p; group = g; line = l; start = s; entries = [] } ∷ gs)
-
-  plain-free : serves g ≡ false → (b : Bool) → eqb (headSlot g gs .line) 0 ≡ b → headSlot g gs .line ≡ 0
-  plain-free v true e = eqb-true (headSlot g gs .line) 0 e
-  plain-free v false e = absurd (true≢false (sym (renamed d (partAt file p) g q v gs (h .well) (eqb-false (headSlot g gs .line) 0 e)) ∙ new))
-
-  held : (b : Bool) → serves g ≡ b → Held
+module _ {d : Dialect} {file : List ℕ} {st : State} {x : List ℕ} {s l : ℕ} {p : Place} (inside : Inside (length file) p) (k : 0 < l) {gs : List Section} (h : Holds d file st x gs) {g : Group} (q : groupOf d (partAt file p) ≡ some g) (new : nameGiven (partAt file p) gs ≡ false) (room : (serves g && leb 8 (st .services)) ≡ false) {r : State} {y : List ℕ} (o : Opened st x g s p l r y) where
+  held : (b : Bool) → serves g ≡ b → Holds d file r y (record { name = partAt file p; group = g; line = l; start = s; entries = [] } ∷ gs)
   held true v =
       let t : g ≡ Service = serves-service g v in
-      let few : st .services < 8 = leb-false 8 (st .services) (ap (λ (b : Bool). b && leb 8 (st .services)) (sym (base-serves g ∙ v)) ∙ room) in
-      rw t (holds-service h (o .service v .0) few (inside .low) (inside .high) (partAt file p) (q ∙ ap some t) refl refl k new (o .service v .1 ∙ rw t))
-  held false v = rw (o .plain v .0) (holds-plain d (partAt file p) g q v h (plain-free v (eqb (headSlot g gs .line) 0) refl) s l k (o .plain v .1))
+      rw (o .service v .0, t) (holds-service h p (q ∙ ap some t) new s l k (room-few (st .services) v room) inside (o .service v .1 ∙ rw t))
+  held false v = rw (o .plain v .0) (holds-plain h (partAt file p) g q new s l k v (o .plain v .1))
 
 module _ (d : Dialect) (file : List ℕ) (st : State) (x : List ℕ) (p : Place) {t : Heading} (e : t ≡ slotsHeading file x (st .services) (partAt file p) (groupOf d (partAt file p))) where
-  fault-is : {w : ℕ} (gs : List Section) → Holds d file w st x gs → fault d gs (header (partAt file p)) ≡ headingFault t
+  fault-is : (gs : List Section) → Holds d file st x gs → fault d gs (Lines.header (partAt file p)) ≡ headingFault t
   fault-is gs h = sym (heading-fault h (partAt file p)) ∙ ap headingFault (sym e)
 
-  pub header-stops : {w s l : ℕ} {r : Refusal} {y : List ℕ} → t ≡ Refused r → Steps d file w st x l s 0 (header (partAt file p)) y (Stops r)
+  pub header-stops : {s l : ℕ} {r : Refusal} {y : List ℕ} → t ≡ Refused r → Steps d file st x l s 0 (Lines.header (partAt file p)) y (Stops r)
   header-stops v = record { says = λ gs h. fault-is gs h ∙ ap headingFault v }
 
   module _ {g : Group} (v : t ≡ Opens g) where
     pub header-good : Good (st .services) (groupOf d (partAt file p)) g
     header-good = heading-good file x (st .services) (partAt file p) (groupOf d (partAt file p)) (sym e ∙ v)
 
-    pub header-goes : {w s l : ℕ} → Inside (length file) p → 0 < l → {r : State} {y : List ℕ} → Opened file w st x g s p l r y → Steps d file w st x l s 0 (header (partAt file p)) y (Goes r)
+    pub header-goes : {s l : ℕ} → Inside (length file) p → 0 < l → {r : State} {y : List ℕ} → Opened st x g s p l r y → Steps d file st x l s 0 (Lines.header (partAt file p)) y (Goes r)
     unfolding fault after
     header-goes inside k o =
         record {
           says = λ gs h.
-              let good : fault d gs (header (partAt file p)) ≡ none = fault-is gs h ∙ ap headingFault v in
+              let good : fault d gs (Lines.header (partAt file p)) ≡ none = fault-is gs h ∙ ap headingFault v in
               let named : headerFault (partAt file p) (some g) gs ≡ none = ap (λ (m : Option Group). headerFault (partAt file p) m gs) (sym (header-good .is)) ∙ good in
               (good, rw (header-good .is) (held inside k h (header-good .is) (new-name (partAt file p) g gs named) (header-good .room) o (serves g) refl));
         }

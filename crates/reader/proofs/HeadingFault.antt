@@ -1,5 +1,6 @@
 -- A header's answer by the table of places is the one by the groups that the table holds.
-use Prim.Native.Nat.{ℕ}
+use Prim.Native.Nat.{ℕ, _*_}
+use native.Mathlib.Omega.{arith}
 use mathlib.Core.Path.{_≡_, refl, ap, sym, _∙_}
 use mathlib.Core.Bool.{Bool, true, false, cond, not, _&&_}
 use mathlib.Core.List.{List}
@@ -18,14 +19,14 @@ use Rattle.rules.specs.declared.Named.{Named}
 use Rattle.rules.specs.declared.Named.the-variants as N
 use Rattle.rules.specs.declared.Refusal.{Refusal}
 use Rattle.rules.specs.declared.Refusal.the-variants.{RepeatedGroup, ManyServices}
-use Rattle.reader.specs.Store.{Slot}
-use Rattle.reader.specs.History.{base, headSlot}
+use Rattle.reader.specs.Store.{Slot, slot}
+use Rattle.reader.specs.History.{rowOf, baseAt, headSlot}
 use Rattle.reader.specs.Holds.{among, Holds}
-use Rattle.reader.specs.Closing.{isTaken}
 use Rattle.reader.specs.Headings.{slotsHeading}
 use Rattle.reader.specs.declared.State.{State}
 use Rattle.reader.specs.declared.Heading.{Heading}
 use Rattle.reader.specs.declared.Heading.the-variants.{Opens, Refused}
+use Rattle.reader.proofs.Rows.{own-row}
 use Rattle.reader.proofs.PlainHeading.{unnamed, renamed}
 
 -- ---- the group by its answer
@@ -47,22 +48,14 @@ abbrev pub headingFault : Heading → Option Refusal
 headingFault (Opens g) = none
 headingFault (Refused r) = some r
 
-pub base-serves : (g : Group) → eqb (base g) 80 ≡ serves g
-base-serves Settings = refl
-base-serves Security = refl
-base-serves Ipv4 = refl
-base-serves Ipv6 = refl
-base-serves Global = refl
-base-serves Service = refl
+module _ {d : Dialect} {file : List ℕ} {st : State} {x : List ℕ} {gs : List Section} (h : Holds d file st x gs) (n : List ℕ) where
+  plain-named : {g : Group} → groupOf d n ≡ some g → serves g ≡ false → (b : Bool) → eqb (headSlot (rowOf g 0) gs .line) 0 ≡ b → not b ≡ nameGiven n gs
+  plain-named {g} q v true e = sym (unnamed d n g q v gs (h .table .rows .well) (eqb-true (headSlot (rowOf g 0) gs .line) 0 e) .name)
+  plain-named {g} q v false e = sym (renamed d n g q v gs (h .table .rows .well) (eqb-false (headSlot (rowOf g 0) gs .line) 0 e))
 
-module _ {d : Dialect} {file : List ℕ} {w : ℕ} {st : State} {x : List ℕ} {gs : List Section} (h : Holds d file w st x gs) (n : List ℕ) where
-  plain-named : {g : Group} → groupOf d n ≡ some g → serves g ≡ false → (b : Bool) → eqb (headSlot g gs .line) 0 ≡ b → not b ≡ nameGiven n gs
-  plain-named {g} q v true e = sym (unnamed d n g q v gs (h .well) (eqb-true (headSlot g gs .line) 0 e) .name)
-  plain-named {g} q v false e = sym (renamed d n g q v gs (h .well) (eqb-false (headSlot g gs .line) 0 e))
-
-  named-is : {g : Group} → groupOf d n ≡ some g → (b : Bool) → serves g ≡ b → cond b (among file x (st .services) n) (isTaken x (base g)) ≡ nameGiven n gs
+  named-is : {g : Group} → groupOf d n ≡ some g → (b : Bool) → serves g ≡ b → cond b (among file x (st .services) n) (not (eqb (slot (baseAt (rowOf g 0)) x .line) 0)) ≡ nameGiven n gs
   named-is {g} q true v = h .names n (q ∙ ap some (serves-service g v))
-  named-is {g} q false v = rw (ap (λ (s : Slot). s .line) (h .heads g)) (plain-named q v (eqb (headSlot g gs .line) 0) refl)
+  named-is {g} q false v = rw (ap (λ (s : Slot). s .line) (h .table .heads (rowOf g 0) (own-row d n q 0 (omega arith)))) (plain-named q v (eqb (headSlot (rowOf g 0) gs .line) 0) refl)
 
   opened : (g : Group) (a b : Bool) → headingFault (cond a (Refused RepeatedGroup) (cond b (Refused ManyServices) (Opens g))) ≡ cond a (some RepeatedGroup) (cond b (some ManyServices) none)
   opened g true b = refl
@@ -71,7 +64,7 @@ module _ {d : Dialect} {file : List ℕ} {w : ℕ} {st : State} {x : List ℕ} {
 
   fault-of : (o : Option Group) → groupOf d n ≡ o → headingFault (slotsHeading file x (st .services) n o) ≡ headerFault n o gs
   fault-of none q = refl
-  fault-of (some g) q = rw (base-serves g, named-is q (serves g) refl, h .services) (opened g (nameGiven n gs) (serves g && leb 8 (services gs)))
+  fault-of (some g) q = rw (named-is q (serves g) refl, h .services) (opened g (nameGiven n gs) (serves g && leb 8 (services gs)))
 
   pub heading-fault : headingFault (slotsHeading file x (st .services) n (groupOf d n)) ≡ fault d gs (header n)
   unfolding fault

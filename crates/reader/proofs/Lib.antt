@@ -1,9 +1,7 @@
 pub mod Slots
-pub mod Beginning
 pub mod Rows
-pub mod RuleFault
 pub mod RowRule
-pub mod ClosingFault
+pub mod ServicesFault
 pub mod ServiceHeading
 pub mod HeadingFault
 pub mod Backwards

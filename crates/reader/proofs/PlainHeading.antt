@@ -2,11 +2,11 @@
 use Prim.Native.Nat.{ℕ, zero, suc, _+_, _*_, _≤_, _<_}
 use native.Mathlib.Omega.{arith}
 use mathlib.Core.Path.{_≡_, refl, ap, sym, _∙_, subst}
-use mathlib.Core.Bool.{Bool, true, false, cond, not, _||_, _&&_, true≢false, false≢true}
-use mathlib.Core.List.{List, [], _∷_, _++_}
-use mathlib.Core.Option.{Option, none, some, Option·some-injective, Option·none-ne-some}
-use borrow.Author.Tests.{eq-eqb, ne-eqb, eqb-true, eqb-false}
-use lib.Dec.{eqb, leb}
+use mathlib.Core.Bool.{Bool, true, false, cond, _||_, true≢false}
+use mathlib.Core.List.{List, [], _∷_}
+use mathlib.Core.Option.{Option, none, some, Option·none-ne-some, Option·some-injective}
+use borrow.Author.Tests.{eqb-true, eqb-false, ne-eqb}
+use lib.Dec.{eqb}
 use lib.ListN.{length}
 use Rattle.text.specs.Words.{word, same, place}
 use Rattle.text.specs.Options.{only}
@@ -18,17 +18,18 @@ use Rattle.rules.specs.Tables.{isService, groupOf}
 use Rattle.rules.specs.ListedValues.{groupName}
 use Rattle.rules.specs.Lookups.{keyNames}
 use Rattle.rules.specs.Faults.{Entry, Section, nameGiven, serves, services}
+use Rattle.rules.specs.Groups.{entriesIn}
 use Rattle.rules.specs.declared.Group.{Group}
 use Rattle.rules.specs.declared.Group.the-variants.{Settings, Security, Ipv4, Ipv6, Global, Service}
 use Rattle.reader.specs.Store.{Slot, slot, stored}
-use Rattle.reader.specs.History.{groupNumber, base, foundBase, nameBase, sameGroup, latest, headSlot}
-use Rattle.reader.specs.Holds.{Row, Spans, among, WellNamed, Holds}
+use Rattle.reader.specs.History.{nameBase, rowOf, baseAt, Own, groupAt, rowAfter, latest, headSlot}
+use Rattle.reader.specs.Holds.{Row, WellNamed, Table, Holds}
+use Rattle.reader.specs.Steps.{header}
 use Rattle.reader.specs.declared.State.{State}
 use Rattle.reader.specs.declared.Current.the-variants.{In}
 use Rattle.reader.proofs.Slots.{stored-long, stored-here, stored-there}
-use Rattle.reader.proofs.Rows.{keys-few, row-kept}
-use Rattle.reader.proofs.SettingLine.{number-few}
-use Rattle.reader.proofs.Growing.{same-group, among-kept, spans-kept}
+use Rattle.reader.proofs.Rows.{keys-few, row-kept, group-at, Lies, lies, own-row, group-after}
+use Rattle.reader.proofs.Growing.{among-kept, spans-kept}
 
 -- ---- a group that is no service has one name
 
@@ -57,34 +58,48 @@ one-name ConnMan n e s = connman-named n e s
 
 -- ---- whether such a group was named, by its header's slot
 
+pub row-plain : (g : Group) → serves g ≡ false → (n : ℕ) → rowOf g n ≡ rowOf g 0
+row-plain Settings v n = refl
+row-plain Security v n = refl
+row-plain Ipv4 v n = refl
+row-plain Ipv6 v n = refl
+row-plain Global v n = refl
+row-plain Service v n = absurd (true≢false v)
+
 module _ (d : Dialect) (n : List ℕ) (g : Group) (q : groupOf d n ≡ some g) (v : serves g ≡ false) where
-  pub other-name : (m : List ℕ) {h : Group} → groupOf d m ≡ some h → sameGroup g h ≡ false → same n m ≡ false
+  same-row : (s : Section) (gs : List Section) → eqb (rowOf g 0) (rowAfter s gs) ≡ true → s .group ≡ g
+  same-row s gs e = sym (group-after s gs) ∙ ap groupAt (sym (eqb-true (rowOf g 0) (rowAfter s gs) e)) ∙ group-at g 0 (λ t. absurd (true≢false (sym t ∙ v)))
+
+  other-row : (s : Section) (gs : List Section) → eqb (rowOf g 0) (rowAfter s gs) ≡ false → s .group ≡ g → ⊥
+  other-row s gs e t = eqb-false (rowOf g 0) (rowAfter s gs) e (sym (row-plain g v (services (s ∷ gs))) ∙ ap (λ (h : Group). rowOf h (services (s ∷ gs))) (sym t))
+
+  pub other-name : (m : List ℕ) {h : Group} → groupOf d m ≡ some h → (h ≡ g → ⊥) → same n m ≡ false
   other-name m {h} e k = go (same n m) refl
     where
       go : (b : Bool) → same n m ≡ b → b ≡ false
-      go true p = absurd (eqb-false (groupNumber g) (groupNumber h) k (ap groupNumber (Option·some-injective g h (sym q ∙ ap (groupOf d) (same-eq n m p) ∙ e))))
+      go true p = absurd (k (Option·some-injective h g (sym e ∙ ap (groupOf d) (sym (same-eq n m p)) ∙ q)))
       go false p = refl
 
   -- a group that was not named has no settings, and a group that was named has a line
   pub record Unnamed (gs : List Section) : Type 0 where
     pub name : nameGiven n gs ≡ false
-    pub none : latest g gs ≡ []
+    pub none : latest (rowOf g 0) gs ≡ []
 
-  pub unnamed : (gs : List Section) → WellNamed d gs → headSlot g gs .line ≡ 0 → Unnamed gs
+  pub unnamed : (gs : List Section) → WellNamed d gs → headSlot (rowOf g 0) gs .line ≡ 0 → Unnamed gs
   unnamed [] w e = record { name = refl; none = refl }
-  unnamed (s ∷ gs) w e = go (sameGroup g (s .group)) refl (λ k. unnamed gs (w .3) k) e
+  unnamed (s ∷ gs) w e = go (eqb (rowOf g 0) (rowAfter s gs)) refl (λ k. unnamed gs (w .3) k) e
     where
-      go : (b : Bool) → sameGroup g (s .group) ≡ b → (headSlot g gs .line ≡ 0 → Unnamed gs) → cond b (record { start = s .start; end = s .start; line = s .line }) (headSlot g gs) .line ≡ 0 → Unnamed (s ∷ gs)
+      go : (b : Bool) → eqb (rowOf g 0) (rowAfter s gs) ≡ b → (headSlot (rowOf g 0) gs .line ≡ 0 → Unnamed gs) → cond b (record { start = s .start; end = s .start; line = s .line; code = 0 }) (headSlot (rowOf g 0) gs) .line ≡ 0 → Unnamed (s ∷ gs)
       go true p f k = absurd (omega (arith, k, w .1))
-      go false p f k = let u = f k in record { name = rw (other-name (s .name) (w .0) p) (u .name); none = rw p (u .none) }
+      go false p f k = let u = f k in record { name = rw (other-name (s .name) (w .0) (other-row s gs p)) (u .name); none = rw p (u .none) }
 
-  pub renamed : (gs : List Section) → WellNamed d gs → (headSlot g gs .line ≡ 0 → ⊥) → nameGiven n gs ≡ true
+  pub renamed : (gs : List Section) → WellNamed d gs → (headSlot (rowOf g 0) gs .line ≡ 0 → ⊥) → nameGiven n gs ≡ true
   renamed [] w e = absurd (e refl)
-  renamed (s ∷ gs) w e = go (sameGroup g (s .group)) refl (λ k. renamed gs (w .3) k) e
+  renamed (s ∷ gs) w e = go (eqb (rowOf g 0) (rowAfter s gs)) refl (λ k. renamed gs (w .3) k) e
     where
-      go : (b : Bool) → sameGroup g (s .group) ≡ b → ((headSlot g gs .line ≡ 0 → ⊥) → nameGiven n gs ≡ true) → (cond b (record { start = s .start; end = s .start; line = s .line }) (headSlot g gs) .line ≡ 0 → ⊥) → (same n (s .name) || nameGiven n gs) ≡ true
+      go : (b : Bool) → eqb (rowOf g 0) (rowAfter s gs) ≡ b → ((headSlot (rowOf g 0) gs .line ≡ 0 → ⊥) → nameGiven n gs ≡ true) → (cond b (record { start = s .start; end = s .start; line = s .line; code = 0 }) (headSlot (rowOf g 0) gs) .line ≡ 0 → ⊥) → (same n (s .name) || nameGiven n gs) ≡ true
       go true p f k =
-          let t : groupOf d (s .name) ≡ some g = w .0 ∙ ap some (sym (same-group g (s .group) p)) in
+          let t : groupOf d (s .name) ≡ some g = w .0 ∙ ap some (same-row s gs p) in
           let m : n ≡ s .name = one-name d n q v ∙ sym (one-name d (s .name) t v) in
           rw (← m, same-refl n)
       go false p f k = or-right (same n (s .name)) (f k)
@@ -93,24 +108,95 @@ module _ (d : Dialect) (n : List ℕ) (g : Group) (q : groupOf d n ≡ some g) (
           or-right true e = refl
           or-right false e = e
 
-  -- ---- what is held after such a header
-  module _ {file : List ℕ} {w : ℕ} {st : State} {x : List ℕ} {gs : List Section} (h : Holds d file w st x gs) (free : headSlot g gs .line ≡ 0) (s l : ℕ) (k : 0 < l) where
-    there : (j : ℕ) → j < 128 → (j ≡ base g → ⊥) → slot j (stored (base g) s s l x) ≡ slot j x
-    there j r n = stored-there x (base g) s s l (h .long) (omega (arith, number-few g)) j r n
+  -- the settings of the group with a name are those of its row
+  pub entries-latest : (gs : List Section) → WellNamed d gs → n ≡ groupName g → entriesIn n gs ≡ latest (rowOf g 0) gs
+  entries-latest [] w t = refl
+  entries-latest (s ∷ gs) w t = go (eqb (rowOf g 0) (rowAfter s gs)) refl (entries-latest gs (w .3) t)
+    where
+      go : (b : Bool) → eqb (rowOf g 0) (rowAfter s gs) ≡ b → entriesIn n gs ≡ latest (rowOf g 0) gs → cond (same n (s .name)) (s .entries) (entriesIn n gs) ≡ cond b (s .entries) (latest (rowOf g 0) gs)
+      go true p h = rw (one-name d (s .name) (w .0 ∙ ap some (same-row s gs p)) v, t, same-refl (groupName g))
+      go false p h = rw (other-name (s .name) (w .0) (other-row s gs p)) h
 
-    row-of : (a : Group) (b : Bool) → sameGroup a g ≡ b → Row file x (base a) (keyNames a) (latest a gs) → Row file (stored (base g) s s l x) (base a) (keyNames a) (cond b [] (latest a gs))
-    row-of a b p row = go b p
+-- ---- a header in a row that has no settings
+
+pub latest-new : (gs : List Section) (r : ℕ) → 4 + services gs < r → latest r gs ≡ []
+latest-new [] r h = refl
+latest-new (s ∷ gs) r h = rw (ne-eqb r (rowAfter s gs) (λ e. omega (arith, e, h, row-most (s .group) (services (s ∷ gs))))) (latest-new gs r (omega (arith, h, services-more s gs)))
+  where
+    row-most : (g : Group) (n : ℕ) → rowOf g n ≤ 4 + n
+    row-most Settings n = omega arith
+    row-most Security n = omega arith
+    row-most Ipv4 n = omega arith
+    row-most Ipv6 n = omega arith
+    row-most Global n = omega arith
+    row-most Service n = omega arith
+
+    services-more : (s : Section) (gs : List Section) → services gs ≤ services (s ∷ gs)
+    services-more s gs = go (serves (s .group))
       where
-        kept : Row file (stored (base g) s s l x) (base a) (keyNames a) (latest a gs)
-        kept = row-kept row (λ m y. there (base a + place m (keyNames a)) (omega (arith, number-few a, keys-few a m)) (λ t. y (omega (arith, t, keys-few a m))))
+        go : (b : Bool) → services gs ≤ cond b (suc (services gs)) (services gs)
+        go true = omega arith
+        go false = omega arith
 
-        go : (b : Bool) → sameGroup a g ≡ b → Row file (stored (base g) s s l x) (base a) (keyNames a) (cond b [] (latest a gs))
-        go true e = subst (λ (es : List Entry). Row file (stored (base g) s s l x) (base a) (keyNames a) es) (ap (λ (t : Group). latest t gs) (same-group a g e) ∙ unnamed gs (h .well) free .none) kept
-        go false e = kept
+module _ {d : Dialect} {file x : List ℕ} {gs : List Section} (t : Table d file x gs) where
+  -- a slot behind the rows
+  pub table-named : (i : ℕ) (p : Slot) → 225 ≤ i → i < 244 → Table d file (stored i p x) gs
+  table-named i p low high =
+      record {
+        long = stored-long x i p (t .long) high;
+        rows = record { few = t .rows .few; well = t .rows .well; each = λ r l. row-kept (t .rows .each r l) (λ m y. there (baseAt r + place m (keyNames (groupAt r))) (let o = lies d r l in omega (arith, keys-few (groupAt r) m))) };
+        heads = λ r l. there (baseAt r) (let o = lies d r l in omega arith) ∙ t .heads r l;
+      }
+    where
+      there : (j : ℕ) → j < 225 → slot j (stored i p x) ≡ slot j x
+      there j k = stored-there x i p (t .long) high j (omega (arith, k)) (λ e. omega (arith, e, k, low))
 
-    head-of : (a : Group) (b : Bool) → sameGroup a g ≡ b → slot (base a) (stored (base g) s s l x) ≡ cond b (record { start = s; end = s; line = l }) (headSlot a gs)
-    head-of a true p = let e : a ≡ g = same-group a g p in rw e (stored-here x (base g) s s l (h .long) (omega (arith, number-few g)))
-    head-of a false p = there (base a) (omega (arith, number-few a)) (λ t. eqb-false (groupNumber a) (groupNumber g) p (omega (arith, t))) ∙ h .heads a
+  module _ (n : List ℕ) (g : Group) (s l : ℕ) where
+    abbrev this : Section
+    this = record { name = n; group = g; line = l; start = s; entries = [] }
+
+    module _ (q : groupOf d n ≡ some g) (few : services (this ∷ gs) ≤ 8) where
+      low : Lies d (rowAfter this gs)
+      low = lies d (rowAfter this gs) (own-row d n q (services (this ∷ gs)) few)
+
+      pub there : (j : ℕ) → j < 244 → (j ≡ baseAt (rowAfter this gs) → ⊥) → slot j (stored (baseAt (rowAfter this gs)) (header s l) x) ≡ slot j x
+      there j k e = stored-there x (baseAt (rowAfter this gs)) (header s l) (t .long) (let o = low in omega arith) j k e
+
+      row-of : latest (rowAfter this gs) gs ≡ [] → (r : ℕ) → Own d r → (b : Bool) → eqb r (rowAfter this gs) ≡ b → Row d file (stored (baseAt (rowAfter this gs)) (header s l) x) (baseAt r) (groupAt r) (cond b [] (latest r gs))
+      row-of fresh r k true e = subst (λ (es : List Entry). Row d file (stored (baseAt (rowAfter this gs)) (header s l) x) (baseAt r) (groupAt r) es) (ap (λ (i : ℕ). latest i gs) (eqb-true r (rowAfter this gs) e) ∙ fresh) (kept r k)
+        where
+          kept : (r : ℕ) → Own d r → Row d file (stored (baseAt (rowAfter this gs)) (header s l) x) (baseAt r) (groupAt r) (latest r gs)
+          kept r k = row-kept (t .rows .each r k) (λ m y. there (baseAt r + place m (keyNames (groupAt r))) (let o = lies d r k in omega (arith, keys-few (groupAt r) m)) (λ e. y (let o = lies d r k in let w = low in omega (arith, e, keys-few (groupAt r) m))))
+      row-of fresh r k false e = row-kept (t .rows .each r k) (λ m y. there (baseAt r + place m (keyNames (groupAt r))) (let o = lies d r k in omega (arith, keys-few (groupAt r) m)) (λ e. y (let o = lies d r k in let w = low in omega (arith, e, keys-few (groupAt r) m))))
+
+      head-of : (r : ℕ) → Own d r → (b : Bool) → eqb r (rowAfter this gs) ≡ b → slot (baseAt r) (stored (baseAt (rowAfter this gs)) (header s l) x) ≡ cond b (header s l) (headSlot r gs)
+      head-of r k true e = rw (eqb-true r (rowAfter this gs) e) (stored-here x (baseAt (rowAfter this gs)) (header s l) (t .long) (let o = low in omega arith))
+      head-of r k false e = there (baseAt r) (let o = lies d r k in omega arith) (λ p. eqb-false r (rowAfter this gs) e (let o = lies d r k in let w = low in omega (arith, p))) ∙ t .heads r k
+
+      pub table-headed : latest (rowAfter this gs) gs ≡ [] → 0 < l → nameGiven n gs ≡ false → Table d file (stored (baseAt (rowAfter this gs)) (header s l) x) (this ∷ gs)
+      table-headed fresh k new =
+          record {
+            long = stored-long x (baseAt (rowAfter this gs)) (header s l) (t .long) (let o = low in omega arith);
+            rows = record { few = few; well = (q, k, new, t .rows .well); each = λ r m. row-of fresh r m (eqb r (rowAfter this gs)) refl };
+            heads = λ r m. head-of r m (eqb r (rowAfter this gs)) refl;
+          }
+
+-- ---- what is held after a header
+
+module _ {d : Dialect} {file : List ℕ} {st : State} {x : List ℕ} {gs : List Section} (h : Holds d file st x gs) (n : List ℕ) (g : Group) (q : groupOf d n ≡ some g) (new : nameGiven n gs ≡ false) (s l : ℕ) (k : 0 < l) where
+  abbrev header-section : Section
+  header-section = record { name = n; group = g; line = l; start = s; entries = [] }
+
+  module _ (v : serves g ≡ false) where
+    plain-free : (b : Bool) → eqb (headSlot (rowOf g 0) gs .line) 0 ≡ b → latest (rowOf g 0) gs ≡ []
+    plain-free true e = unnamed d n g q v gs (h .table .rows .well) (eqb-true (headSlot (rowOf g 0) gs .line) 0 e) .none
+    plain-free false e = absurd (true≢false (sym (renamed d n g q v gs (h .table .rows .well) (eqb-false (headSlot (rowOf g 0) gs .line) 0 e)) ∙ new))
+
+    next : services (header-section ∷ gs) ≡ st .services
+    next = rw v (sym (h .services))
+
+    few : services (header-section ∷ gs) ≤ 8
+    few = omega (arith, next, h .spans .few)
 
     service-other : (m : List ℕ) → groupOf d m ≡ some Service → same m n ≡ false
     service-other m e = go (same m n) refl
@@ -119,19 +205,18 @@ module _ (d : Dialect) (n : List ℕ) (g : Group) (q : groupOf d n ≡ some g) (
         go true p = absurd (true≢false (ap serves (Option·some-injective Service g (sym e ∙ ap (groupOf d) (same-eq m n p) ∙ q)) ∙ v))
         go false p = refl
 
-    pub holds-plain : {r : State} → r ≡ record { current = In g; services = st .services; settings = st .settings; pending = st .pending } → Holds d file w r (stored (base g) s s l x) (record { name = n; group = g; line = l; start = s; entries = [] } ∷ gs)
-    holds-plain e =
-        rw e
+    named : (i : ℕ) → i < st .services → slot (nameBase + i) (stored (baseAt (rowAfter header-section gs)) (header s l) x) ≡ slot (nameBase + i) x
+    named i j = there (h .table) n g s l q few (nameBase + i) (omega (arith, h .spans .few)) (λ e. let o = lies d (rowAfter header-section gs) (own-row d n q (services (header-section ∷ gs)) few) in omega (arith, e))
+
+    pub holds-plain : {r : State} → r ≡ record { current = In g (baseAt (rowOf g (st .services))); services = st .services; settings = st .settings } → Holds d file r (stored (baseAt (rowOf g (st .services))) (header s l) x) (record { name = n; group = g; line = l; start = s; entries = [] } ∷ gs)
+    holds-plain {r} e =
+        subst (λ (i : ℕ). Holds d file r (stored (baseAt (rowOf g i)) (header s l) x) (header-section ∷ gs)) next
+        (rw e
         (record {
-          long = stored-long x (base g) s s l (h .long) (omega (arith, number-few g));
-          current = refl;
-          services = rw v (h .services);
+          table = table-headed (h .table) n g s l q few (ap (λ (i : ℕ). latest i gs) (row-plain g v (services (header-section ∷ gs))) ∙ plain-free (eqb (headSlot (rowOf g 0) gs .line) 0) refl) k new;
+          current = ap (λ (i : ℕ). In g (baseAt (rowOf g i))) (sym next);
+          services = sym next;
           settings = omega (arith, h .settings);
-          pending = rw v (h .pending);
-          rows = λ a. row-of a (sameGroup a g) refl (h .rows a);
-          heads = λ a. head-of a (sameGroup a g) refl;
-          spans = spans-kept (h .spans) (λ i j. there (nameBase + i) (omega (arith, h .spans .few)) (λ t. omega (arith, t, number-few g)));
-          names = λ m y. among-kept file x (stored (base g) s s l x) (st .services) (λ i j. there (nameBase + i) (omega (arith, h .spans .few)) (λ t. omega (arith, t, number-few g))) m ∙ h .names m y ∙ rw (service-other m y);
-          found = rw v (row-kept (h .found) (λ m y. there (foundBase + place m (keyNames Service)) (omega (arith, keys-few Service m)) (λ t. omega (arith, t, number-few g))));
-          well = (q, k, unnamed gs (h .well) free .name, h .well);
-        })
+          spans = spans-kept (h .spans) named;
+          names = λ m y. among-kept file x (stored (baseAt (rowAfter header-section gs)) (header s l) x) (st .services) named m ∙ h .names m y ∙ rw (service-other m y);
+        }))

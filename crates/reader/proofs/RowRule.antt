@@ -1,51 +1,122 @@
 -- The rules over a service, by the row that holds its settings.
-use Prim.Native.Nat.{ℕ, zero, suc, _+_, _<_}
+use Prim.Native.Nat.{ℕ, _+_, _<_}
 use native.Mathlib.Omega.{arith}
-use mathlib.Core.Path.{_≡_, refl, ap, sym, _∙_}
-use mathlib.Core.Bool.{Bool, true, false, cond, not, _||_, _&&_}
-use mathlib.Core.List.{List, [], _∷_}
-use mathlib.Core.Option.{Option, none, some}
+use mathlib.Core.Path.{_≡_, refl, ap, sym, _∙_, subst}
+use mathlib.Core.Bool.{Bool, true, false, cond}
+use mathlib.Core.List.{List}
+use mathlib.Core.Option.{Option, none, some, Option·none-ne-some, Option·some-injective}
 use borrow.Author.Tests.{ne-eqb}
 use lib.Dec.{eqb}
-use Rattle.text.specs.Words.{word, same, place}
-use Rattle.text.specs.Options.{andThen}
-use Rattle.text.specs.Parts.{part}
-use Rattle.kinds.specs.Kinds.{wordOf}
-use Rattle.kinds.specs.Answers.{namedWord}
+use Rattle.text.specs.Words.{word, place}
+use Rattle.text.specs.Options.{andThen, mapped}
+use Rattle.text.specs.declared.Dialect.{Dialect}
+use Rattle.utf8.specs.Utf8.{valueText}
+use Rattle.kinds.specs.Kinds.{flag, wordOf}
+use Rattle.kinds.specs.Typed as T
+use Rattle.kinds.specs.Typed.{Typed, byKind, typed, stringBroken, kindJudged, judged}
 use Rattle.kinds.specs.declared.Word.{Word}
-use Rattle.kinds.specs.declared.Word.the-variants.{Wifi, Ethernet, Psk, None}
+use Rattle.kinds.specs.declared.Word.the-variants.{Wifi, Ethernet, Off, Auto, Disabled, Enabled, Preferred, Psk, Ieee8021x, None, Wep}
+use Rattle.kinds.specs.declared.Kind.{Kind}
+use Rattle.kinds.specs.declared.Kind.the-variants.{Flag, Named}
 use Rattle.kinds.specs.declared.WordList.{WordList}
 use Rattle.kinds.specs.declared.WordList.the-variants as W
-use Rattle.rules.specs.Tables.{keysOf}
 use Rattle.rules.specs.Lookups.{keyNames}
 use Rattle.rules.specs.Faults.{Entry, given}
 use Rattle.rules.specs.Groups.{entryOf, isWord, wordNumber, wordIn, serviceFault}
-use Rattle.rules.specs.declared.Group.the-variants.{Service}
 use Rattle.reader.specs.Store.{Slot, slot}
-use Rattle.reader.specs.Holds.{Kept, Stands, Row}
+use Rattle.reader.specs.Keys.{placeOf, groupOf, wordOf as nameOf, kindOf, key-placed, key-kind, key-few}
+use Rattle.reader.specs.Holds.{flagCode, codeOf, Coded, Kept, Row}
+use Rattle.reader.specs.Closing.{isTaken, slotIs, slotsRule}
+use Rattle.reader.specs.declared.KeyName.{KeyName}
+use Rattle.reader.specs.declared.KeyName.the-variants as N
 use Rattle.reader.proofs.Rows.{given-entry, kept-given}
-use Rattle.reader.specs.Closing.{numberIs, slotWord, isTaken, slotsRule}
 
--- ---- one key
+-- ---- what a row keeps of a key
 
-pub number-word : (w : Word) (o : Option Word) → numberIs (wordNumber w) (namedWord o) ≡ isWord w o
-number-word w none = refl
-number-word w (some v) = refl
+module _ {d : Dialect} {file x : List ℕ} {b : ℕ} (k : KeyName) {es : List Entry} (h : Row d file x b (groupOf k) es) where
+  pub row-key : Kept d (some (kindOf k)) file (slot (b + placeOf k) x) (entryOf (nameOf k) es)
+  row-key = rw (← key-placed k, ← key-kind k) (h .each (nameOf k) (λ z. let p = key-few k .0 in omega (arith, z, p, key-placed k)))
 
-kept-word : (file : List ℕ) (s : Slot) (l : WordList) (w : Word) (o : Option Entry) → Kept file s o → numberIs (wordNumber w) (slotWord file l s) ≡ isWord w (andThen o (λ e. wordOf l (e .value)))
-kept-word file s l w none q = rw q
-kept-word file s l w (some e) h = rw (ne-eqb (s .line) 0 (λ z. let p = h .some in omega (arith, z, p)), h .value) (number-word w (wordOf l (e .value)))
+  -- a slot of a row is taken where its key is given
+  pub taken-given : isTaken x b k ≡ given (nameOf k) es
+  taken-given = sym (kept-given d (some (kindOf k)) file (slot (b + placeOf k) x) (entryOf (nameOf k) es) row-key refl) ∙ sym (given-entry (nameOf k) es)
 
--- a slot of a row is taken where its key is given
-pub taken-given : {file x : List ℕ} {b : ℕ} {t : List (List ℕ)} {es : List Entry} → Row file x b t es → (k : List ℕ) (n : ℕ) → place k t ≡ suc n → isTaken x (b + suc n) ≡ given k es
-taken-given {file} {x} {b} {t} {es} h k n q = rw (sym q) (sym (kept-given file (slot (b + place k t) x) (entryOf k es) (h .each k (λ z. let p = sym q ∙ z in omega (arith, p))) refl) ∙ sym (given-entry k es))
+-- ---- a word by its code
+
+pub good-typed : (d : Dialect) (k : Kind) (v : List ℕ) {t : Typed} → judged d k v ≡ T.good t → typed d k v ≡ some t
+unfolding judged kindJudged
+good-typed d k v {t} e = go (valueText v) (stringBroken d k v) (typed d k v) e
+  where
+    go : (a b : Bool) (o : Option Typed) → cond a (cond b T.brokenText (byKind o)) T.brokenText ≡ T.good t → o ≡ some t
+    go false b o e = let z : _≡_ {A = ℕ} 0 1 = cc in absurd (omega arith)
+    go true true o e = let z : _≡_ {A = ℕ} 0 1 = cc in absurd (omega arith)
+    go true false none e = let z : _≡_ {A = ℕ} 0 1 = cc in absurd (omega arith)
+    go true false (some u) e = let z : u ≡ t = cc in ap some z
+
+-- a good value of a list of words is a word, and its code that word's number
+pub record WordCoded (l : WordList) (v : List ℕ) (c : ℕ) : Type 0 where
+  pub word : Word
+  pub is : wordOf l v ≡ some word
+  pub code : c ≡ wordNumber word
+
+pub coded-word : (d : Dialect) (l : WordList) (v : List ℕ) {c : ℕ} → Coded d (some (Named l)) v c → WordCoded l v c
+unfolding typed
+coded-word d l v {c} h =
+    let k : h .kind ≡ Named l = Option·some-injective (h .kind) (Named l) (sym (h .of-kind)) in
+    go (wordOf l v) refl (h .typed) (good-typed d (Named l) v (subst (λ (k : Kind). judged d k v ≡ T.good (h .typed)) k (h .good))) (h .is)
+  where
+    go : (o : Option Word) → wordOf l v ≡ o → (t : Typed) → mapped T.word o ≡ some t → c ≡ codeOf t → WordCoded l v c
+    go none p t e q = absurd (Option·none-ne-some t e)
+    go (some u) p t e q = record { word = u; is = p; code = q ∙ ap codeOf (sym (Option·some-injective (T.word u) t e)) }
+
+-- and a good yes/no
+pub record FlagCoded (d : Dialect) (v : List ℕ) (c : ℕ) : Type 0 where
+  pub yes : Bool
+  pub is : flag d v ≡ some yes
+  pub code : c ≡ flagCode yes
+
+pub coded-flag : (d : Dialect) (v : List ℕ) {c : ℕ} → Coded d (some Flag) v c → FlagCoded d v c
+unfolding typed
+coded-flag d v {c} h =
+    let k : h .kind ≡ Flag = Option·some-injective (h .kind) Flag (sym (h .of-kind)) in
+    go (flag d v) refl (h .typed) (good-typed d Flag v (subst (λ (k : Kind). judged d k v ≡ T.good (h .typed)) k (h .good))) (h .is)
+  where
+    go : (o : Option Bool) → flag d v ≡ o → (t : Typed) → mapped T.flag o ≡ some t → c ≡ codeOf t → FlagCoded d v c
+    go none p t e q = absurd (Option·none-ne-some t e)
+    go (some u) p t e q = record { yes = u; is = p; code = q ∙ ap codeOf (sym (Option·some-injective (T.flag u) t e)) }
 
 -- ---- the row of a service
 
-module _ {file x : List ℕ} {es : List Entry} (h : Row file x 80 (keyNames Service) es) where
-  word-is : (l : WordList) (w : Word) (k : List ℕ) (n : ℕ) → place k (keyNames Service) ≡ suc n → numberIs (wordNumber w) (slotWord file l (slot (80 + suc n) x)) ≡ isWord w (wordIn l k es)
-  word-is l w k n q = rw (sym q) (kept-word file (slot (80 + place k (keyNames Service)) x) l w (entryOf k es) (h .each k (λ z. let p = sym q ∙ z in omega (arith, p))))
+pub kept-word : (d : Dialect) (l : WordList) (file : List ℕ) (s : Slot) (o : Option Entry) → Kept d (some (Named l)) file s o → (w : Word) → eqb (s .code) (wordNumber w) ≡ isWord w (andThen o (λ e. wordOf l (e .value)))
+kept-word d l file s none q w = rw (ap (λ (t : Slot). t .code) q) (ne-eqb 0 (wordNumber w) (λ e. word-some w e))
+  where
+    word-some : (w : Word) → 0 ≡ wordNumber w → ⊥
+    word-some Wifi e = omega (arith, e)
+    word-some Ethernet e = omega (arith, e)
+    word-some Off e = omega (arith, e)
+    word-some Auto e = omega (arith, e)
+    word-some Disabled e = omega (arith, e)
+    word-some Enabled e = omega (arith, e)
+    word-some Preferred e = omega (arith, e)
+    word-some Psk e = omega (arith, e)
+    word-some Ieee8021x e = omega (arith, e)
+    word-some None e = omega (arith, e)
+    word-some Wep e = omega (arith, e)
+kept-word d l file s (some x) h w = let c = coded-word d l (x .value) (h .code) in ap (λ (n : ℕ). eqb n (wordNumber w)) (c .code) ∙ sym (ap (isWord w) (c .is))
 
-  pub row-rule : slotsRule file x ≡ serviceFault es
-  unfolding slotsRule serviceFault keysOf
-  row-rule = rw (taken-given h (word "Type") 0 refl, taken-given h (word "Name") 9 refl, taken-given h (word "SSID") 10 refl, taken-given h (word "Passphrase") 11 refl, taken-given h (word "Security") 12 refl, taken-given h (word "Hidden") 13 refl, word-is W.ServiceType Wifi (word "Type") 0 refl, word-is W.ServiceType Ethernet (word "Type") 0 refl, word-is W.Security Psk (word "Security") 12 refl, word-is W.Security None (word "Security") 12 refl)
+module _ {d : Dialect} {file x : List ℕ} {b : ℕ} {es : List Entry} (h : Row d file x b (groupOf N.Type) es) where
+  pub row-rule : slotsRule x b ≡ serviceFault es
+  unfolding slotsRule serviceFault
+  row-rule =
+      rw (
+        taken-given N.Type h,
+        taken-given N.Name h,
+        taken-given N.Ssid h,
+        taken-given N.Passphrase h,
+        taken-given N.Security h,
+        taken-given N.Hidden h,
+        kept-word d W.ServiceType file (slot (b + placeOf N.Type) x) (entryOf (word "Type") es) (row-key N.Type h) Wifi,
+        kept-word d W.ServiceType file (slot (b + placeOf N.Type) x) (entryOf (word "Type") es) (row-key N.Type h) Ethernet,
+        kept-word d W.Security file (slot (b + placeOf N.Security) x) (entryOf (word "Security") es) (row-key N.Security h) Psk,
+        kept-word d W.Security file (slot (b + placeOf N.Security) x) (entryOf (word "Security") es) (row-key N.Security h) None,
+      )

@@ -1,25 +1,29 @@
 -- Rows of the table of places: what a store does to the row it falls into, and to the others.
-use Prim.Native.Nat.{ℕ, zero, suc, _+_, _*_, _≤_, _<_}
+use Prim.Native.Nat.{ℕ, zero, suc, _+_, _-_, _*_, _≤_, _<_}
 use native.Mathlib.Omega.{arith}
 use mathlib.Core.Path.{_≡_, refl, ap, sym, _∙_, subst}
 use mathlib.Core.Bool.{Bool, true, false, cond, not, _||_, true≢false, false≢true}
 use mathlib.Core.List.{List, [], _∷_, _++_}
-use mathlib.Core.Option.{Option, none, some}
-use borrow.Author.Tests.{eq-eqb, ne-eqb, eqb-true, eqb-false}
-use lib.Dec.{eqb}
+use mathlib.Core.Option.{Option, none, some, Option·none-ne-some, Option·some-injective}
+use borrow.Author.Tests.{eq-eqb, ne-eqb, eqb-true, eqb-false, le-leb, lt-leb}
+use lib.Dec.{eqb, leb}
 use lib.ListN.{length}
 use Rattle.text.specs.Parts.{part}
-use Rattle.text.specs.Words.{same, place, further}
-use Rattle.text.specs.Options.{isSome}
+use Rattle.text.specs.Words.{word, same, place, further}
+use Rattle.text.specs.Options.{isSome, only}
 use Rattle.text.specs.Laws.{same-eq, same-refl}
-use Rattle.rules.specs.Tables.{keysOf}
+use Rattle.text.specs.declared.Dialect.{Dialect}
+use Rattle.text.specs.declared.Dialect.the-variants.{Iwd, ConnMan}
+use Rattle.kinds.specs.declared.Kind.{Kind}
+use Rattle.rules.specs.Tables.{keysOf, kindOf, isService, groupOf}
 use Rattle.rules.specs.Lookups.{keyNames}
-use Rattle.rules.specs.Faults.{Entry, given}
+use Rattle.rules.specs.Faults.{Entry, Section, given, serves, services}
 use Rattle.rules.specs.Groups.{entryOf}
 use Rattle.rules.specs.declared.Group.{Group}
 use Rattle.rules.specs.declared.Group.the-variants.{Settings, Security, Ipv4, Ipv6, Global, Service}
 use Rattle.reader.specs.Store.{Slot, slot, emptySlot, stored}
-use Rattle.reader.specs.Holds.{Stands, Kept, Row}
+use Rattle.reader.specs.History.{rowOf, baseAt, Own, groupAt, rowAfter, latest}
+use Rattle.reader.specs.Holds.{Stands, Kept, Row, Rows}
 use Rattle.reader.proofs.Slots.{stored-here, stored-there}
 
 -- ---- places in a table of words
@@ -54,7 +58,7 @@ place-most k (x ∷ t) = go (same k x) (place k t) (place-most k t)
     go false zero h = omega arith
     go false (suc p) h = omega arith
 
-few : (g : Group) → length (keyNames g) ≤ 15
+few : (g : Group) → length (keyNames g) ≤ 24
 unfolding keysOf
 few Settings = omega arith
 few Security = omega arith
@@ -63,7 +67,7 @@ few Ipv6 = omega arith
 few Global = omega arith
 few Service = omega arith
 
-pub keys-few : (g : Group) (k : List ℕ) → place k (keyNames g) < 16
+pub keys-few : (g : Group) (k : List ℕ) → place k (keyNames g) < 25
 keys-few g k = let m : place k (keyNames g) ≤ length (keyNames g) = place-most k (keyNames g) in omega (arith, m, few g)
 
 -- ---- settings, one more
@@ -89,13 +93,13 @@ entry-new k x (y ∷ es) h g = go (same k (y .key)) refl (λ q. entry-new k x es
     go false q f = f (rw q at g)
 
 -- whether a slot is taken says whether its key is given
-pub kept-given : (file : List ℕ) (s : Slot) (o : Option Entry) → Kept file s o → {b : Bool} → eqb (s .line) 0 ≡ b → isSome o ≡ not b
-kept-given file s none h {b} e = go b (sym (ap (λ (t : Slot). eqb (t .line) 0) h) ∙ e)
+pub kept-given : (d : Dialect) (k : Option Kind) (file : List ℕ) (s : Slot) (o : Option Entry) → Kept d k file s o → {b : Bool} → eqb (s .line) 0 ≡ b → isSome o ≡ not b
+kept-given d k file s none h {b} e = go b (sym (ap (λ (t : Slot). eqb (t .line) 0) h) ∙ e)
   where
     go : (b : Bool) → true ≡ b → false ≡ not b
     go true q = refl
     go false q = absurd (true≢false q)
-kept-given file s (some x) h {b} e = go b (sym (ne-eqb (s .line) 0 (λ q. omega (arith, q, h .some))) ∙ e)
+kept-given d k file s (some x) h {b} e = go b (sym (ne-eqb (s .line) 0 (λ q. omega (arith, q, h .some))) ∙ e)
   where
     go : (b : Bool) → false ≡ b → true ≡ not b
     go true q = absurd (false≢true q)
@@ -103,19 +107,77 @@ kept-given file s (some x) h {b} e = go b (sym (ne-eqb (s .line) 0 (λ q. omega 
 
 -- ---- a store
 
-module _ {file x : List ℕ} {b : ℕ} {t : List (List ℕ)} {es : List Entry} (h : Row file x b t es) where
+module _ {d : Dialect} {file x : List ℕ} {b : ℕ} {g : Group} {es : List Entry} (h : Row d file x b g es) where
   -- slots that a change leaves as they were
-  pub row-kept : {y : List ℕ} → ((k : List ℕ) → (place k t ≡ 0 → ⊥) → slot (b + place k t) y ≡ slot (b + place k t) x) → Row file y b t es
+  pub row-kept : {y : List ℕ} → ((k : List ℕ) → (place k (keyNames g) ≡ 0 → ⊥) → slot (b + place k (keyNames g)) y ≡ slot (b + place k (keyNames g)) x) → Row d file y b g es
   row-kept {y} kept = record { each = λ k z. rw (kept k z) (h .each k z) }
 
-  module _ (long : length x ≡ 384) (k : List ℕ) (z : place k t ≡ 0 → ⊥) (r : b + place k t < 128) (free : given k es ≡ false) (fit : (m : List ℕ) → b + place m t < 128) where
-    pub row-put : {e : Entry} {s : Slot} → e .key ≡ k → Stands file s e → Row file (stored (b + place k t) (s .start) (s .end) (s .line) x) b t (es ++ (e ∷ []))
+  module _ (long : length x ≡ 976) (k : List ℕ) (r : b ≤ 200) (free : given k es ≡ false) where
+    pub row-put : {e : Entry} {s : Slot} → e .key ≡ k → Stands d (kindOf g k) file s e → Row d file (stored (b + place k (keyNames g)) s x) b g (es ++ (e ∷ []))
     row-put {e} {s} q w = record { each = λ m y. go m y (same m k) refl }
       where
-        go : (m : List ℕ) → (place m t ≡ 0 → ⊥) → (a : Bool) → same m k ≡ a → Kept file (slot (b + place m t) (stored (b + place k t) (s .start) (s .end) (s .line) x)) (entryOf m (es ++ (e ∷ [])))
+        go : (m : List ℕ) → (place m (keyNames g) ≡ 0 → ⊥) → (a : Bool) → same m k ≡ a → Kept d (kindOf g m) file (slot (b + place m (keyNames g)) (stored (b + place k (keyNames g)) s x)) (entryOf m (es ++ (e ∷ [])))
         go m y true p =
             let n : m ≡ k = same-eq m k p in
-            rw (n, entry-new k e es (rw q (same-refl k)) free, stored-here x (b + place k t) (s .start) (s .end) (s .line) long r) w
+            rw (n, entry-new k e es (rw q (same-refl k)) free, stored-here x (b + place k (keyNames g)) s long (omega (arith, r, keys-few g k))) w
         go m y false p =
-            let d : (b + place m t ≡ b + place k t → ⊥) = λ v. true≢false (sym (same-refl k) ∙ rw (place-inj m k t (omega (arith, v)) y) at p) in
-            rw (entry-other m e es (rw q p), stored-there x (b + place k t) (s .start) (s .end) (s .line) long r (b + place m t) (fit m) d) (h .each m y)
+            let v : (b + place m (keyNames g) ≡ b + place k (keyNames g) → ⊥) = λ v. true≢false (sym (same-refl k) ∙ rw (place-inj m k (keyNames g) (omega (arith, v)) y) at p) in
+            rw (entry-other m e es (rw q p), stored-there x (b + place k (keyNames g)) s long (omega (arith, r, keys-few g k)) (b + place m (keyNames g)) (omega (arith, r, keys-few g m)) v) (h .each m y)
+
+-- ---- the rows of groups
+
+pub group-at : (g : Group) (n : ℕ) → (serves g ≡ true → 0 < n) → groupAt (rowOf g n) ≡ g
+unfolding groupAt
+group-at Settings n h = refl
+group-at Security n h = refl
+group-at Ipv4 n h = refl
+group-at Ipv6 n h = refl
+group-at Global n h = refl
+group-at Service n h =
+    let p : 0 < n = h refl in
+    rw (ne-eqb (4 + n) 0 (λ e. omega (arith, e, p)), ne-eqb (4 + n) 1 (λ e. omega (arith, e, p)), ne-eqb (4 + n) 2 (λ e. omega (arith, e, p)), ne-eqb (4 + n) 3 (λ e. omega (arith, e, p)), ne-eqb (4 + n) 4 (λ e. omega (arith, e, p)))
+
+-- where a row of a dialect lies
+abbrev pub shift : Dialect → ℕ
+shift Iwd = 0
+shift ConnMan = 4
+
+pub record Lies (d : Dialect) (r : ℕ) : Type 0 where
+  pub is : baseAt r ≡ 25 * (r - shift d)
+  pub low : shift d ≤ r
+  pub high : r < shift d + 9
+
+pub lies : (d : Dialect) (r : ℕ) → Own d r → Lies d r
+lies Iwd r h = record { is = rw (lt-leb 4 r h) (omega arith); low = omega arith; high = omega (arith, h) }
+lies ConnMan r h = record { is = rw (le-leb 4 r (h .0)); low = h .0; high = omega (arith, h .1) }
+
+pub own-row : (d : Dialect) (n : List ℕ) {g : Group} → groupOf d n ≡ some g → (m : ℕ) → m ≤ 8 → Own d (rowOf g m)
+unfolding groupOf
+own-row Iwd n {g} e m l = go (same n (word "Settings")) (same n (word "Security")) (same n (word "IPv4")) (same n (word "IPv6")) e
+  where
+    go : (a b c f : Bool) → cond a (some Settings) (cond b (some Security) (cond c (some Ipv4) (cond f (some Ipv6) none))) ≡ some g → rowOf g m < 4
+    go true b c f k = subst (λ (h : Group). rowOf h m < 4) (Option·some-injective Settings g k) (omega arith)
+    go false true c f k = subst (λ (h : Group). rowOf h m < 4) (Option·some-injective Security g k) (omega arith)
+    go false false true f k = subst (λ (h : Group). rowOf h m < 4) (Option·some-injective Ipv4 g k) (omega arith)
+    go false false false true k = subst (λ (h : Group). rowOf h m < 4) (Option·some-injective Ipv6 g k) (omega arith)
+    go false false false false k = absurd (Option·none-ne-some g k)
+own-row ConnMan n {g} e m l = go (same n (word "global")) (isService n) e
+  where
+    go : (a b : Bool) → cond a (some Global) (only b (some Service)) ≡ some g → (4 ≤ rowOf g m) × (rowOf g m < 13)
+    go true b k = subst (λ (h : Group). (4 ≤ rowOf h m) × (rowOf h m < 13)) (Option·some-injective Global g k) (omega arith, omega arith)
+    go false true k = subst (λ (h : Group). (4 ≤ rowOf h m) × (rowOf h m < 13)) (Option·some-injective Service g k) (omega arith, omega arith)
+    go false false k = absurd (Option·none-ne-some g k)
+
+module _ (s : Section) (gs : List Section) where
+  pub group-after : groupAt (rowAfter s gs) ≡ s .group
+  group-after = group-at (s .group) (services (s ∷ gs)) (λ e. rw e (omega arith))
+
+  pub latest-here : latest (rowAfter s gs) (s ∷ gs) ≡ s .entries
+  latest-here = rw (eq-eqb (rowAfter s gs) (rowAfter s gs) refl)
+
+  -- the row of the group in force
+  pub row-here : {d : Dialect} {file x : List ℕ} → Rows d file x (s ∷ gs) → Row d file x (baseAt (rowAfter s gs)) (s .group) (s .entries)
+  row-here {d} {file} {x} h =
+      subst (λ (g : Group). Row d file x (baseAt (rowAfter s gs)) g (s .entries)) group-after
+      (subst (λ (es : List Entry). Row d file x (baseAt (rowAfter s gs)) (groupAt (rowAfter s gs)) es) latest-here
+      (h .each (rowAfter s gs) (own-row d (s .name) (h .well .0) (services (s ∷ gs)) (h .few))))

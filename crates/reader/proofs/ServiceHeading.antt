@@ -2,95 +2,79 @@
 use Prim.Native.Nat.{ℕ, zero, suc, _+_, _*_, _≤_, _<_}
 use native.Mathlib.Omega.{arith}
 use mathlib.Core.Path.{_≡_, refl, ap, ap₂, sym, _∙_, subst}
-use mathlib.Core.Bool.{Bool, true, false, cond, _||_, _&&_}
+use mathlib.Core.Bool.{Bool, true, false, _||_}
 use mathlib.Core.List.{List, [], _∷_}
 use mathlib.Core.Option.{some}
 use borrow.Author.Tests.{eqb-true, eqb-false}
 use lib.Dec.{eqb}
 use lib.ListN.{length}
-use Rattle.text.specs.Parts.{part}
-use Rattle.text.specs.Words.{same, place}
+use Rattle.text.specs.Parts.{part, partAt, Inside}
+use Rattle.text.specs.Words.{same}
 use Rattle.text.specs.declared.Dialect.{Dialect}
+use Rattle.text.specs.declared.Place.{Place}
 use Rattle.rules.specs.Tables.{groupOf}
-use Rattle.rules.specs.Lookups.{keyNames}
-use Rattle.rules.specs.Faults.{Entry, Section, nameGiven, serves, services}
-use Rattle.rules.specs.declared.Group.{Group}
+use Rattle.rules.specs.Faults.{Section, nameGiven, services}
 use Rattle.rules.specs.declared.Group.the-variants.{Service}
-use Rattle.reader.specs.Store.{Slot, slot, Began}
-use Rattle.reader.specs.History.{groupNumber, base, foundBase, nameBase, sameGroup, latest, headSlot, numbered, olderNumbered}
-use Rattle.reader.specs.Holds.{Row, Spans, among, Holds, pendingOf}
-use Rattle.reader.specs.Closing.{slotsFault, orPending}
+use Rattle.reader.specs.Store.{Slot, slot, stored}
+use Rattle.reader.specs.History.{nameBase, rowOf, baseAt}
+use Rattle.reader.specs.Holds.{Spans, among, Table, Holds}
+use Rattle.reader.specs.Steps.{header, named}
 use Rattle.reader.specs.declared.State.{State}
 use Rattle.reader.specs.declared.Current.the-variants.{In}
-use Rattle.reader.proofs.Rows.{keys-few, row-kept}
-use Rattle.reader.proofs.SettingLine.{number-few}
-use Rattle.reader.proofs.Growing.{same-group, among-kept}
-use Rattle.reader.proofs.ClosingFault.{closed-fault, same-serves}
+use Rattle.reader.proofs.Slots.{stored-here, stored-there}
+use Rattle.reader.proofs.Rows.{lies, own-row}
+use Rattle.reader.proofs.Growing.{among-kept}
+use Rattle.reader.proofs.PlainHeading.{latest-new, there, table-headed, table-named}
 
--- ---- service w is the latest, or one before it
+module _ {d : Dialect} {file : List ℕ} {st : State} {x : List ℕ} {gs : List Section} (h : Holds d file st x gs) (p : Place) (q : groupOf d (partAt file p) ≡ some Service) (new : nameGiven (partAt file p) gs ≡ false) (s l : ℕ) (k : 0 < l) (few : st .services < 8) (inside : Inside (length file) p) where
+  abbrev one : List ℕ
+  one = stored (baseAt (rowOf Service (suc (services gs)))) (header s l) x
 
-pub numbered-latest : (w : ℕ) (gs : List Section) → numbered w gs ≡ cond (eqb w (services gs)) (latest Service gs) (olderNumbered w gs)
-numbered-latest w [] = go (eqb w 0)
-  where
-    go : (b : Bool) → numbered w [] ≡ cond b (latest Service []) (olderNumbered w [])
-    go true = refl
-    go false = refl
-numbered-latest w (s ∷ gs) = rw (same-serves (s .group)) (go (serves (s .group)) (numbered-latest w gs))
-  where
-    go : (b : Bool) → numbered w gs ≡ cond (eqb w (services gs)) (latest Service gs) (olderNumbered w gs) → cond (b && eqb w (suc (services gs))) (s .entries) (numbered w gs) ≡ cond (eqb w (cond b (suc (services gs)) (services gs))) (cond b (s .entries) (latest Service gs)) (cond b (numbered w gs) (olderNumbered w gs))
-    go true q = refl
-    go false q = q
+  abbrev two : List ℕ
+  two = stored (nameBase + st .services) (named p l) one
 
--- ---- the table
+  abbrev this : Section
+  this = record { name = partAt file p; group = Service; line = l; start = s; entries = [] }
 
-module _ {d : Dialect} {file : List ℕ} {w : ℕ} {st : State} {x : List ℕ} {gs : List Section} (h : Holds d file w st x gs) {y : List ℕ} {header named : Slot} (b : Began w (st .services) header named x y) where
-  row-of : (a : Group) (o : Bool) → sameGroup a Service ≡ o → Row file x (base a) (keyNames a) (latest a gs) → Row file y (base a) (keyNames a) (cond o [] (latest a gs))
-  row-of a true v row = subst (λ (g : Group). Row file y (base g) (keyNames g) []) (sym (same-group a Service v)) (record { each = λ k z. b .row (place k (keyNames Service)) (omega (arith, z)) (keys-few Service k) })
-  row-of a false v row = row-kept row (λ k z. b .below (base a + place k (keyNames a)) (let n = eqb-false (groupNumber a) 5 v in omega (arith, n, number-few a, keys-few a k)))
+  less : suc (services gs) ≤ 8
+  less = omega (arith, h .services)
 
-  head-of : (a : Group) (o : Bool) → sameGroup a Service ≡ o → slot (base a) y ≡ cond o header (headSlot a gs)
-  head-of a true v = rw (same-group a Service v) (b .head)
-  head-of a false v = b .below (base a) (let n = eqb-false (groupNumber a) 5 v in omega (arith, n, number-few a)) ∙ h .heads a
+  headed : Table d file one (this ∷ gs)
+  headed = table-headed (h .table) (partAt file p) Service s l q less (latest-new gs (4 + suc (services gs)) (omega arith)) k new
 
-  found-of : Row file y foundBase (keyNames Service) (numbered w gs)
-  found-of = rw (numbered-latest w gs, sym (h .services)) (go (eqb w (st .services)) refl)
+  name-kept : (i : ℕ) → i < st .services → slot (nameBase + i) two ≡ slot (nameBase + i) x
+  name-kept i j = stored-there one (nameBase + st .services) (named p l) (headed .long) (omega (arith, few)) (nameBase + i) (omega (arith, j, few)) (λ e. omega (arith, e, j)) ∙ there (h .table) (partAt file p) Service s l q less (nameBase + i) (omega (arith, j, few)) (λ e. let o = lies d (4 + suc (services gs)) (own-row d (partAt file p) q (suc (services gs)) less) in omega (arith, e, less))
+
+  name-here : slot (nameBase + st .services) two ≡ named p l
+  name-here = stored-here one (nameBase + st .services) (named p l) (headed .long) (omega (arith, few))
+
+  spans-of : Spans file two (st .services + 1)
+  spans-of = record { few = omega (arith, few); each = λ i j. go i (eqb i (st .services)) refl j }
     where
-      go : (o : Bool) → eqb w (st .services) ≡ o → Row file y foundBase (keyNames Service) (cond o (latest Service gs) (olderNumbered w gs))
-      go true v = record { each = λ k z. rw (b .found (place k (keyNames Service)) (keys-few Service k), v) (h .rows Service .each k z) }
-      go false v = record { each = λ k z. rw (b .found (place k (keyNames Service)) (keys-few Service k), v) (h .found .each k z) }
+      go : (i : ℕ) (o : Bool) → eqb i (st .services) ≡ o → i < st .services + 1 → (slot (nameBase + i) two .start ≤ slot (nameBase + i) two .end) × (slot (nameBase + i) two .end ≤ length file)
+      go i true v j = subst (λ (t : Slot). (t .start ≤ t .end) × (t .end ≤ length file)) (sym (ap (λ (m : ℕ). slot (nameBase + m) two) (eqb-true i (st .services) v) ∙ name-here)) (inside .low, inside .high)
+      go i false v j =
+          let less : i < st .services = (let n = eqb-false i (st .services) v in omega (arith, n, j)) in
+          subst (λ (t : Slot). (t .start ≤ t .end) × (t .end ≤ length file)) (sym (name-kept i less)) (h .spans .each i less)
 
-  module _ (few : st .services < 8) (low : named .start ≤ named .end) (high : named .end ≤ length file) where
-    spans-of : Spans file y (st .services + 1)
-    spans-of = record { few = omega (arith, few); each = λ i k. go i (eqb i (st .services)) refl k }
-      where
-        go : (i : ℕ) (o : Bool) → eqb i (st .services) ≡ o → i < st .services + 1 → (slot (nameBase + i) y .start ≤ slot (nameBase + i) y .end) × (slot (nameBase + i) y .end ≤ length file)
-        go i true v k = subst (λ (t : Slot). (t .start ≤ t .end) × (t .end ≤ length file)) (sym (ap (λ (j : ℕ). slot (nameBase + j) y) (eqb-true i (st .services) v) ∙ b .name)) (low, high)
-        go i false v k =
-            let less : i < st .services = (let n = eqb-false i (st .services) v in omega (arith, n, k)) in
-            subst (λ (t : Slot). (t .start ≤ t .end) × (t .end ≤ length file)) (sym (b .names i less)) (h .spans .each i less)
+  names-of : (m : List ℕ) → groupOf d m ≡ some Service → among file two (st .services + 1) m ≡ (same m (partAt file p) || nameGiven m gs)
+  names-of m v =
+      let next : st .services + 1 ≡ suc (st .services) = omega arith in
+      ap (λ (j : ℕ). among file two j m) next
+      ∙ ap₂ _||_
+      (ap (λ (t : Slot). same m (part (t .start) (t .end) file)) name-here)
+      (among-kept file x two (st .services) name-kept m ∙ h .names m v)
 
-    module _ (n : List ℕ) (q : groupOf d n ≡ some Service) (is : part (named .start) (named .end) file ≡ n) where
-      names-of : (m : List ℕ) → groupOf d m ≡ some Service → among file y (st .services + 1) m ≡ (same m n || nameGiven m gs)
-      names-of m v =
-          let one : st .services + 1 ≡ suc (st .services) = omega arith in
-          ap (λ (j : ℕ). among file y j m) one
-          ∙ ap₂ _||_
-          (ap (λ (t : Slot). same m (part (t .start) (t .end) file)) (b .name) ∙ ap (same m) is)
-          (among-kept file x y (st .services) (b .names) m ∙ h .names m v)
-
-      pub holds-service : {s l : ℕ} → header ≡ record { start = s; end = s; line = l } → 0 < l → nameGiven n gs ≡ false → {r : State} → r ≡ record { current = In Service; services = st .services + 1; settings = st .settings; pending = orPending (st .pending) (pendingOf (slotsFault file x)) } → Holds d file w r y (record { name = n; group = Service; line = l; start = s; entries = [] } ∷ gs)
-      holds-service {s} {l} e k u v =
-          rw v
-          (record {
-            long = b .long;
-            current = refl;
-            services = omega (arith, h .services);
-            settings = omega (arith, h .settings);
-            pending = closed-fault h;
-            rows = λ a. row-of a (sameGroup a Service) refl (h .rows a);
-            heads = λ a. head-of a (sameGroup a Service) refl ∙ ap (λ (t : Slot). cond (sameGroup a Service) t (headSlot a gs)) e;
-            spans = spans-of;
-            names = names-of;
-            found = found-of;
-            well = (q, k, u, h .well);
-          })
+  pub holds-service : {r : State} → r ≡ record { current = In Service (baseAt (rowOf Service (st .services + 1))); services = st .services + 1; settings = st .settings } → Holds d file r (stored (nameBase + st .services) (named p l) (stored (baseAt (rowOf Service (st .services + 1))) (header s l) x)) (this ∷ gs)
+  holds-service {r} v =
+      let next : st .services + 1 ≡ suc (services gs) = omega (arith, h .services) in
+      subst (λ (i : ℕ). Holds d file r (stored (nameBase + st .services) (named p l) (stored (baseAt (rowOf Service i)) (header s l) x)) (this ∷ gs)) (sym next)
+      (rw v
+      (record {
+        table = table-named headed (nameBase + st .services) (named p l) (omega arith) (omega (arith, few));
+        current = ap (λ (i : ℕ). In Service (baseAt (rowOf Service i))) next;
+        services = next;
+        settings = omega (arith, h .settings);
+        spans = spans-of;
+        names = names-of;
+      }))

@@ -1,5 +1,5 @@
 -- A setting's line: one law for each return of `setting_line`.
-use Prim.Native.Nat.{ℕ, zero, suc, _+_, _≤_, _<_}
+use Prim.Native.Nat.{ℕ, zero, suc, _+_, _*_, _≤_, _<_}
 use native.Mathlib.Omega.{arith}
 use mathlib.Core.Path.{_≡_, refl, ap, sym, _∙_, subst}
 use mathlib.Core.Bool.{Bool, true, false, cond, not}
@@ -22,7 +22,7 @@ use Rattle.kinds.specs.declared.Judgement.the-variants as J
 use Rattle.lines.specs.Lines.{setting}
 use Rattle.rules.specs.Tables.{keysOf, kindOf}
 use Rattle.rules.specs.Lookups.{nth, nth-zero, named-nth, keyNames, listedAnswer}
-use Rattle.rules.specs.Faults.{Section, fault, given, keyFault, valueFault}
+use Rattle.rules.specs.Faults.{Entry, Section, fault, given, keyFault, valueFault}
 use Rattle.rules.specs.Groups.{entryOf}
 use Rattle.rules.specs.declared.Group.{Group}
 use Rattle.rules.specs.declared.Group.the-variants.{Settings, Security, Ipv4, Ipv6, Global, Service}
@@ -30,27 +30,37 @@ use Rattle.rules.specs.declared.Listed.{Listed}
 use Rattle.rules.specs.declared.Listed.the-variants as L
 use Rattle.rules.specs.declared.Refusal.the-variants.{NoGroup, UnknownKey, RepeatedKey, ValueText, ValueKind}
 use Rattle.reader.specs.Store.{slot}
-use Rattle.reader.specs.History.{base, groupNumber, currentOf, latest}
-use Rattle.reader.specs.Holds.{Row}
-use Rattle.reader.specs.Says.{NewSetting, SettingIs, SettingSays}
+use Rattle.reader.specs.History.{baseAt, rowAfter, currentOf}
+use Rattle.reader.specs.Holds.{Row, Rows}
+use Rattle.reader.specs.Says.{NewSetting, SettingIs, CurrentRow, SettingSays}
 use Rattle.reader.specs.declared.Current.{Current}
 use Rattle.reader.specs.declared.Current.the-variants.{Outside, In}
 use Rattle.reader.specs.declared.Line.the-variants.{Setting, Refused}
-use Rattle.reader.proofs.Rows.{given-entry, kept-given, keys-few}
+use Rattle.reader.proofs.Rows.{given-entry, kept-given, keys-few, row-here}
 
 -- a group in force is that of the latest section
-pub record Head (gs : List Section) (g : Group) : Type 0 where
+pub record Head (gs : List Section) (g : Group) (b : ℕ) : Type 0 where
   pub section : Section
   pub rest : List Section
   pub is : gs ≡ section ∷ rest
   pub group : section .group ≡ g
+  pub row : baseAt (rowAfter section rest) ≡ b
 
-pub head : (gs : List Section) {c : Current} {g : Group} → c ≡ currentOf gs → c ≡ In g → Head gs g
+pub head : (gs : List Section) {c : Current} {g : Group} {b : ℕ} → c ≡ currentOf gs → c ≡ In g b → Head gs g b
 head [] e q = let z : _≡_ {A = ℕ} 0 1 = cc in absurd (omega arith)
-head (s ∷ gs) e q = record { section = s; rest = gs; is = refl; group = cc }
+head (s ∷ gs) e q = record { section = s; rest = gs; is = refl; group = cc; row = cc }
 
-latest-head : (s : Section) (gs : List Section) → latest (s .group) (s ∷ gs) ≡ s .entries
-latest-head s gs = rw (eq-eqb (groupNumber (s .group)) (groupNumber (s .group)) refl)
+-- the settings of the group in force
+abbrev inForce : List Section → List Entry
+inForce [] = []
+inForce (s ∷ gs) = s .entries
+
+row-in-force : {d : Dialect} {file x : List ℕ} (gs : List Section) {g : Group} {b : ℕ} → Head gs g b → Rows d file x gs → Row d file x b g (inForce gs)
+row-in-force {d} {file} {x} gs {g} {b} h rows =
+    subst (λ (t : List Section). Row d file x b g (inForce t)) (sym (h .is))
+    (subst (λ (t : Group). Row d file x b t (h .section .entries)) (h .group)
+    (subst (λ (t : ℕ). Row d file x t (h .section .group) (h .section .entries)) (h .row)
+    (row-here (h .section) (h .rest) (subst (λ (t : List Section). Rows d file x t) (h .is) rows))))
 
 listed-key : (m : ℕ) (o : Option Kind) {n : ℕ} {x : Kind} → listedAnswer m o ≡ L.Key n x → (m ≡ n) × (o ≡ some x)
 listed-key m none e = let z : _≡_ {A = ℕ} 0 1 = cc in absurd (omega arith)
@@ -59,14 +69,6 @@ listed-key m (some y) e = (cc, cc)
 listed-unknown : (m : ℕ) (o : Option Kind) → listedAnswer m o ≡ L.Unknown → o ≡ none
 listed-unknown m none e = refl
 listed-unknown m (some y) e = let z : _≡_ {A = ℕ} 0 1 = cc in absurd (omega arith)
-
-pub number-few : (g : Group) → groupNumber g ≤ 5
-number-few Settings = omega arith
-number-few Security = omega arith
-number-few Ipv4 = omega arith
-number-few Ipv6 = omega arith
-number-few Global = omega arith
-number-few Service = omega arith
 
 -- a key that has a kind has a place
 kind-placed : (g : Group) (k : List ℕ) {x : Kind} → kindOf g k ≡ some x → place k (keyNames g) ≡ 0 → ⊥
@@ -96,48 +98,46 @@ module _ (d : Dialect) (file x : List ℕ) (c : Current) (key value : Place) whe
       go [] e = refl
       go (s ∷ gs) e = let z : _≡_ {A = ℕ} 0 1 = cc in absurd (omega arith)
 
-  module _ {g : Group} (q : c ≡ In g) {r : Listed} (p : r ≡ listedAnswer (place (partAt file key) (keyNames g)) (kindOf g (partAt file key))) where
+  module _ {g : Group} {b : ℕ} (q : c ≡ In g b) {r : Listed} (p : r ≡ listedAnswer (place (partAt file key) (keyNames g)) (kindOf g (partAt file key))) where
     -- the fault by the key's kind and the settings of the group in force
-    faulty : (gs : List Section) → c ≡ currentOf gs → fault d gs (setting (partAt file key) (partAt file value)) ≡ keyFault d (partAt file key) (partAt file value) (kindOf g (partAt file key)) (latest g gs)
+    faulty : (gs : List Section) → c ≡ currentOf gs → fault d gs (setting (partAt file key) (partAt file value)) ≡ keyFault d (partAt file key) (partAt file value) (kindOf g (partAt file key)) (inForce gs)
     unfolding fault
-    faulty gs e = let h = head gs e q in rw (h .is) (at (h .section) (h .rest) (h .group))
-      where
-        at : (s : Section) (rest : List Section) → s .group ≡ g → keyFault d (partAt file key) (partAt file value) (kindOf (s .group) (partAt file key)) (s .entries) ≡ keyFault d (partAt file key) (partAt file value) (kindOf g (partAt file key)) (latest g (s ∷ rest))
-        at s rest w = subst (λ (h : Group). keyFault d (partAt file key) (partAt file value) (kindOf (s .group) (partAt file key)) (s .entries) ≡ keyFault d (partAt file key) (partAt file value) (kindOf h (partAt file key)) (latest h (s ∷ rest))) w (ap (keyFault d (partAt file key) (partAt file value) (kindOf (s .group) (partAt file key))) (sym (latest-head s rest)))
+    faulty [] e = let z : _≡_ {A = ℕ} 0 1 = cc in absurd (omega arith)
+    faulty (s ∷ gs) e = let w : s .group ≡ g = cc in rw w
 
     pub setting-unknown : r ≡ L.Unknown → SettingSays d file x c key value (Refused UnknownKey)
     setting-unknown w = record { says = λ gs e rows. faulty gs e ∙ rw (listed-unknown (place (partAt file key) (keyNames g)) (kindOf g (partAt file key)) (sym p ∙ w)) }
 
-    module _ {n : ℕ} {kind : Kind} (w : r ≡ L.Key n kind) {b : ℕ} (a : b ≡ base g) where
+    module _ {n : ℕ} {kind : Kind} (w : r ≡ L.Key n kind) where
       known : (place (partAt file key) (keyNames g) ≡ n) × (kindOf g (partAt file key) ≡ some kind)
       known = listed-key (place (partAt file key) (keyNames g)) (kindOf g (partAt file key)) (sym p ∙ w)
 
       placed : place (partAt file key) (keyNames g) ≡ 0 → ⊥
       placed = kind-placed g (partAt file key) (known .1)
 
-      whether : (gs : List Section) → Row file x (base g) (keyNames g) (latest g gs) → {t : Bool} → eqb (getD x (256 + (b + n)) 0) 0 ≡ t → given (partAt file key) (latest g gs) ≡ not t
+      whether : (gs : List Section) → Row d file x b g (inForce gs) → {t : Bool} → eqb (getD x (488 + (b + n)) 0) 0 ≡ t → given (partAt file key) (inForce gs) ≡ not t
       whether gs row {t} l =
-          let i : b + n ≡ base g + place (partAt file key) (keyNames g) = omega (arith, a, known .0) in
-          given-entry (partAt file key) (latest g gs) ∙ kept-given file (slot (base g + place (partAt file key) (keyNames g)) x) (entryOf (partAt file key) (latest g gs)) (row .each (partAt file key) placed) (ap (λ (m : ℕ). eqb (getD x (256 + m) 0) 0) (sym i) ∙ l)
+          let at : eqb (getD x (488 + (b + place (partAt file key) (keyNames g))) 0) 0 ≡ t = rw (known .0) l in
+          given-entry (partAt file key) (inForce gs) ∙ kept-given d (kindOf g (partAt file key)) file (slot (b + place (partAt file key) (keyNames g)) x) (entryOf (partAt file key) (inForce gs)) (row .each (partAt file key) placed) at
 
-      pub slot-small : b + n < 96
-      slot-small = omega (arith, a, known .0, keys-few g (partAt file key), number-few g)
+      pub slot-small : CurrentRow x c → b + n < 225
+      slot-small h = omega (arith, h .row g b q, known .0, keys-few g (partAt file key))
 
-      pub setting-repeated : (getD x (256 + (b + n)) 0 ≡ 0 → ⊥) → SettingSays d file x c key value (Refused RepeatedKey)
-      setting-repeated l = record { says = λ gs e rows. faulty gs e ∙ rw (known .1, whether gs (rows g) (ne-eqb _ 0 l)) }
+      pub setting-repeated : (getD x (488 + (b + n)) 0 ≡ 0 → ⊥) → SettingSays d file x c key value (Refused RepeatedKey)
+      setting-repeated l = record { says = λ gs e rows. faulty gs e ∙ rw (known .1, whether gs (row-in-force gs (head gs e q) rows) (ne-eqb _ 0 l)) }
 
-      module _ (l : getD x (256 + (b + n)) 0 ≡ 0) {j : Judgement} (s : j ≡ judgementAt value (judged d kind (partAt file value))) where
-        judging : (gs : List Section) → c ≡ currentOf gs → Row file x (base g) (keyNames g) (latest g gs) → fault d gs (setting (partAt file key) (partAt file value)) ≡ valueFault (judged d kind (partAt file value))
-        judging gs e row = faulty gs e ∙ rw (known .1, whether gs row (eq-eqb _ 0 l))
+      module _ (l : getD x (488 + (b + n)) 0 ≡ 0) {j : Judgement} (s : j ≡ judgementAt value (judged d kind (partAt file value))) where
+        judging : (gs : List Section) → c ≡ currentOf gs → Rows d file x gs → fault d gs (setting (partAt file key) (partAt file value)) ≡ valueFault (judged d kind (partAt file value))
+        judging gs e rows = faulty gs e ∙ rw (known .1, whether gs (row-in-force gs (head gs e q) rows) (eq-eqb _ 0 l))
 
         pub setting-text : j ≡ J.BrokenText → SettingSays d file x c key value (Refused ValueText)
-        setting-text v = record { says = λ gs e rows. judging gs e (rows g) ∙ ap valueFault (text-broken value (judged d kind (partAt file value)) (sym s ∙ v)) }
+        setting-text v = record { says = λ gs e rows. judging gs e rows ∙ ap valueFault (text-broken value (judged d kind (partAt file value)) (sym s ∙ v)) }
 
         pub setting-kind : j ≡ J.BrokenKind → SettingSays d file x c key value (Refused ValueKind)
-        setting-kind v = record { says = λ gs e rows. judging gs e (rows g) ∙ ap valueFault (kind-broken value (judged d kind (partAt file value)) (sym s ∙ v)) }
+        setting-kind v = record { says = λ gs e rows. judging gs e rows ∙ ap valueFault (kind-broken value (judged d kind (partAt file value)) (sym s ∙ v)) }
 
         pub setting-good : {v : Value} → j ≡ J.Good v → SettingSays d file x c key value (Setting (b + n) value v)
         setting-good v =
             record {
-              says = λ gs e rows. (judging gs e (rows g) ∙ value-good value (judged d kind (partAt file value)) (sym s ∙ v), record { group = g; in-force = sym e ∙ q; listed = placed; is = omega (arith, a, known .0); kind = kind; of-kind = known .1; reads = sym s ∙ v }, refl);
+              says = λ gs e rows. (judging gs e rows ∙ value-good value (judged d kind (partAt file value)) (sym s ∙ v), record { group = g; row = b; in-force = sym e ∙ q; listed = placed; is = omega (arith, known .0); kind = kind; of-kind = known .1; reads = sym s ∙ v }, refl);
             }

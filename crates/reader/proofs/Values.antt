@@ -1,33 +1,40 @@
 -- What a slot says of the setting that it keeps: what its value reads as, its line and its start; and the settings of a service by its number.
-use Prim.Native.Nat.{ℕ, zero, suc, _+_, _≤_, _<_}
+use Prim.Native.Nat.{ℕ, zero, suc, _+_, _*_, _≤_, _<_}
 use native.Mathlib.Omega.{arith}
-use mathlib.Core.Path.{_≡_, refl, ap, sym, _∙_}
-use mathlib.Core.Bool.{Bool, true, false, cond, _&&_}
+use mathlib.Core.Path.{_≡_, refl, ap, sym, _∙_, subst}
+use mathlib.Core.Bool.{Bool, true, false, cond, _&&_, true≢false}
 use mathlib.Core.List.{List, [], _∷_, _++_, reverse, reverse-cons}
 use mathlib.Core.Option.{Option, none, some}
-use borrow.Author.Tests.{eq-eqb, ne-eqb, eqb-true, eqb-false}
+use borrow.Author.Tests.{eq-eqb, ne-eqb, eqb-true, eqb-false, le-leb}
 use lib.Dec.{eqb}
 use lib.ListN.{length}
 use Rattle.text.specs.Parts.{part}
 use Rattle.text.specs.Laws.{part-none}
+use Rattle.text.specs.declared.Dialect.{Dialect}
+use Rattle.text.specs.declared.Dialect.the-variants.{ConnMan}
+use Rattle.kinds.specs.declared.Kind.{Kind}
 use Rattle.rules.specs.Faults.{Entry, Section, serves, services}
 use Rattle.rules.specs.Asking.{firstOr, serviceAt, readAs, lineIn, startIn}
 use Rattle.reader.specs.Store.{Slot}
-use Rattle.reader.specs.History.{numbered}
-use Rattle.reader.specs.Holds.{Kept}
+use Rattle.reader.specs.History.{rowOf, base, rowAfter, latest, numbered}
+use Rattle.reader.specs.Holds.{Kept, Row, Table}
+use Rattle.rules.specs.GoodEntries.{serves-service}
+use Rattle.rules.specs.declared.Group.{Group}
+use Rattle.rules.specs.declared.Group.the-variants.{Settings, Security, Ipv4, Ipv6, Global, Service}
+use Rattle.reader.proofs.Rows.{group-at}
 use Rattle.reader.proofs.Backwards.{services-reverse}
 
-module _ (file : List ℕ) (s : Slot) where
+module _ (d : Dialect) (k : Option Kind) (file : List ℕ) (s : Slot) where
   -- a kind that reads nothing from no bytes
-  pub kept-read : {A : Type 0} (f : List ℕ → Option A) → f [] ≡ none → (o : Option Entry) → Kept file s o → f (part (s .start) (s .end) file) ≡ readAs f o
+  pub kept-read : {A : Type 0} (f : List ℕ → Option A) → f [] ≡ none → (o : Option Entry) → Kept d k file s o → f (part (s .start) (s .end) file) ≡ readAs f o
   kept-read f e none q = rw (ap (λ (t : Slot). t .start) q, ap (λ (t : Slot). t .end) q, part-none file 0) e
   kept-read f e (some x) h = ap f (h .value)
 
-  pub kept-line : (o : Option Entry) → Kept file s o → s .line ≡ lineIn o
+  pub kept-line : (o : Option Entry) → Kept d k file s o → s .line ≡ lineIn o
   kept-line none q = ap (λ (t : Slot). t .line) q
   kept-line (some x) h = h .line
 
-  pub kept-start : (o : Option Entry) → Kept file s o → s .start ≡ startIn o
+  pub kept-start : (o : Option Entry) → Kept d k file s o → s .start ≡ startIn o
   kept-start none q = ap (λ (t : Slot). t .start) q
   kept-start (some x) h = h .start
 
@@ -77,3 +84,44 @@ none-last (suc w) = refl
 pub numbered-service : (w : ℕ) (gs : List Section) → numbered w gs ≡ serviceAt w (reverse gs)
 numbered-service w [] = none-last w
 numbered-service w (g ∷ gs) = rw (reverse-cons g gs, service-last (reverse gs) w g, services-reverse gs) (ap (lastOr g (eqb w (suc (services gs)))) (numbered-service w gs))
+
+-- ---- the row of a service by its number
+
+numbered-latest : (w : ℕ) → 1 ≤ w → (gs : List Section) → latest (4 + w) gs ≡ numbered w gs
+numbered-latest w l [] = refl
+numbered-latest w l (s ∷ gs) = go (serves (s .group)) refl (numbered-latest w l gs)
+  where
+    plain : (g : Group) (n : ℕ) → serves g ≡ false → rowOf g n ≤ 4
+    plain Settings n v = omega arith
+    plain Security n v = omega arith
+    plain Ipv4 n v = omega arith
+    plain Ipv6 n v = omega arith
+    plain Global n v = omega arith
+    plain Service n v = absurd (true≢false v)
+
+    shifted : (n : ℕ) → eqb (4 + w) (4 + n) ≡ eqb w n
+    shifted n = same (eqb w n) refl
+      where
+        same : (b : Bool) → eqb w n ≡ b → eqb (4 + w) (4 + n) ≡ b
+        same true e = eq-eqb (4 + w) (4 + n) (ap (λ (i : ℕ). 4 + i) (eqb-true w n e))
+        same false e = ne-eqb (4 + w) (4 + n) (λ q. eqb-false w n e (omega (arith, q)))
+
+    go : (b : Bool) → serves (s .group) ≡ b → latest (4 + w) gs ≡ numbered w gs → latest (4 + w) (s ∷ gs) ≡ numbered w (s ∷ gs)
+    go true v h = let g : s .group ≡ Service = serves-service (s .group) v in rw (g, shifted (suc (services gs)), h)
+    go false v h = rw (ne-eqb (4 + w) (rowAfter s gs) (λ q. let p = plain (s .group) (services (s ∷ gs)) v in omega (arith, q, p, l)), v) h
+
+pub numbered-row : {file x : List ℕ} {gs : List Section} → Table ConnMan file x gs → (w : ℕ) → (1 ≤ w) × (w ≤ 8) → Row ConnMan file x (base Service w) Service (numbered w gs)
+numbered-row {file} {x} {gs} t w l =
+    subst (λ (es : List Entry). Row ConnMan file x (base Service w) Service es) (numbered-latest w (l .0) gs)
+    (subst (λ (g : Group). Row ConnMan file x (base Service w) g (latest (4 + w) gs)) (group-at Service w (λ e. l .0)) (t .rows .each (4 + w) (omega arith, omega (arith, l .1))))
+
+pub service-base : (n : ℕ) → base Service n ≡ 25 * n
+service-base n = rw (le-leb 4 (4 + n) (omega arith)) (omega arith)
+
+pub base-few : (g : Group) (n : ℕ) → n ≤ 8 → base g n ≤ 200
+base-few Settings n l = omega arith
+base-few Security n l = omega arith
+base-few Ipv4 n l = omega arith
+base-few Ipv6 n l = omega arith
+base-few Global n l = omega arith
+base-few Service n l = omega (arith, service-base n)

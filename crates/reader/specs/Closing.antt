@@ -1,5 +1,5 @@
 -- The rules over a service, by the slots of its row in the table of places.
-use Prim.Native.Nat.{ℕ, _+_, _≤_, _<_}
+use Prim.Native.Nat.{ℕ, zero, suc, _+_, _*_, _≤_, _<_}
 use mathlib.Core.Path.{_≡_}
 use mathlib.Core.Bool.{Bool, true, false, cond, not, _&&_, _||_}
 use mathlib.Core.List.{List}
@@ -7,71 +7,76 @@ use mathlib.Core.Option.{Option, none, some}
 use lib.Dec.{eqb}
 use lib.ListN.{length}
 use Rattle.text.specs.Parts.{part}
-use Rattle.kinds.specs.Kinds.{wordOf}
-use Rattle.kinds.specs.Answers.{namedWord}
-use Rattle.kinds.specs.declared.NamedWord.{NamedWord}
-use Rattle.kinds.specs.declared.NamedWord.the-variants as N
-use Rattle.kinds.specs.declared.WordList.{WordList}
-use Rattle.kinds.specs.declared.WordList.the-variants as W
+use Rattle.text.specs.Options.{orElse}
+use Rattle.kinds.specs.declared.Word.{Word}
+use Rattle.kinds.specs.declared.Word.the-variants.{Wifi, Ethernet, Psk, None}
 use Rattle.rules.specs.Groups.{Fault, faultAt, wordNumber, lackOrClash}
 use Rattle.rules.specs.declared.Refusal.{Refusal}
 use Rattle.reader.specs.Store.{Slot, slot}
-use Rattle.reader.specs.Holds.{pendingOf}
+use Rattle.reader.specs.Keys.{placeOf}
+use Rattle.reader.specs.declared.KeyName.{KeyName}
+use Rattle.reader.specs.declared.KeyName.the-variants as N
 use Rattle.reader.specs.declared.Rule.{Rule}
 use Rattle.reader.specs.declared.Rule.the-variants as R
 use Rattle.reader.specs.declared.Pending.{Pending}
 use Rattle.reader.specs.declared.Pending.the-variants as P
 
-abbrev pub numberIs : ℕ → NamedWord → Bool
-numberIs k (N.Is w) = eqb (wordNumber w) k
-numberIs k N.Broken = false
+-- a row from b on lies in the table
+pub record InTable (x : List ℕ) (b : ℕ) : Type 0 where
+  pub long : length x ≡ 976
+  pub row : b ≤ 200
 
--- the word that stands at a slot
-abbrev pub slotWord : List ℕ → WordList → Slot → NamedWord
-slotWord file l s = cond (eqb (s .line) 0) N.Broken (namedWord (wordOf l (part (s .start) (s .end) file)))
+-- what the row from b on keeps of a key
+abbrev pub keySlot : List ℕ → ℕ → KeyName → Slot
+keySlot x b k = slot (b + placeOf k) x
 
-pub record SlotIn (file x : List ℕ) (i : ℕ) : Type 0 where
-  pub long : length x ≡ 384
-  pub few : i < 128
-  pub low : slot i x .start ≤ slot i x .end
-  pub high : slot i x .end ≤ length file
+abbrev pub bytesOf : List ℕ → List ℕ → ℕ → KeyName → List ℕ
+bytesOf file x b k = part (keySlot x b k .start) (keySlot x b k .end) file
 
-abbrev pub isTaken : List ℕ → ℕ → Bool
-isTaken x i = not (eqb (slot i x .line) 0)
+-- its place lies in the file
+pub record KeyIn (file x : List ℕ) (b : ℕ) (k : KeyName) : Type 0 where
+  pub table : InTable x b
+  pub low : keySlot x b k .start ≤ keySlot x b k .end
+  pub high : keySlot x b k .end ≤ length file
+
+abbrev pub isTaken : List ℕ → ℕ → KeyName → Bool
+isTaken x b k = not (eqb (slot (b + placeOf k) x .line) 0)
+
+abbrev pub slotIs : List ℕ → ℕ → KeyName → Word → Bool
+slotIs x b k w = eqb (slot (b + placeOf k) x .code) (wordNumber w)
 
 abbrev pub ruleAnswer : Option Refusal → Rule
 ruleAnswer none = R.Obeyed
 ruleAnswer (some r) = R.Broken r
 
--- ---- the rules, with the slots of Type, Name, SSID, Passphrase, Security and Hidden
+abbrev pub pendingOf : Option Fault → Pending
+pendingOf none = P.Nothing
+pendingOf (some f) = P.At (f .refusal) (f .line)
 
-abbrev pub slotsUnnamed : List ℕ → List ℕ → Bool
-slotsUnnamed file x = numberIs 1 (slotWord file W.ServiceType (slot 81 x)) && not (isTaken x 90 || isTaken x 91)
+-- ---- the rules
 
-abbrev pub slotsKeyless : List ℕ → List ℕ → Bool
-slotsKeyless file x = numberIs 8 (slotWord file W.Security (slot 93 x)) && not (isTaken x 92)
+abbrev pub slotsUnnamed : List ℕ → ℕ → Bool
+slotsUnnamed x b = slotIs x b N.Type Wifi && not (isTaken x b N.Name || isTaken x b N.Ssid)
 
-abbrev pub slotsLack : List ℕ → List ℕ → Bool
-slotsLack file x = not (isTaken x 81) || (slotsUnnamed file x || slotsKeyless file x)
+abbrev pub slotsKeyless : List ℕ → ℕ → Bool
+slotsKeyless x b = slotIs x b N.Security Psk && not (isTaken x b N.Passphrase)
 
-abbrev pub slotsWireless : List ℕ → Bool
-slotsWireless x = isTaken x 90 || (isTaken x 91 || (isTaken x 92 || (isTaken x 93 || isTaken x 94)))
+abbrev pub slotsLack : List ℕ → ℕ → Bool
+slotsLack x b = not (isTaken x b N.Type) || (slotsUnnamed x b || slotsKeyless x b)
 
-abbrev pub slotsClash : List ℕ → List ℕ → Bool
-slotsClash file x = (numberIs 2 (slotWord file W.ServiceType (slot 81 x)) && slotsWireless x) || (numberIs 10 (slotWord file W.Security (slot 93 x)) && isTaken x 92)
+abbrev pub slotsWireless : List ℕ → ℕ → Bool
+slotsWireless x b = isTaken x b N.Name || (isTaken x b N.Ssid || (isTaken x b N.Passphrase || (isTaken x b N.Security || isTaken x b N.Hidden)))
 
-unfoldable pub slotsRule : List ℕ → List ℕ → Option Refusal
-slotsRule file x = lackOrClash (slotsLack file x) (slotsClash file x)
+abbrev pub slotsClash : List ℕ → ℕ → Bool
+slotsClash x b = (slotIs x b N.Type Ethernet && slotsWireless x b) || (slotIs x b N.Security None && isTaken x b N.Passphrase)
 
--- the words lie in the file
-pub record WordsIn (file x : List ℕ) : Type 0 where
-  pub kind : SlotIn file x 81
-  pub security : SlotIn file x 93
+unfoldable pub slotsRule : List ℕ → ℕ → Option Refusal
+slotsRule x b = lackOrClash (slotsLack x b) (slotsClash x b)
 
--- the fault of the latest service, if there is one, and the first fault with it
-unfoldable pub slotsFault : List ℕ → List ℕ → Option Fault
-slotsFault file x = cond (eqb (slot 80 x .line) 0) none (faultAt (slot 80 x .line) (slotsRule file x))
+-- the fault of the service whose row starts at b, and the first fault of the first n services
+abbrev pub slotsFaultAt : List ℕ → ℕ → Option Fault
+slotsFaultAt x b = faultAt (slot b x .line) (slotsRule x b)
 
-abbrev pub orPending : Pending → Pending → Pending
-orPending P.Nothing q = q
-orPending (P.At r l) q = P.At r l
+abbrev pub slotsFault : List ℕ → ℕ → Option Fault
+slotsFault x zero = none
+slotsFault x (suc n) = orElse (slotsFault x n) (slotsFaultAt x (25 + 25 * n))

@@ -7,11 +7,12 @@ use Rattle.names.specs.declared.Suffix.{Suffix}
 use Rattle.rules.specs.Groups.{isOpen, lackOrClash}
 use Rattle.rules.specs.declared.Refusal.{Refusal}
 use Rattle.reader.specs.Closing.{isTaken}
+use Rattle.reader.specs.declared.KeyName.the-variants as N
 
 -- ---- the slots of Passphrase and PreSharedKey
 
 abbrev pub slotsSecret : List ℕ → Bool
-slotsSecret x = isTaken x 17 || isTaken x 18
+slotsSecret x = isTaken x 25 N.IwdPassphrase || isTaken x 25 N.PreSharedKey
 
 abbrev pub slotsSecretless : Suffix → List ℕ → Bool
 slotsSecretless s x = not (isOpen s) && not (slotsSecret x)
@@ -19,10 +20,10 @@ slotsSecretless s x = not (isOpen s) && not (slotsSecret x)
 -- ---- the slots of Address, Gateway, Broadcast and Netmask
 
 abbrev pub slotsGatewayless : List ℕ → Bool
-slotsGatewayless x = isTaken x 33 && not (isTaken x 34)
+slotsGatewayless x = isTaken x 50 N.Address && not (isTaken x 50 N.Gateway)
 
 abbrev pub slotsAddressless : List ℕ → Bool
-slotsAddressless x = (isTaken x 34 || (isTaken x 36 || isTaken x 35)) && not (isTaken x 33)
+slotsAddressless x = (isTaken x 50 N.Gateway || (isTaken x 50 N.Netmask || isTaken x 50 N.Broadcast)) && not (isTaken x 50 N.Address)
 
 -- ---- the rules
 

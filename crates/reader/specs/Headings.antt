@@ -1,25 +1,26 @@
 -- Headers by the table of places: whether a group was named, and what a header does.
 use Prim.Native.Nat.{ℕ}
-use mathlib.Core.Bool.{Bool, cond, _&&_}
+use mathlib.Core.Bool.{Bool, cond, not, _&&_}
 use mathlib.Core.List.{List}
 use mathlib.Core.Option.{Option, none, some}
 use lib.Dec.{eqb, leb}
+use Rattle.rules.specs.Faults.{serves}
 use Rattle.rules.specs.declared.Group.{Group}
 use Rattle.rules.specs.declared.Refusal.the-variants.{UnknownGroup, RepeatedGroup, ManyServices}
 use Rattle.reader.specs.History.{base}
 use Rattle.reader.specs.Holds.{among}
-use Rattle.reader.specs.Closing.{isTaken}
+use Rattle.reader.specs.Store.{slot}
 use Rattle.reader.specs.declared.Heading.{Heading}
 use Rattle.reader.specs.declared.Heading.the-variants.{Opens, Refused}
 
--- by its row: a service by the services' names, any other group by its header's slot
-abbrev pub slotsNamed : List ℕ → List ℕ → ℕ → List ℕ → ℕ → Bool
-slotsNamed file x n name b = cond (eqb b 80) (among file x n name) (isTaken x b)
+-- a service by the services' names, any other group by its header's slot
+abbrev pub slotsNamed : List ℕ → List ℕ → ℕ → List ℕ → Group → Bool
+slotsNamed file x n name g = cond (serves g) (among file x n name) (not (eqb (slot (base g 0) x .line) 0))
 
 abbrev pub slotsOpen : List ℕ → List ℕ → ℕ → List ℕ → Group → Heading
 slotsOpen file x n name g =
-    cond (slotsNamed file x n name (base g)) (Refused RepeatedGroup)
-    (cond (eqb (base g) 80 && leb 8 n) (Refused ManyServices) (Opens g))
+    cond (slotsNamed file x n name g) (Refused RepeatedGroup)
+    (cond (serves g && leb 8 n) (Refused ManyServices) (Opens g))
 
 abbrev pub slotsHeading : List ℕ → List ℕ → ℕ → List ℕ → Option Group → Heading
 slotsHeading file x n name none = Refused UnknownGroup

@@ -1,67 +1,71 @@
 -- What the pass must know of the groups before a line; they stand the latest first.
-use Prim.Native.Nat.{ℕ, zero, suc, _+_, _*_}
+use Prim.Native.Nat.{ℕ, zero, suc, _+_, _-_, _*_, _≤_, _<_}
 use mathlib.Core.Bool.{Bool, true, false, cond, _&&_}
 use mathlib.Core.List.{List, [], _∷_}
 use mathlib.Core.Option.{Option, none, some}
-use lib.Dec.{eqb}
+use lib.Dec.{eqb, leb}
+use Rattle.text.specs.declared.Dialect.{Dialect}
+use Rattle.text.specs.declared.Dialect.the-variants.{Iwd, ConnMan}
 use Rattle.text.specs.Options.{orElse}
 use Rattle.rules.specs.Faults.{Entry, Section, services, serves}
-use Rattle.rules.specs.Groups.{Fault, faultAt, serviceFault, sectionFault}
+use Rattle.rules.specs.Groups.{Fault, sectionFault}
 use Rattle.rules.specs.declared.Group.{Group}
 use Rattle.rules.specs.declared.Group.the-variants.{Settings, Security, Ipv4, Ipv6, Global, Service}
 use Rattle.reader.specs.Store.{Slot, emptySlot}
 use Rattle.reader.specs.declared.Current.{Current}
 use Rattle.reader.specs.declared.Current.the-variants.{Outside, In}
 
--- the row of a group in the table of places: sixteen slots from its base on, the first for its header, the others by the keys' places
-abbrev pub groupNumber : Group → ℕ
-groupNumber Settings = 0
-groupNumber Security = 1
-groupNumber Ipv4 = 2
-groupNumber Ipv6 = 3
-groupNumber Global = 4
-groupNumber Service = 5
+-- the row of a group in the table of places, n services counted: 25 slots from its base on, the first for its header, the others by the keys' places
+abbrev pub rowOf : Group → ℕ → ℕ
+rowOf Settings n = 0
+rowOf Security n = 1
+rowOf Ipv4 n = 2
+rowOf Ipv6 n = 3
+rowOf Global n = 4
+rowOf Service n = 4 + n
 
-abbrev pub base : Group → ℕ
-base g = 16 * groupNumber g
+-- where a row starts; the rows of the two dialects lie over each other, since a file has one
+abbrev pub baseAt : ℕ → ℕ
+baseAt r = cond (leb 4 r) (25 * (r - 4)) (25 * r)
 
-abbrev pub foundBase : ℕ
-foundBase = 96
+abbrev pub base : Group → ℕ → ℕ
+base g n = baseAt (rowOf g n)
+
+-- whether a row is of a dialect
+abbrev pub Own : Dialect → ℕ → Type 0
+Own Iwd r = r < 4
+Own ConnMan r = (4 ≤ r) × (r < 13)
 
 abbrev pub nameBase : ℕ
-nameBase = 112
+nameBase = 225
 
-abbrev pub sameGroup : Group → Group → Bool
-sameGroup g h = eqb (groupNumber g) (groupNumber h)
+unfoldable pub groupAt : ℕ → Group
+groupAt r = cond (eqb r 0) Settings (cond (eqb r 1) Security (cond (eqb r 2) Ipv4 (cond (eqb r 3) Ipv6 (cond (eqb r 4) Global Service))))
 
--- the group in force
+-- the row of a group that stands after others
+abbrev pub rowAfter : Section → List Section → ℕ
+rowAfter s gs = rowOf (s .group) (services (s ∷ gs))
+
+-- the group in force, and where its row starts
 abbrev pub currentOf : List Section → Current
 currentOf [] = Outside
-currentOf (s ∷ gs) = In (s .group)
+currentOf (s ∷ gs) = In (s .group) (baseAt (rowAfter s gs))
 
--- of a group the settings and the header of the latest that stands in the file
-abbrev pub latest : Group → List Section → List Entry
-latest g [] = []
-latest g (s ∷ gs) = cond (sameGroup g (s .group)) (s .entries) (latest g gs)
+-- the settings and the header of a row
+abbrev pub latest : ℕ → List Section → List Entry
+latest r [] = []
+latest r (s ∷ gs) = cond (eqb r (rowAfter s gs)) (s .entries) (latest r gs)
 
-abbrev pub headSlot : Group → List Section → Slot
-headSlot g [] = emptySlot
-headSlot g (s ∷ gs) = cond (sameGroup g (s .group)) (record { start = s .start; end = s .start; line = s .line }) (headSlot g gs)
+abbrev pub headSlot : ℕ → List Section → Slot
+headSlot r [] = emptySlot
+headSlot r (s ∷ gs) = cond (eqb r (rowAfter s gs)) (record { start = s .start; end = s .start; line = s .line; code = 0 }) (headSlot r gs)
 
--- the first fault of all services, and of all but the latest
+-- the first fault of all services
 abbrev pub allFault : List Section → Option Fault
 allFault [] = none
 allFault (s ∷ gs) = orElse (allFault gs) (sectionFault s)
 
-abbrev pub olderFault : List Section → Option Fault
-olderFault [] = none
-olderFault (s ∷ gs) = cond (serves (s .group)) (allFault gs) (olderFault gs)
-
--- the settings of service w, of all services and of all but the latest
+-- the settings of service w
 abbrev pub numbered : ℕ → List Section → List Entry
 numbered w [] = []
 numbered w (s ∷ gs) = cond (serves (s .group) && eqb w (suc (services gs))) (s .entries) (numbered w gs)
-
-abbrev pub olderNumbered : ℕ → List Section → List Entry
-olderNumbered w [] = []
-olderNumbered w (s ∷ gs) = cond (serves (s .group)) (numbered w gs) (olderNumbered w gs)

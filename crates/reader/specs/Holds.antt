@@ -1,42 +1,79 @@
 -- What the state and the table of places hold of the groups before a line.
-use Prim.Native.Nat.{ℕ, zero, suc, _+_, _≤_, _<_}
+use Prim.Native.Nat.{ℕ, zero, suc, _+_, _*_, _≤_, _<_}
 use mathlib.Core.Path.{_≡_}
-use mathlib.Core.Bool.{Bool, true, false, _||_}
+use mathlib.Core.Bool.{Bool, true, false, cond, _||_}
 use mathlib.Core.List.{List, [], _∷_}
 use mathlib.Core.Option.{Option, none, some}
 use lib.ListN.{length}
 use Rattle.text.specs.Parts.{part}
 use Rattle.text.specs.Words.{same, place}
 use Rattle.text.specs.declared.Dialect.{Dialect}
-use Rattle.rules.specs.Tables.{groupOf}
+use Rattle.kinds.specs.Typed as T
+use Rattle.kinds.specs.Typed.{Typed, judged, good}
+use Rattle.kinds.specs.declared.Kind.{Kind}
+use Rattle.rules.specs.Tables.{groupOf, kindOf}
 use Rattle.rules.specs.Lookups.{keyNames}
 use Rattle.rules.specs.Faults.{Entry, Section, nameGiven, services}
-use Rattle.rules.specs.Groups.{Fault, entryOf}
+use Rattle.rules.specs.Groups.{Fault, entryOf, wordNumber}
 use Rattle.rules.specs.Reading.{settings}
 use Rattle.rules.specs.declared.Group.{Group}
 use Rattle.rules.specs.declared.Group.the-variants.{Service}
 use Rattle.reader.specs.Store.{Slot, slot, emptySlot}
-use Rattle.reader.specs.History.{base, foundBase, nameBase, currentOf, latest, headSlot, olderFault, olderNumbered}
+use Rattle.reader.specs.History.{baseAt, Own, nameBase, groupAt, currentOf, latest, headSlot}
 use Rattle.reader.specs.declared.State.{State}
-use Rattle.reader.specs.declared.Pending.{Pending}
-use Rattle.reader.specs.declared.Pending.the-variants as P
 
--- a slot says where a setting's value stands
-pub record Stands (file : List ℕ) (s : Slot) (x : Entry) : Type 0 where
+-- ---- the code of a value: what it is, where it is a yes or no, a mask or a word
+
+abbrev pub flagCode : Bool → ℕ
+flagCode false = 1
+flagCode true = 2
+
+abbrev pub codeOf : Typed → ℕ
+codeOf (T.flag b) = flagCode b
+codeOf (T.maskLength n) = n
+codeOf (T.word w) = wordNumber w
+codeOf (T.address a) = 0
+codeOf (T.addresses l) = 0
+codeOf (T.entries l) = 0
+codeOf (T.ipv4 s) = 0
+codeOf (T.bytes b) = 0
+
+-- bytes are good, by their kind, and this is their code
+pub record Coded (d : Dialect) (k : Option Kind) (v : List ℕ) (c : ℕ) : Type 0 where
+  pub kind : Kind
+  pub of-kind : k ≡ some kind
+  pub typed : Typed
+  pub good : judged d kind v ≡ good typed
+  pub is : c ≡ codeOf typed
+
+-- a slot says where a setting's value stands, and what it is
+pub record Stands (d : Dialect) (k : Option Kind) (file : List ℕ) (s : Slot) (x : Entry) : Type 0 where
   pub low : s .start ≤ s .end
   pub high : s .end ≤ length file
   pub value : part (s .start) (s .end) file ≡ x .value
   pub start : s .start ≡ x .start
   pub line : s .line ≡ x .line
   pub some : 0 < s .line
+  pub code : Coded d k (x .value) (s .code)
 
-abbrev pub Kept : List ℕ → Slot → Option Entry → Type 0
-Kept file s none = s ≡ emptySlot
-Kept file s (some x) = Stands file s x
+abbrev pub Kept : Dialect → Option Kind → List ℕ → Slot → Option Entry → Type 0
+Kept d k file s none = s ≡ emptySlot
+Kept d k file s (some x) = Stands d k file s x
 
--- a row: of each key of the table t, by its place there, the setting among es
-pub record Row (file x : List ℕ) (b : ℕ) (t : List (List ℕ)) (es : List Entry) : Type 0 where
-  pub each : (k : List ℕ) → (place k t ≡ 0 → ⊥) → Kept file (slot (b + place k t) x) (entryOf k es)
+-- a row from b on: of each key of the group g, by its place there, the setting among es
+pub record Row (d : Dialect) (file x : List ℕ) (b : ℕ) (g : Group) (es : List Entry) : Type 0 where
+  pub each : (k : List ℕ) → (place k (keyNames g) ≡ 0 → ⊥) → Kept d (kindOf g k) file (slot (b + place k (keyNames g)) x) (entryOf k es)
+
+-- each group is the one that its name names, has a line, and was not named before
+abbrev pub WellNamed : Dialect → List Section → Type 0
+WellNamed d [] = Unit
+WellNamed d (s ∷ gs) = (groupOf d (s .name) ≡ some (s .group)) × (0 < s .line) × (nameGiven (s .name) gs ≡ false) × WellNamed d gs
+
+-- all rows
+pub record Rows (d : Dialect) (file x : List ℕ) (gs : List Section) : Type 0 where
+  pub few : services gs ≤ 8
+  pub well : WellNamed d gs
+  pub each : (r : ℕ) → Own d r → Row d file x (baseAt r) (groupAt r) (latest r gs)
 
 -- the names of the first n services: that they lie in the file, and whether w is one of them
 pub record Spans (file x : List ℕ) (n : ℕ) : Type 0 where
@@ -47,24 +84,16 @@ abbrev pub among : List ℕ → List ℕ → ℕ → List ℕ → Bool
 among file x zero w = false
 among file x (suc i) w = same w (part (slot (nameBase + i) x .start) (slot (nameBase + i) x .end) file) || among file x i w
 
--- each group is the one that its name names, has a line, and was not named before
-abbrev pub WellNamed : Dialect → List Section → Type 0
-WellNamed d [] = Unit
-WellNamed d (s ∷ gs) = (groupOf d (s .name) ≡ some (s .group)) × (0 < s .line) × (nameGiven (s .name) gs ≡ false) × WellNamed d gs
+-- where the settings and the header of each group stand
+pub record Table (d : Dialect) (file x : List ℕ) (gs : List Section) : Type 0 where
+  pub long : length x ≡ 976
+  pub rows : Rows d file x gs
+  pub heads : (r : ℕ) → Own d r → slot (baseAt r) x ≡ headSlot r gs
 
-abbrev pub pendingOf : Option Fault → Pending
-pendingOf none = P.Nothing
-pendingOf (some f) = P.At (f .refusal) (f .line)
-
-pub record Holds (d : Dialect) (file : List ℕ) (w : ℕ) (st : State) (x : List ℕ) (gs : List Section) : Type 0 where
-  pub long : length x ≡ 384
+pub record Holds (d : Dialect) (file : List ℕ) (st : State) (x : List ℕ) (gs : List Section) : Type 0 where
+  pub table : Table d file x gs
   pub current : st .current ≡ currentOf gs
   pub services : st .services ≡ services gs
   pub settings : st .settings ≡ settings gs
-  pub pending : st .pending ≡ pendingOf (olderFault gs)
-  pub rows : (g : Group) → Row file x (base g) (keyNames g) (latest g gs)
-  pub heads : (g : Group) → slot (base g) x ≡ headSlot g gs
   pub spans : Spans file x (st .services)
   pub names : (n : List ℕ) → groupOf d n ≡ some Service → among file x (st .services) n ≡ nameGiven n gs
-  pub found : Row file x foundBase (keyNames Service) (olderNumbered w gs)
-  pub well : WellNamed d gs

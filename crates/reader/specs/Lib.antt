@@ -1,4 +1,5 @@
 pub mod Store
+pub mod Keys
 pub mod History
 pub mod Holds
 pub mod Says

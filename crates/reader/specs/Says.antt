@@ -1,8 +1,9 @@
 -- What the code's answers on a line say of it, after groups gs for which the table of places holds.
-use Prim.Native.Nat.{ℕ, _+_, _<_}
+use Prim.Native.Nat.{ℕ, _+_, _≤_, _<_}
 use mathlib.Core.Path.{_≡_}
 use mathlib.Core.List.{List, [], _∷_}
 use mathlib.Core.Option.{none, some}
+use lib.ListN.{length}
 use Rattle.text.specs.Parts.{partAt}
 use Rattle.text.specs.Words.{place}
 use Rattle.text.specs.declared.Dialect.{Dialect}
@@ -12,13 +13,15 @@ use Rattle.kinds.specs.Typed.{judged}
 use Rattle.kinds.specs.Answers.{judgementAt}
 use Rattle.kinds.specs.declared.Kind.{Kind}
 use Rattle.kinds.specs.declared.Value.{Value}
+use Rattle.kinds.specs.declared.Value.the-variants as X
 use Rattle.kinds.specs.declared.Judgement.the-variants as J
 use Rattle.rules.specs.Tables.{kindOf}
 use Rattle.rules.specs.Lookups.{keyNames}
 use Rattle.rules.specs.Faults.{Section, fault, given}
+use Rattle.rules.specs.Groups.{wordNumber}
 use Rattle.rules.specs.declared.Group.{Group}
-use Rattle.reader.specs.History.{base, currentOf, latest}
-use Rattle.reader.specs.Holds.{Row}
+use Rattle.reader.specs.History.{currentOf}
+use Rattle.reader.specs.Holds.{Rows, flagCode}
 use Rattle.reader.specs.declared.Current.{Current}
 use Rattle.reader.specs.declared.Current.the-variants.{Outside, In}
 use Rattle.reader.specs.declared.Line.{Line}
@@ -27,9 +30,10 @@ use Rattle.reader.specs.declared.Line.the-variants.{Blank, Comment, Head
 -- a good setting: its slot is that of its key in the group in force, and v is what its kind reads at p from the bytes b
 pub record NewSetting (d : Dialect) (gs : List Section) (k b : List ℕ) (i : ℕ) (p : Place) (v : Value) : Type 0 where
   pub group : Group
-  pub in-force : currentOf gs ≡ In group
+  pub row : ℕ
+  pub in-force : currentOf gs ≡ In group row
   pub listed : place k (keyNames group) ≡ 0 → ⊥
-  pub is : i ≡ base group + place k (keyNames group)
+  pub is : i ≡ row + place k (keyNames group)
   pub kind : Kind
   pub of-kind : kindOf group k ≡ some kind
   pub reads : judgementAt p (judged d kind b) ≡ J.Good v
@@ -41,5 +45,17 @@ SettingIs d file gs key value (Header p) = ⊥
 SettingIs d file gs key value (Setting i p v) = (fault d gs (setting (partAt file key) (partAt file value)) ≡ none) × NewSetting d gs (partAt file key) (partAt file value) i value v × (p ≡ value)
 SettingIs d file gs key value (Refused r) = fault d gs (setting (partAt file key) (partAt file value)) ≡ some r
 
+-- the code of a value
+abbrev pub valueCode : Value → ℕ
+valueCode (X.Flag b) = flagCode b
+valueCode (X.Mask n) = n
+valueCode (X.Word w) = wordNumber w
+valueCode (X.Text p) = 0
+
+-- the row of the group in force lies in the table
+pub record CurrentRow (x : List ℕ) (c : Current) : Type 0 where
+  pub long : length x ≡ 976
+  pub row : (g : Group) (b : ℕ) → c ≡ In g b → b ≤ 200
+
 pub record SettingSays (d : Dialect) (file x : List ℕ) (c : Current) (key value : Place) (r : Line) : Type 0 where
-  pub says : (gs : List Section) → c ≡ currentOf gs → ((g : Group) → Row file x (base g) (keyNames g) (latest g gs)) → SettingIs d file gs key value r
+  pub says : (gs : List Section) → c ≡ currentOf gs → Rows d file x gs → SettingIs d file gs key value r

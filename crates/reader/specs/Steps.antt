@@ -8,16 +8,15 @@ use lib.ListN.{length}
 use Rattle.text.specs.Parts.{partAt, Inside}
 use Rattle.text.specs.declared.Dialect.{Dialect}
 use Rattle.text.specs.declared.Place.{Place}
-use Rattle.lines.specs.Lines.{blank, comment, header, setting, lineOf, valueStart}
+use Rattle.lines.specs.Lines.{blank, comment, setting, lineOf, valueStart}
 use Rattle.lines.specs.Lines as Lines
 use Rattle.kinds.specs.declared.Value.{Value}
 use Rattle.rules.specs.Lookups.{keyNames}
 use Rattle.rules.specs.Faults.{Section, serves, fault, after}
 use Rattle.rules.specs.declared.Group.{Group}
-use Rattle.reader.specs.Store.{stored, Began}
-use Rattle.reader.specs.History.{base, currentOf, latest}
-use Rattle.reader.specs.Holds.{Row, Holds, pendingOf}
-use Rattle.reader.specs.Closing.{slotsFault, orPending}
+use Rattle.reader.specs.Store.{Slot, stored}
+use Rattle.reader.specs.History.{base, nameBase, currentOf}
+use Rattle.reader.specs.Holds.{Rows, Holds}
 use Rattle.reader.specs.Says.{NewSetting}
 use Rattle.reader.specs.declared.Current.{Current}
 use Rattle.reader.specs.declared.Current.the-variants.{In}
@@ -41,29 +40,35 @@ pub record GoodSetting (d : Dialect) (file : List ℕ) (gs : List Section) (s : 
 abbrev pub LineIs : Dialect → List ℕ → List Section → ℕ → List ℕ → Line → Type 0
 LineIs d file gs s l Blank = lineOf d l ≡ blank
 LineIs d file gs s l Comment = lineOf d l ≡ comment
-LineIs d file gs s l (Header p) = (lineOf d l ≡ header (partAt file p)) × Inside (length file) p
+LineIs d file gs s l (Header p) = (lineOf d l ≡ Lines.header (partAt file p)) × Inside (length file) p
 LineIs d file gs s l (Setting i p v) = GoodSetting d file gs s l i p v
 LineIs d file gs s l (Refused r) = fault d gs (lineOf d l) ≡ some r
 
 pub record LineSays (d : Dialect) (file x : List ℕ) (c : Current) (s : ℕ) (l : List ℕ) (r : Line) : Type 0 where
-  pub says : (gs : List Section) → c ≡ currentOf gs → ((g : Group) → Row file x (base g) (keyNames g) (latest g gs)) → LineIs d file gs s l r
+  pub says : (gs : List Section) → c ≡ currentOf gs → Rows d file x gs → LineIs d file gs s l r
 
 -- ---- a good header, at s in the file, with its name at p, on line l
 
-pub record Opened (file : List ℕ) (w : ℕ) (st : State) (x : List ℕ) (g : Group) (s : ℕ) (p : Place) (l : ℕ) (r : State) (y : List ℕ) : Type 0 where
-  pub plain : serves g ≡ false → (y ≡ stored (base g) s s l x) × (r ≡ record { current = In g; services = st .services; settings = st .settings; pending = st .pending })
-  pub service : serves g ≡ true → Began w (st .services) (record { start = s; end = s; line = l }) (record { start = p .start; end = p .end; line = l }) x y × (r ≡ record { current = In g; services = st .services + 1; settings = st .settings; pending = orPending (st .pending) (pendingOf (slotsFault file x)) })
+abbrev pub header : ℕ → ℕ → Slot
+header s l = record { start = s; end = s; line = l; code = 0 }
+
+abbrev pub named : Place → ℕ → Slot
+named p l = record { start = p .start; end = p .end; line = l; code = 0 }
+
+pub record Opened (st : State) (x : List ℕ) (g : Group) (s : ℕ) (p : Place) (l : ℕ) (r : State) (y : List ℕ) : Type 0 where
+  pub plain : serves g ≡ false → (y ≡ stored (base g (st .services)) (header s l) x) × (r ≡ record { current = In g (base g (st .services)); services = st .services; settings = st .settings })
+  pub service : serves g ≡ true → (y ≡ stored (nameBase + st .services) (named p l) (stored (base g (st .services + 1)) (header s l) x)) × (r ≡ record { current = In g (base g (st .services + 1)); services = st .services + 1; settings = st .settings })
 
 -- ---- a line p, whose number is n, which starts at s and in which a value starts at v
 
 -- groups for which the state and the table hold
-pub record Known (d : Dialect) (file : List ℕ) (w : ℕ) (st : State) (x : List ℕ) : Type 0 where
+pub record Known (d : Dialect) (file : List ℕ) (st : State) (x : List ℕ) : Type 0 where
   pub groups : List Section
-  pub holds : Holds d file w st x groups
+  pub holds : Holds d file st x groups
 
-abbrev pub StepIs : Dialect → List ℕ → ℕ → List Section → ℕ → ℕ → ℕ → Lines.Line → List ℕ → Stepped → Type 0
-StepIs d file w gs n s v p y (Goes st) = (fault d gs p ≡ none) × Holds d file w st y (after d n s v p gs)
-StepIs d file w gs n s v p y (Stops r) = fault d gs p ≡ some r
+abbrev pub StepIs : Dialect → List ℕ → List Section → ℕ → ℕ → ℕ → Lines.Line → List ℕ → Stepped → Type 0
+StepIs d file gs n s v p y (Goes st) = (fault d gs p ≡ none) × Holds d file st y (after d n s v p gs)
+StepIs d file gs n s v p y (Stops r) = fault d gs p ≡ some r
 
-pub record Steps (d : Dialect) (file : List ℕ) (w : ℕ) (st : State) (x : List ℕ) (n s v : ℕ) (p : Lines.Line) (y : List ℕ) (r : Stepped) : Type 0 where
-  pub says : (gs : List Section) → Holds d file w st x gs → StepIs d file w gs n s v p y r
+pub record Steps (d : Dialect) (file : List ℕ) (st : State) (x : List ℕ) (n s v : ℕ) (p : Lines.Line) (y : List ℕ) (r : Stepped) : Type 0 where
+  pub says : (gs : List Section) → Holds d file st x gs → StepIs d file gs n s v p y r

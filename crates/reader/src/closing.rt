@@ -1,102 +1,105 @@
-// The rules over a service, asked when it is closed: by the next service or by the end of the file.
+// The rules over the services, asked at the end of the file, by their rows in the table of places.
 ghost use mathlib.Core.Path.{_≡_};
+ghost use Prim.Native.Nat.{_≤_};
 ghost use lib.ListN.{length};
-ghost use Rattle.reader.specs.Holds.{pendingOf};
-ghost use Rattle.reader.specs.Closing.{WordsIn, slotsUnnamed, slotsKeyless, slotsLack, slotsWireless, slotsClash, slotsRule, slotsFault, ruleAnswer, orPending};
+ghost use Rattle.reader.specs.Closing.{InTable, slotsUnnamed, slotsKeyless, slotsLack, slotsWireless, slotsClash, slotsRule, ruleAnswer, pendingOf, slotsFault};
+use crate::KeyName;
 use crate::Pending;
 use crate::Rule;
 use crate::services::both;
 use crate::services::either;
 use crate::services::is_word;
 use crate::services::taken;
-use crate::services::word_at;
 use crate::store::wide;
-use kinds::WordList;
+use kinds::Word;
 use rules::Refusal;
 
 // Whether a wireless service has neither a name nor an SSID.
-fn unnamed(file: &[u8], x: &[u16; 384]) -> bool
-    requires { ⌜ WordsIn (now file) (now x) ⌝ }
-    ensures { λ r. ⌜ r ≡ slotsUnnamed (now (file .entry)) (now (x .entry)) ⌝ }
+fn unnamed(x: &[u16; 976], row: usize) -> bool
+    requires { ⌜ InTable (now x) row ⌝ }
+    ensures { λ r. ⌜ r ≡ slotsUnnamed (now (x .entry)) row ⌝ }
 {
-    let wifi = is_word(word_at(file, x, 81, WordList::ServiceType), 1);
-    both(wifi, !either(taken(x, 90), taken(x, 91)))
+    let wifi = is_word(x, row, KeyName::Type, Word::Wifi);
+    both(
+        wifi,
+        !either(taken(x, row, KeyName::Name), taken(x, row, KeyName::Ssid)),
+    )
 }
 
-// Whether the latest service needs a passphrase and has none.
-fn keyless(file: &[u8], x: &[u16; 384]) -> bool
-    requires { ⌜ WordsIn (now file) (now x) ⌝ }
-    ensures { λ r. ⌜ r ≡ slotsKeyless (now (file .entry)) (now (x .entry)) ⌝ }
+// Whether a service needs a passphrase and has none.
+fn keyless(x: &[u16; 976], row: usize) -> bool
+    requires { ⌜ InTable (now x) row ⌝ }
+    ensures { λ r. ⌜ r ≡ slotsKeyless (now (x .entry)) row ⌝ }
 {
-    let psk = is_word(word_at(file, x, 93, WordList::Security), 8);
-    both(psk, !taken(x, 92))
+    let psk = is_word(x, row, KeyName::Security, Word::Psk);
+    both(psk, !taken(x, row, KeyName::Passphrase))
 }
 
-// Whether something needed is missing in the latest service.
-fn lacks(file: &[u8], x: &[u16; 384]) -> bool
-    requires { ⌜ WordsIn (now file) (now x) ⌝ }
-    ensures { λ r. ⌜ r ≡ slotsLack (now (file .entry)) (now (x .entry)) ⌝ }
+// Whether something needed is missing in a service.
+fn lacks(x: &[u16; 976], row: usize) -> bool
+    requires { ⌜ InTable (now x) row ⌝ }
+    ensures { λ r. ⌜ r ≡ slotsLack (now (x .entry)) row ⌝ }
 {
-    either(!taken(x, 81), either(unnamed(file, x), keyless(file, x)))
+    either(
+        !taken(x, row, KeyName::Type),
+        either(unnamed(x, row), keyless(x, row)),
+    )
 }
 
-// Whether the latest service holds anything that only a wireless one may.
-fn is_wireless(x: &[u16; 384]) -> bool
-    requires { ⌜ length (now x) ≡ 384 ⌝ }
-    ensures { λ r. ⌜ r ≡ slotsWireless (now (x .entry)) ⌝ }
+// Whether a service holds anything that only a wireless one may.
+fn is_wireless(x: &[u16; 976], row: usize) -> bool
+    requires { ⌜ InTable (now x) row ⌝ }
+    ensures { λ r. ⌜ r ≡ slotsWireless (now (x .entry)) row ⌝ }
 {
-    let secured = either(taken(x, 92), either(taken(x, 93), taken(x, 94)));
-    either(taken(x, 90), either(taken(x, 91), secured))
+    let hidden = either(
+        taken(x, row, KeyName::Security),
+        taken(x, row, KeyName::Hidden),
+    );
+    let secured = either(taken(x, row, KeyName::Passphrase), hidden);
+    either(
+        taken(x, row, KeyName::Name),
+        either(taken(x, row, KeyName::Ssid), secured),
+    )
 }
 
-// Whether the settings of the latest service contradict each other.
-fn clashes(file: &[u8], x: &[u16; 384]) -> bool
-    requires { ⌜ WordsIn (now file) (now x) ⌝ }
-    ensures { λ r. ⌜ r ≡ slotsClash (now (file .entry)) (now (x .entry)) ⌝ }
+// Whether the settings of a service contradict each other.
+fn clashes(x: &[u16; 976], row: usize) -> bool
+    requires { ⌜ InTable (now x) row ⌝ }
+    ensures { λ r. ⌜ r ≡ slotsClash (now (x .entry)) row ⌝ }
 {
-    let ethernet = is_word(word_at(file, x, 81, WordList::ServiceType), 2);
-    let unsecured = is_word(word_at(file, x, 93, WordList::Security), 10);
-    let wired = both(ethernet, is_wireless(x));
-    either(wired, both(unsecured, taken(x, 92)))
+    let ethernet = is_word(x, row, KeyName::Type, Word::Ethernet);
+    let unsecured = is_word(x, row, KeyName::Security, Word::None);
+    let wired = both(ethernet, is_wireless(x, row));
+    either(wired, both(unsecured, taken(x, row, KeyName::Passphrase)))
 }
 
-// The rules over the latest service: what is missing before what contradicts.
-fn service_rule(file: &[u8], x: &[u16; 384]) -> Rule
-    requires { ⌜ WordsIn (now file) (now x) ⌝ }
-    ensures { λ r. ⌜ r ≡ ruleAnswer (slotsRule (now (file .entry)) (now (x .entry))) ⌝ }
+// The rules over a service: what is missing before what contradicts.
+fn service_rule(x: &[u16; 976], row: usize) -> Rule
+    requires { ⌜ InTable (now x) row ⌝ }
+    ensures { λ r. ⌜ r ≡ ruleAnswer (slotsRule (now (x .entry)) row) ⌝ }
 {
-    if lacks(file, x) {
+    if lacks(x, row) {
         return Rule::Broken(Refusal::Missing);
     }
-    if clashes(file, x) {
+    if clashes(x, row) {
         return Rule::Broken(Refusal::Contradiction);
     }
     Rule::Obeyed
 }
 
-// The fault of the latest service, if there is one.
-fn latest_fault(file: &[u8], x: &[u16; 384]) -> Pending
-    requires { ⌜ WordsIn (now file) (now x) ⌝ }
-    ensures { λ r. ⌜ r ≡ pendingOf (slotsFault (now (file .entry)) (now (x .entry))) ⌝ }
+// The first fault of the first n services.
+pub fn services_fault(x: &[u16; 976], n: usize) -> Pending
+    requires { ⌜ (length (now x) ≡ 976) × (n ≤ 8) ⌝ }
+    ensures { λ r. ⌜ r ≡ pendingOf (slotsFault (now (x .entry)) n) ⌝ }
 {
-    let line = wide(x[336]);
-    if line == 0 {
-        return Pending::Nothing;
+    let mut i = 0;
+    while i < n {
+        let row = 25 + 25 * i;
+        let rule = service_rule(x, row);
+        if let Rule::Broken(refusal) = rule {
+            return Pending::At(refusal, wide(x[488 + row]));
+        }
+        i += 1;
     }
-    let rule = service_rule(file, x);
-    match rule {
-        Rule::Obeyed => Pending::Nothing,
-        Rule::Broken(refusal) => Pending::At(refusal, line),
-    }
-}
-
-// The first fault of the services, the latest included.
-pub fn closed(file: &[u8], x: &[u16; 384], pending: Pending) -> Pending
-    requires { ⌜ WordsIn (now file) (now x) ⌝ }
-    ensures { λ r. ⌜ r ≡ orPending pending (pendingOf (slotsFault (now (file .entry)) (now (x .entry)))) ⌝ }
-{
-    match pending {
-        Pending::Nothing => latest_fault(file, x),
-        Pending::At(refusal, line) => Pending::At(refusal, line),
-    }
+    Pending::Nothing
 }

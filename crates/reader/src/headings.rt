@@ -3,41 +3,53 @@ ghost use mathlib.Core.Path.{_≡_};
 ghost use Prim.Native.Nat.{_<_};
 ghost use lib.ListN.{length};
 ghost use Rattle.rules.specs.Tables.{groupOf};
+ghost use Rattle.rules.specs.Faults.{serves};
 ghost use Rattle.reader.specs.Holds.{Spans};
 ghost use Rattle.reader.specs.Headings.{slotsNamed, slotsOpen, slotsHeading};
 use crate::Heading;
 use crate::judging::base_of;
 use crate::services::service_named;
-use crate::services::taken;
 use rules::Group;
 use rules::Named;
 use rules::Refusal;
 use text::Dialect;
 
-// Whether a group was named before.
-fn was_named(file: &[u8], x: &[u16; 384], services: usize, name: &[u8], base: usize) -> bool
-    requires long { ⌜ length (now x) ≡ 384 ⌝ }
-    requires spans { ⌜ Spans (now file) (now x) services ⌝ }
-    requires row { ⌜ base < 128 ⌝ }
-    ensures { λ r. ⌜ r ≡ slotsNamed (now (file .entry)) (now (x .entry)) services (now (name .entry)) base ⌝ }
+pub fn is_service(g: Group) -> bool
+    ensures { λ r. ⌜ r ≡ serves g ⌝ }
 {
-    if base == 80 {
+    match g {
+        Group::Settings => false,
+        Group::Security => false,
+        Group::Ipv4 => false,
+        Group::Ipv6 => false,
+        Group::Global => false,
+        Group::Service => true,
+    }
+}
+
+// Whether a group was named before.
+fn was_named(file: &[u8], x: &[u16; 976], services: usize, name: &[u8], g: Group) -> bool
+    requires long { ⌜ length (now x) ≡ 976 ⌝ }
+    requires spans { ⌜ Spans (now file) (now x) services ⌝ }
+    ensures { λ r. ⌜ r ≡ slotsNamed (now (file .entry)) (now (x .entry)) services (now (name .entry)) g ⌝ }
+{
+    if is_service(g) {
         return service_named(file, x, services, name);
     }
-    taken(x, base)
+    let row = base_of(g, 0);
+    x[488 + row] != 0
 }
 
 // What a header of a listed group does.
-fn open_group(file: &[u8], x: &[u16; 384], services: usize, name: &[u8], g: Group) -> Heading
-    requires long { ⌜ length (now x) ≡ 384 ⌝ }
+fn open_group(file: &[u8], x: &[u16; 976], services: usize, name: &[u8], g: Group) -> Heading
+    requires long { ⌜ length (now x) ≡ 976 ⌝ }
     requires spans { ⌜ Spans (now file) (now x) services ⌝ }
     ensures { λ r. ⌜ r ≡ slotsOpen (now (file .entry)) (now (x .entry)) services (now (name .entry)) g ⌝ }
 {
-    let base = base_of(g);
-    if was_named(file, x, services, name, base) {
+    if was_named(file, x, services, name, g) {
         return Heading::Refused(Refusal::RepeatedGroup);
     }
-    if base == 80 {
+    if is_service(g) {
         if 8 <= services {
             return Heading::Refused(Refusal::ManyServices);
         }
@@ -46,8 +58,8 @@ fn open_group(file: &[u8], x: &[u16; 384], services: usize, name: &[u8], g: Grou
 }
 
 // What a header does, by its name.
-pub fn heading(d: Dialect, file: &[u8], x: &[u16; 384], services: usize, name: &[u8]) -> Heading
-    requires long { ⌜ length (now x) ≡ 384 ⌝ }
+pub fn heading(d: Dialect, file: &[u8], x: &[u16; 976], services: usize, name: &[u8]) -> Heading
+    requires long { ⌜ length (now x) ≡ 976 ⌝ }
     requires spans { ⌜ Spans (now file) (now x) services ⌝ }
     ensures { λ r. ⌜ r ≡ slotsHeading (now (file .entry)) (now (x .entry)) services (now (name .entry)) (groupOf d (now (name .entry))) ⌝ }
 {

@@ -4,7 +4,7 @@ ghost use Prim.Native.Nat.{_+_, _≤_};
 ghost use lib.ListN.{length};
 ghost use Rattle.text.specs.Parts.{Inside, part};
 ghost use Rattle.reader.specs.History.{base};
-ghost use Rattle.reader.specs.Says.{SettingSays};
+ghost use Rattle.reader.specs.Says.{CurrentRow, SettingSays};
 ghost use Rattle.reader.specs.Steps.{LineSays};
 ghost use Rattle.rules.specs.Faults.{breakOf};
 use crate::Current;
@@ -18,17 +18,18 @@ use rules::Refusal;
 use text::Dialect;
 use text::Place;
 
-// The first slot of a group's row in the table of places.
-pub fn base_of(g: Group) -> usize
-    ensures { λ r. ⌜ r ≡ base g ⌝ }
+// The first slot of a group's row in the table of places, n services counted.
+pub fn base_of(g: Group, n: usize) -> usize
+    requires { ⌜ n ≤ 8 ⌝ }
+    ensures { λ r. ⌜ r ≡ base g n ⌝ }
 {
     match g {
         Group::Settings => 0,
-        Group::Security => 16,
-        Group::Ipv4 => 32,
-        Group::Ipv6 => 48,
-        Group::Global => 64,
-        Group::Service => 80,
+        Group::Security => 25,
+        Group::Ipv4 => 50,
+        Group::Ipv6 => 75,
+        Group::Global => 0,
+        Group::Service => 25 * n,
     }
 }
 
@@ -36,17 +37,17 @@ pub fn base_of(g: Group) -> usize
 pub fn setting_line(
     d: Dialect,
     file: &[u8],
-    x: &[u16; 384],
+    x: &[u16; 976],
     current: Current,
     key: Place,
     value: Place,
 ) -> Line
     requires keyIn { ⌜ Inside (length (now file)) key ⌝ }
     requires valueIn { ⌜ Inside (length (now file)) value ⌝ }
-    requires long { ⌜ length (now x) ≡ 384 ⌝ }
+    requires rows { ⌜ CurrentRow (now x) current ⌝ }
     ensures { λ r. ⌜ SettingSays d (now (file .entry)) (now (x .entry)) current key value r ⌝ }
 {
-    let Current::In(g) = current else {
+    let Current::In(g, row) = current else {
         return Line::Refused(Refusal::NoGroup);
     };
     let start = key.start;
@@ -55,8 +56,8 @@ pub fn setting_line(
     let Listed::Key(n, kind) = listed else {
         return Line::Refused(Refusal::UnknownKey);
     };
-    let i = base_of(g) + n;
-    if x[256 + i] != 0 {
+    let i = row + n;
+    if x[488 + i] != 0 {
         return Line::Refused(Refusal::RepeatedKey);
     }
     let judgement = kinds::judging::judge(d, kind, file, value);
@@ -93,14 +94,14 @@ fn refusal_of(b: Break) -> Refusal
 pub fn line_at(
     d: Dialect,
     file: &[u8],
-    x: &[u16; 384],
+    x: &[u16; 976],
     current: Current,
     start: usize,
     end: usize,
 ) -> Line
     requires low { ⌜ start ≤ end ⌝ }
     requires within { ⌜ end ≤ length (now file) ⌝ }
-    requires long { ⌜ length (now x) ≡ 384 ⌝ }
+    requires rows { ⌜ CurrentRow (now x) current ⌝ }
     ensures { λ r. ⌜ LineSays d (now (file .entry)) (now (x .entry)) current start (part start end (now (file .entry))) r ⌝ }
 {
     let form = lines::form_of(d, &file[start..end]);

@@ -1,12 +1,13 @@
 // One pass over a file of either dialect.
 //
-// What the lines before left behind is a few scalars (`State`) and a lent table of places (`store`): a row for each group,
-// by the keys' places in it, a row for the service that is asked for, and the places of the services' names.
+// What the lines before left behind is a few scalars (`State`) and a lent table of places (`store`): a row for each group and
+// each service, by the keys' places in it (`keys`), and the places of the services' names.
 pub mod closing;
 pub mod ending;
 pub mod file_rules;
 pub mod headings;
 pub mod judging;
+pub mod keys;
 pub mod opening;
 pub mod services;
 pub mod steps;
@@ -18,13 +19,47 @@ use rules::Group;
 use rules::Refusal;
 use text::Place;
 
-// The group in force.
-pub enum Current {
-    Outside,
-    In(Group),
+// The keys that document 01 lists, by group.
+pub enum KeyName {
+    AutoConnect,
+    IwdHidden,
+    AlwaysRandomizeAddress,
+    AddressOverride,
+    IwdPassphrase,
+    PreSharedKey,
+    Address,
+    Gateway,
+    Broadcast,
+    Netmask,
+    Dns,
+    DomainName,
+    SendHostname,
+    Enabled,
+    GlobalName,
+    Description,
+    Type,
+    Ipv4,
+    Ipv6,
+    Privacy,
+    Mac,
+    Nameservers,
+    SearchDomains,
+    Timeservers,
+    Domain,
+    Name,
+    Ssid,
+    Passphrase,
+    Security,
+    Hidden,
 }
 
-// The first fault of groups as a whole, if any: while lines are read, of the services before the latest.
+// The group in force, and where its row starts.
+pub enum Current {
+    Outside,
+    In(Group, usize),
+}
+
+// The first fault of groups as a whole, if any.
 pub enum Pending {
     Nothing,
     At(Refusal, usize),
@@ -35,7 +70,6 @@ pub struct State {
     pub current: Current,
     pub services: usize,
     pub settings: usize,
-    pub pending: Pending,
 }
 
 // What a line is after those before it: passed over, a header by its name, a setting by its slot in the table of places,

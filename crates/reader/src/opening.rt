@@ -1,63 +1,52 @@
 // A header's line: the group that it opens is stored with what is known after it, or the line is refused.
 ghost use mathlib.Core.Path.{_≡_};
 ghost use mathlib.Core.Bool.{false, _&&_};
-ghost use Prim.Native.Nat.{_<_};
-ghost use lib.Dec.{eqb, leb};
+ghost use Prim.Native.Nat.{_≤_, _<_};
+ghost use lib.Dec.{leb};
 ghost use lib.ListN.{length};
 ghost use Rattle.text.specs.Parts.{Inside, partAt};
 ghost use Rattle.lines.specs.Lines.{header};
-ghost use Rattle.reader.specs.History.{base};
-ghost use Rattle.reader.specs.Closing.{WordsIn};
+ghost use Rattle.rules.specs.Faults.{serves};
 ghost use Rattle.reader.specs.Store.{Fits};
 ghost use Rattle.reader.specs.Steps.{Opened, Known, Steps};
 use crate::Current;
 use crate::Heading;
 use crate::State;
 use crate::Stepped;
-use crate::closing::closed;
 use crate::headings::heading;
+use crate::headings::is_service;
 use crate::judging::base_of;
-use crate::store::begin_service;
 use crate::store::put_slot;
 use rules::Group;
 use text::Dialect;
 use text::Place;
 
-// Stores a good header, and returns what is known after it. A service closes the one before.
-fn opened(
-    file: &[u8],
-    x: &mut [u16; 384],
-    wanted: usize,
-    st: State,
-    g: Group,
-    start: usize,
-    name: Place,
-    line: usize,
-) -> State
-    requires words { ⌜ WordsIn (now file) (now x) ⌝ }
-    requires room { ⌜ (eqb (base g) 80 && leb 8 (st .services)) ≡ false ⌝ }
+// Stores a good header, and returns what is known after it. Of a service the place of its name is stored too.
+fn opened(x: &mut [u16; 976], st: State, g: Group, start: usize, name: Place, line: usize) -> State
+    requires long { ⌜ length (now x) ≡ 976 ⌝ }
+    requires few { ⌜ st .services ≤ 8 ⌝ }
+    requires room { ⌜ (serves g && leb 8 (st .services)) ≡ false ⌝ }
     requires header { ⌜ Fits start start line ⌝ }
     requires named { ⌜ Fits (name .start) (name .end) line ⌝ }
-    ensures { λ r. ⌜ Opened (now (file .entry)) wanted st (now (x .entry)) g start name line r (now (x .exit)) ⌝ }
+    ensures { λ r. ⌜ Opened st (now (x .entry)) g start name line r (now (x .exit)) ⌝ }
 {
-    let row = base_of(g);
-    let before = st.pending;
-    if row == 80 {
-        let pending = closed(file, x, before);
-        begin_service(x, wanted, st.services, start, name, line);
+    let n = st.services;
+    if is_service(g) {
+        let row = base_of(g, n + 1);
+        put_slot(x, row, start, start, line, 0);
+        put_slot(x, 225 + n, name.start, name.end, line, 0);
         return State {
-            current: Current::In(g),
-            services: st.services + 1,
+            current: Current::In(g, row),
+            services: n + 1,
             settings: st.settings,
-            pending,
         };
     }
-    put_slot(x, row, start, start, line);
+    let row = base_of(g, n);
+    put_slot(x, row, start, start, line, 0);
     State {
-        current: Current::In(g),
-        services: st.services,
+        current: Current::In(g, row),
+        services: n,
         settings: st.settings,
-        pending: before,
     }
 }
 
@@ -65,25 +54,24 @@ fn opened(
 pub fn header_step(
     d: Dialect,
     file: &[u8],
-    x: &mut [u16; 384],
-    wanted: usize,
+    x: &mut [u16; 976],
     st: State,
     start: usize,
     name: Place,
     line: usize,
 ) -> Stepped
-    requires known { ⌜ Known d (now file) wanted st (now x) ⌝ }
+    requires known { ⌜ Known d (now file) st (now x) ⌝ }
     requires inside { ⌜ Inside (length (now file)) name ⌝ }
     requires counted { ⌜ 0 < line ⌝ }
     requires header { ⌜ Fits start start line ⌝ }
     requires named { ⌜ Fits (name .start) (name .end) line ⌝ }
-    ensures { λ r. ⌜ Steps d (now (file .entry)) wanted st (now (x .entry)) line start 0 (header (partAt (now (file .entry)) name)) (now (x .exit)) r ⌝ }
+    ensures { λ r. ⌜ Steps d (now (file .entry)) st (now (x .entry)) line start 0 (header (partAt (now (file .entry)) name)) (now (x .exit)) r ⌝ }
 {
     let a = name.start;
     let e = name.end;
     let h = heading(d, file, x, st.services, &file[a..e]);
     match h {
-        Heading::Opens(g) => Stepped::Goes(opened(file, x, wanted, st, g, start, name, line)),
+        Heading::Opens(g) => Stepped::Goes(opened(x, st, g, start, name, line)),
         Heading::Refused(r) => Stepped::Stops(r),
     }
 }

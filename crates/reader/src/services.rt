@@ -1,28 +1,26 @@
-// Services: whether a name was given before, and the rules over a service that is closed.
+// Services: whether a name was given before, and what a row of the table of places says of a key.
 ghost use mathlib.Core.Path.{_≡_};
-ghost use mathlib.Core.Bool.{_||_, _&&_, not};
-ghost use Prim.Native.Nat.{_≤_, _<_};
+ghost use mathlib.Core.Bool.{_||_, _&&_};
 ghost use lib.ListN.{length};
-ghost use lib.Dec.{eqb};
 ghost use Rattle.rules.specs.Groups.{wordNumber};
-ghost use Rattle.reader.specs.Store.{slot};
 ghost use Rattle.reader.specs.Holds.{Spans, among};
-ghost use Rattle.reader.specs.Closing.{numberIs, slotWord, SlotIn};
+ghost use Rattle.reader.specs.Closing.{InTable, KeyIn, keySlot, bytesOf, isTaken, slotIs};
+use crate::KeyName;
+use crate::keys::place_of;
 use crate::store::value_at;
-use kinds::NamedWord;
+use crate::store::wide;
 use kinds::Word;
-use kinds::WordList;
 
 // Whether a name is that of one of the first n services.
-pub fn service_named(file: &[u8], x: &[u16; 384], n: usize, name: &[u8]) -> bool
-    requires long { ⌜ length (now x) ≡ 384 ⌝ }
+pub fn service_named(file: &[u8], x: &[u16; 976], n: usize, name: &[u8]) -> bool
+    requires long { ⌜ length (now x) ≡ 976 ⌝ }
     requires spans { ⌜ Spans (now file) (now x) n ⌝ }
     ensures { λ r. ⌜ r ≡ among (now (file .entry)) (now (x .entry)) n (now (name .entry)) ⌝ }
 {
     let mut i = n;
     while 0 < i {
         let j = i - 1;
-        if text::words::equal(name, value_at(file, x, 112 + j)) {
+        if text::words::equal(name, value_at(file, x, 225 + j)) {
             return true;
         }
         i = j;
@@ -30,7 +28,7 @@ pub fn service_named(file: &[u8], x: &[u16; 384], n: usize, name: &[u8]) -> bool
     false
 }
 
-fn word_number(w: Word) -> u8
+pub fn word_number(w: Word) -> u16
     ensures { λ r. ⌜ r ≡ wordNumber w ⌝ }
 {
     match w {
@@ -48,16 +46,6 @@ fn word_number(w: Word) -> u8
     }
 }
 
-// Whether a setting is given and is the word with this number.
-pub fn is_word(n: NamedWord, k: u8) -> bool
-    ensures { λ r. ⌜ r ≡ numberIs k n ⌝ }
-{
-    match n {
-        NamedWord::Is(w) => word_number(w) == k,
-        NamedWord::Broken => false,
-    }
-}
-
 pub fn either(a: bool, b: bool) -> bool
     ensures { λ r. ⌜ r ≡ (a || b) ⌝ }
 {
@@ -70,21 +58,56 @@ pub fn both(a: bool, b: bool) -> bool
     a && b
 }
 
-// Whether a key is given, by its slot.
-pub fn taken(x: &[u16; 384], i: usize) -> bool
-    requires { ⌜ (length (now x) ≡ 384) × (i < 128) ⌝ }
-    ensures { λ r. ⌜ r ≡ not (eqb (slot i (now (x .entry)) .line) 0) ⌝ }
+// Whether a key is given, in the row that starts at a slot.
+pub fn taken(x: &[u16; 976], row: usize, k: KeyName) -> bool
+    requires { ⌜ InTable (now x) row ⌝ }
+    ensures { λ r. ⌜ r ≡ isTaken (now (x .entry)) row k ⌝ }
 {
-    x[256 + i] != 0
+    let i = row + place_of(k);
+    x[488 + i] != 0
 }
 
-// The word that stands at a slot.
-pub fn word_at(file: &[u8], x: &[u16; 384], i: usize, list: WordList) -> NamedWord
-    requires { ⌜ SlotIn (now file) (now x) i ⌝ }
-    ensures { λ r. ⌜ r ≡ slotWord (now (file .entry)) list (slot i (now (x .entry))) ⌝ }
+// Whether a key is given and is a word.
+pub fn is_word(x: &[u16; 976], row: usize, k: KeyName, w: Word) -> bool
+    requires { ⌜ InTable (now x) row ⌝ }
+    ensures { λ r. ⌜ r ≡ slotIs (now (x .entry)) row k w ⌝ }
 {
-    if x[256 + i] == 0 {
-        return NamedWord::Broken;
-    }
-    kinds::words::read_word(list, value_at(file, x, i))
+    let i = row + place_of(k);
+    x[732 + i] == word_number(w)
+}
+
+// The value of a key, a part of the file; empty where it is not given.
+pub fn value_of<'a, 'b>(file: &'a [u8], x: &'b [u16; 976], row: usize, k: KeyName) -> &'a [u8]
+    requires { ⌜ KeyIn (now file) (now x) row k ⌝ }
+    ensures { λ r. ⌜ now r ≡ bytesOf (now (file .entry)) (now (x .entry)) row k ⌝ }
+{
+    let i = row + place_of(k);
+    value_at(file, x, i)
+}
+
+// The line of a key, 0 where it is not given.
+pub fn line_of(x: &[u16; 976], row: usize, k: KeyName) -> usize
+    requires { ⌜ InTable (now x) row ⌝ }
+    ensures { λ r. ⌜ r ≡ keySlot (now (x .entry)) row k .line ⌝ }
+{
+    let i = row + place_of(k);
+    wide(x[488 + i])
+}
+
+// The code of a key's value, 0 where it is not given.
+pub fn code_of(x: &[u16; 976], row: usize, k: KeyName) -> u16
+    requires { ⌜ InTable (now x) row ⌝ }
+    ensures { λ r. ⌜ r ≡ keySlot (now (x .entry)) row k .code ⌝ }
+{
+    let i = row + place_of(k);
+    x[732 + i]
+}
+
+// Where the value of a key starts, 0 where it is not given.
+pub fn start_of(x: &[u16; 976], row: usize, k: KeyName) -> usize
+    requires { ⌜ InTable (now x) row ⌝ }
+    ensures { λ r. ⌜ r ≡ keySlot (now (x .entry)) row k .start ⌝ }
+{
+    let i = row + place_of(k);
+    wide(x[i])
 }

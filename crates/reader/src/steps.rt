@@ -1,39 +1,64 @@
 // The step over one line.
+ghost use mathlib.Core.Path.{_≡_};
 ghost use Prim.Native.Nat.{_≤_, _<_};
 ghost use lib.ListN.{length};
 ghost use Rattle.text.specs.Parts.{part};
 ghost use Rattle.lines.specs.Lines.{lineOf, valueStart};
+ghost use Rattle.reader.specs.Holds.{flagCode};
+ghost use Rattle.reader.specs.Says.{valueCode};
 ghost use Rattle.reader.specs.Steps.{Known, Steps};
 use crate::Line;
 use crate::State;
 use crate::Stepped;
 use crate::judging::line_at;
 use crate::opening::header_step;
+use crate::services::word_number;
 use crate::store::put_slot;
+use kinds::Value;
 use text::Dialect;
+
+// The code under which the table of places keeps what a value is.
+fn code_of(v: Value) -> u16
+    ensures { λ r. ⌜ r ≡ valueCode v ⌝ }
+{
+    match v {
+        Value::Flag(b) => flag_code(b),
+        Value::Mask(n) => n as u16,
+        Value::Word(w) => word_number(w),
+        Value::Text(p) => 0,
+    }
+}
+
+fn flag_code(b: bool) -> u16
+    ensures { λ r. ⌜ r ≡ flagCode b ⌝ }
+{
+    if b {
+        return 2;
+    }
+    1
+}
 
 // The step over the line from start to end: blank and comment lines are passed over, a setting's place is stored.
 pub fn step(
     d: Dialect,
     file: &[u8],
-    x: &mut [u16; 384],
-    wanted: usize,
+    x: &mut [u16; 976],
     st: State,
     start: usize,
     end: usize,
     line: usize,
 ) -> Stepped
-    requires known { ⌜ Known d (now file) wanted st (now x) ⌝ }
+    requires known { ⌜ Known d (now file) st (now x) ⌝ }
     requires low { ⌜ start ≤ end ⌝ }
     requires within { ⌜ end ≤ length (now file) ⌝ }
     requires counted { ⌜ st .settings < line ⌝ }
     requires small { ⌜ (length (now file) ≤ 16384) × (line ≤ 16384) ⌝ }
-    ensures { λ r. ⌜ Steps d (now (file .entry)) wanted st (now (x .entry)) line start (valueStart d (part start end (now (file .entry)))) (lineOf d (part start end (now (file .entry)))) (now (x .exit)) r ⌝ }
+    ensures { λ r. ⌜ Steps d (now (file .entry)) st (now (x .entry)) line start (valueStart d (part start end (now (file .entry)))) (lineOf d (part start end (now (file .entry)))) (now (x .exit)) r ⌝ }
 {
     let current = st.current;
     let l = line_at(d, file, x, current, start, end);
     if let Line::Header(name) = l {
-        return header_step(d, file, x, wanted, st, start, name, line);
+        return header_step(d, file, x, st, start, name, line);
     }
     if let Line::Refused(r) = l {
         return Stepped::Stops(r);
@@ -41,7 +66,7 @@ pub fn step(
     let Line::Setting(i, value, v) = l else {
         return Stepped::Goes(st);
     };
-    put_slot(x, i, value.start, value.end, line);
+    put_slot(x, i, value.start, value.end, line, code_of(v));
     let mut next = st;
     next.settings = st.settings + 1;
     Stepped::Goes(next)

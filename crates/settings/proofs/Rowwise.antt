@@ -1,13 +1,14 @@
 -- What a row keeps, read by kind: one law for each function over a row.
 use Prim.Native.Nat.{ℕ, suc, _+_, _≤_, _<_}
 use native.Mathlib.Omega.{arith}
+use native.Mathlib.Nat.{le-refl}
 use mathlib.Core.Path.{_≡_, refl, ap, ap₂, sym, _∙_}
-use mathlib.Core.Bool.{Bool}
+use mathlib.Core.Bool.{Bool, true, false}
 use mathlib.Core.List.{List, []}
-use mathlib.Core.Option.{Option, none}
+use mathlib.Core.Option.{Option, none, some}
 use lib.ListN.{length}
 use Rattle.text.specs.Options.{plain}
-use Rattle.text.specs.Words.{word, place}
+use Rattle.text.specs.Words.{word}
 use Rattle.text.specs.declared.Dialect.{Dialect}
 use Rattle.text.specs.declared.Dialect.the-variants.{Iwd, ConnMan}
 use Rattle.addresses.specs.Addresses.{address, number, value, netmask, addresses, addressAnswer}
@@ -16,6 +17,9 @@ use Rattle.addresses.specs.declared.Separator.{Separator}
 use Rattle.addresses.specs.declared.Separator.the-variants.{Spaces, Comma}
 use Rattle.kinds.specs.Kinds.{flag, wordOf, ipv4, entries, mac, key, ssid}
 use Rattle.kinds.specs.Answers.{ipv4Answer, entriesAnswer, macAnswer, keyAnswer, ssidAnswer}
+use Rattle.kinds.specs.declared.Kind.the-variants.{Flag, Named}
+use Rattle.kinds.specs.declared.Word.{Word}
+use Rattle.kinds.specs.declared.Word.the-variants.{Wifi, Ethernet, Off, Auto, Disabled, Enabled, Preferred, Psk, Ieee8021x, None, Wep}
 use Rattle.kinds.specs.declared.WordList.{WordList}
 use Rattle.kinds.specs.declared.WordList.the-variants as L
 use Rattle.kinds.specs.declared.Entries.{Entries}
@@ -24,36 +28,26 @@ use Rattle.kinds.specs.declared.Key.{Key}
 use Rattle.kinds.specs.declared.Mac.{Mac}
 use Rattle.kinds.specs.declared.Ssid.{Ssid}
 use Rattle.rules.specs.Tables.{keysOf}
-use Rattle.rules.specs.Lookups.{keyNames}
 use Rattle.rules.specs.Faults.{Entry}
-use Rattle.rules.specs.Groups.{entryOf}
+use Rattle.rules.specs.Groups.{entryOf, wordNumber}
 use Rattle.rules.specs.Asking.{readAs, lineIn, startIn}
 use Rattle.rules.specs.declared.Group.{Group}
 use Rattle.rules.specs.declared.Group.the-variants as G
-use Rattle.reader.specs.Store.{slot}
-use Rattle.reader.specs.Holds.{Row}
-use Rattle.reader.specs.Closing.{SlotIn}
-use Rattle.reader.proofs.ClosingFault.{kept-in}
+use Rattle.reader.specs.Store.{Slot}
+use Rattle.reader.specs.Keys.{groupOf, wordOf as nameOf, kindOf}
+use Rattle.reader.specs.Holds.{flagCode, Kept, Row}
+use Rattle.reader.specs.Closing.{InTable, keySlot, bytesOf, KeyIn}
+use Rattle.reader.specs.declared.KeyName.{KeyName}
+use Rattle.reader.specs.declared.KeyName.the-variants as N
+use Rattle.reader.proofs.RowRule.{row-key, coded-word, coded-flag}
 use Rattle.reader.proofs.Values.{kept-read, kept-line, kept-start}
-use Rattle.settings.specs.Values.{choice, chosen, lengthOr0, bytesAt}
+use Rattle.settings.specs.Values.{choice, chosen, choiceBy, chosenBy, lengthOr0}
 use Rattle.settings.specs.Settings.{generalOf, securityOf, ipv4Of, networkSettingsOf, addressSettingsOf}
 use Rattle.settings.specs.Rows.{RowOf, Typed}
 use Rattle.settings.specs.declared.Choice.{Choice}
 use Rattle.settings.specs.declared.Chosen.{Chosen}
 
 -- ---- no kind reads a value from no bytes
-
-pub flag-none : (d : Dialect) → flag d [] ≡ none
-unfolding flag
-flag-none Iwd = refl
-flag-none ConnMan = refl
-
-pub word-none : (l : WordList) → wordOf l [] ≡ none
-unfolding wordOf
-word-none L.ServiceType = refl
-word-none L.Ipv6Method = refl
-word-none L.Privacy = refl
-word-none L.Security = refl
 
 pub address-none : address [] ≡ none
 unfolding address number value
@@ -88,85 +82,119 @@ pub ssid-none : ssid [] ≡ none
 unfolding ssid
 ssid-none = refl
 
--- ---- a slot of a row
+-- ---- a key of a row
 
-pub slot-in : {file x : List ℕ} {b : ℕ} {g : Group} → RowOf file x b g → (k : List ℕ) (n : ℕ) → place k (keyNames g) ≡ suc n → b + suc n < 128 → SlotIn file x (b + suc n)
-slot-in {file} {x} {b} h k n e l = kept-in file x (b + suc n) (entryOf k (h .settings)) (h .long) l (rw (← e) (h .row .each k (λ z. omega (arith, z, e))))
+pub key-in : {d : Dialect} {file x : List ℕ} {b : ℕ} (k : KeyName) → RowOf d file x b (groupOf k) → KeyIn file x b k
+key-in {d} {file} {x} {b} k h = go (entryOf (nameOf k) (h .settings)) (row-key k (h .row))
+  where
+    go : (o : Option Entry) → Kept d (some (kindOf k)) file (keySlot x b k) o → KeyIn file x b k
+    go none q = record { table = h .table; low = rw (ap (λ (s : Slot). s .start) q, ap (λ (s : Slot). s .end) q) (le-refl 0); high = rw (ap (λ (s : Slot). s .end) q) (omega arith) }
+    go (some e) q = record { table = h .table; low = q .low; high = q .high }
 
-module _ {file x : List ℕ} {b : ℕ} (g : Group) {es : List Entry} (h : Row file x b (keyNames g) es) (k : List ℕ) (n : ℕ) (e : place k (keyNames g) ≡ suc n) where
-  pub row-read : {A : Type 0} (f : List ℕ → Option A) → f [] ≡ none → f (bytesAt file (slot (b + suc n) x)) ≡ readAs f (entryOf k es)
-  row-read f q = rw (← e) (kept-read file (slot (b + place k (keyNames g)) x) f q (entryOf k es) (h .each k (λ z. omega (arith, z, e))))
+module _ {d : Dialect} {file x : List ℕ} {b : ℕ} (k : KeyName) {es : List Entry} (h : Row d file x b (groupOf k) es) where
+  pub row-read : {A : Type 0} (f : List ℕ → Option A) → f [] ≡ none → f (bytesOf file x b k) ≡ readAs f (entryOf (nameOf k) es)
+  row-read f q = kept-read d (some (kindOf k)) file (keySlot x b k) f q (entryOf (nameOf k) es) (row-key k h)
 
-  pub row-line : slot (b + suc n) x .line ≡ lineIn (entryOf k es)
-  row-line = rw (← e) (kept-line file (slot (b + place k (keyNames g)) x) (entryOf k es) (h .each k (λ z. omega (arith, z, e))))
+  pub row-line : keySlot x b k .line ≡ lineIn (entryOf (nameOf k) es)
+  row-line = kept-line d (some (kindOf k)) file (keySlot x b k) (entryOf (nameOf k) es) (row-key k h)
 
-  pub row-start : slot (b + suc n) x .start ≡ startIn (entryOf k es)
-  row-start = rw (← e) (kept-start file (slot (b + place k (keyNames g)) x) (entryOf k es) (h .each k (λ z. omega (arith, z, e))))
+  pub row-start : keySlot x b k .start ≡ startIn (entryOf (nameOf k) es)
+  row-start = kept-start d (some (kindOf k)) file (keySlot x b k) (entryOf (nameOf k) es) (row-key k h)
+
+-- ---- a yes/no and a word by their codes
+
+word-back : (u : Word) → chosenBy (wordNumber u) ≡ chosen (some u)
+unfolding chosenBy
+word-back Wifi = refl
+word-back Ethernet = refl
+word-back Off = refl
+word-back Auto = refl
+word-back Disabled = refl
+word-back Enabled = refl
+word-back Preferred = refl
+word-back Psk = refl
+word-back Ieee8021x = refl
+word-back None = refl
+word-back Wep = refl
+
+flag-back : (b : Bool) → choiceBy (flagCode b) ≡ choice (some b)
+flag-back false = refl
+flag-back true = refl
+
+pub word-by : (d : Dialect) (l : WordList) (file : List ℕ) (s : Slot) (o : Option Entry) → Kept d (some (Named l)) file s o → chosenBy (s .code) ≡ chosen (readAs (wordOf l) o)
+unfolding chosenBy
+word-by d l file s none q = rw (ap (λ (t : Slot). t .code) q)
+word-by d l file s (some e) h = let w = coded-word d l (e .value) (h .code) in ap chosenBy (w .code) ∙ word-back (w .word) ∙ sym (ap chosen (w .is))
+
+pub flag-by : (d : Dialect) (file : List ℕ) (s : Slot) (o : Option Entry) → Kept d (some Flag) file s o → choiceBy (s .code) ≡ choice (readAs (flag d) o)
+flag-by d file s none q = rw (ap (λ (t : Slot). t .code) q)
+flag-by d file s (some e) h = let w = coded-flag d (e .value) (h .code) in ap choiceBy (w .code) ∙ flag-back (w .yes) ∙ sym (ap choice (w .is))
 
 -- ---- the functions
 
 module _ {file x : List ℕ} where
-  pub general-typed : {a b c : Choice} {m : Mac} → a ≡ choice (flag Iwd (bytesAt file (slot 1 x))) → b ≡ choice (flag Iwd (bytesAt file (slot 2 x))) → c ≡ choice (flag Iwd (bytesAt file (slot 3 x))) → m ≡ macAnswer (mac (bytesAt file (slot 4 x))) → Typed file x 0 G.Settings generalOf (record { «auto_connect» = a; hidden = b; «always_randomize_address» = c; «address_override» = m })
+  pub general-typed : {a b c : Choice} {m : Mac} → a ≡ choiceBy (keySlot x 0 N.AutoConnect .code) → b ≡ choiceBy (keySlot x 0 N.IwdHidden .code) → c ≡ choiceBy (keySlot x 0 N.AlwaysRandomizeAddress .code) → m ≡ macAnswer (mac (bytesOf file x 0 N.AddressOverride)) → Typed Iwd file x 0 G.Settings generalOf (record { «auto_connect» = a; hidden = b; «always_randomize_address» = c; «address_override» = m })
   unfolding keysOf
   general-typed p q r s =
       record {
         is = λ es h.
             rw (
-              p ∙ ap choice (row-read G.Settings h (word "AutoConnect") 0 refl (flag Iwd) (flag-none Iwd)),
-              q ∙ ap choice (row-read G.Settings h (word "Hidden") 1 refl (flag Iwd) (flag-none Iwd)),
-              r ∙ ap choice (row-read G.Settings h (word "AlwaysRandomizeAddress") 2 refl (flag Iwd) (flag-none Iwd)),
-              s ∙ ap macAnswer (row-read G.Settings h (word "AddressOverride") 3 refl mac mac-none),
+              p ∙ flag-by Iwd file (keySlot x 0 N.AutoConnect) (entryOf (word "AutoConnect") es) (row-key N.AutoConnect h),
+              q ∙ flag-by Iwd file (keySlot x 0 N.IwdHidden) (entryOf (word "Hidden") es) (row-key N.IwdHidden h),
+              r ∙ flag-by Iwd file (keySlot x 0 N.AlwaysRandomizeAddress) (entryOf (word "AlwaysRandomizeAddress") es) (row-key N.AlwaysRandomizeAddress h),
+              s ∙ ap macAnswer (row-read N.AddressOverride h mac mac-none),
             );
       }
 
-  pub security-typed : {l : ℕ} {k : Key} → l ≡ slot 17 x .line → k ≡ keyAnswer (key (bytesAt file (slot 18 x))) → Typed file x 16 G.Security securityOf (record { passphrase = l; «pre_shared_key» = k })
+  pub security-typed : {l : ℕ} {k : Key} → l ≡ keySlot x 25 N.IwdPassphrase .line → k ≡ keyAnswer (key (bytesOf file x 25 N.PreSharedKey)) → Typed Iwd file x 25 G.Security securityOf (record { passphrase = l; «pre_shared_key» = k })
   unfolding keysOf
-  security-typed p q = record { is = λ es h. rw (p ∙ row-line G.Security h (word "Passphrase") 0 refl, q ∙ ap keyAnswer (row-read G.Security h (word "PreSharedKey") 1 refl key key-none)) }
+  security-typed p q = record { is = λ es h. rw (p ∙ row-line N.IwdPassphrase h, q ∙ ap keyAnswer (row-read N.PreSharedKey h key key-none)) }
 
-  pub ipv4-typed : {a b c : Address} {m n l : ℕ} {s : Choice} → a ≡ addressAnswer (address (bytesAt file (slot 33 x))) → b ≡ addressAnswer (address (bytesAt file (slot 34 x))) → c ≡ addressAnswer (address (bytesAt file (slot 35 x))) → m ≡ lengthOr0 (netmask (bytesAt file (slot 36 x))) → n ≡ length (plain (addresses Spaces (bytesAt file (slot 37 x)))) → l ≡ slot 38 x .line → s ≡ choice (flag Iwd (bytesAt file (slot 39 x))) → Typed file x 32 G.Ipv4 ipv4Of (record { address = a; gateway = b; broadcast = c; netmask = m; dns = n; «domain_name» = l; «send_hostname» = s })
+  pub ipv4-typed : {a b c : Address} {m n l : ℕ} {s : Choice} → a ≡ addressAnswer (address (bytesOf file x 50 N.Address)) → b ≡ addressAnswer (address (bytesOf file x 50 N.Gateway)) → c ≡ addressAnswer (address (bytesOf file x 50 N.Broadcast)) → m ≡ lengthOr0 (netmask (bytesOf file x 50 N.Netmask)) → n ≡ length (plain (addresses Spaces (bytesOf file x 50 N.Dns))) → l ≡ keySlot x 50 N.DomainName .line → s ≡ choiceBy (keySlot x 50 N.SendHostname .code) → Typed Iwd file x 50 G.Ipv4 ipv4Of (record { address = a; gateway = b; broadcast = c; netmask = m; dns = n; «domain_name» = l; «send_hostname» = s })
   unfolding keysOf
   ipv4-typed p q r s t u v =
       record {
         is = λ es h.
             rw (
-              p ∙ ap addressAnswer (row-read G.Ipv4 h (word "Address") 0 refl address address-none),
-              q ∙ ap addressAnswer (row-read G.Ipv4 h (word "Gateway") 1 refl address address-none),
-              r ∙ ap addressAnswer (row-read G.Ipv4 h (word "Broadcast") 2 refl address address-none),
-              s ∙ ap lengthOr0 (row-read G.Ipv4 h (word "Netmask") 3 refl netmask netmask-none),
-              t ∙ ap (λ (o : Option (List (List ℕ))). length (plain o)) (row-read G.Ipv4 h (word "DNS") 4 refl (addresses Spaces) (addresses-none Spaces)),
-              u ∙ row-line G.Ipv4 h (word "DomainName") 5 refl,
-              v ∙ ap choice (row-read G.Ipv4 h (word "SendHostname") 6 refl (flag Iwd) (flag-none Iwd)),
+              p ∙ ap addressAnswer (row-read N.Address h address address-none),
+              q ∙ ap addressAnswer (row-read N.Gateway h address address-none),
+              r ∙ ap addressAnswer (row-read N.Broadcast h address address-none),
+              s ∙ ap lengthOr0 (row-read N.Netmask h netmask netmask-none),
+              t ∙ ap (λ (o : Option (List (List ℕ))). length (plain o)) (row-read N.Dns h (addresses Spaces) (addresses-none Spaces)),
+              u ∙ row-line N.DomainName h,
+              v ∙ flag-by Iwd file (keySlot x 50 N.SendHostname) (entryOf (word "SendHostname") es) (row-key N.SendHostname h),
             );
       }
 
-  pub network-typed : {t : Chosen} {n : ℕ} {s : Ssid} {p : ℕ} {c : Chosen} {d : Choice} → t ≡ chosen (wordOf L.ServiceType (bytesAt file (slot 97 x))) → n ≡ slot 106 x .line → s ≡ ssidAnswer (ssid (bytesAt file (slot 107 x))) → p ≡ slot 108 x .line → c ≡ chosen (wordOf L.Security (bytesAt file (slot 109 x))) → d ≡ choice (flag ConnMan (bytesAt file (slot 110 x))) → Typed file x 96 G.Service networkSettingsOf (record { «service_type» = t; name = n; ssid = s; passphrase = p; security = c; hidden = d })
+module _ {file x : List ℕ} {b : ℕ} where
+  pub network-typed : {t : Chosen} {n : ℕ} {s : Ssid} {p : ℕ} {c : Chosen} {d : Choice} → t ≡ chosenBy (keySlot x b N.Type .code) → n ≡ keySlot x b N.Name .line → s ≡ ssidAnswer (ssid (bytesOf file x b N.Ssid)) → p ≡ keySlot x b N.Passphrase .line → c ≡ chosenBy (keySlot x b N.Security .code) → d ≡ choiceBy (keySlot x b N.Hidden .code) → Typed ConnMan file x b G.Service networkSettingsOf (record { «service_type» = t; name = n; ssid = s; passphrase = p; security = c; hidden = d })
   unfolding keysOf
   network-typed p q r s t u =
       record {
         is = λ es h.
             rw (
-              p ∙ ap chosen (row-read G.Service h (word "Type") 0 refl (wordOf L.ServiceType) (word-none L.ServiceType)),
-              q ∙ row-line G.Service h (word "Name") 9 refl,
-              r ∙ ap ssidAnswer (row-read G.Service h (word "SSID") 10 refl ssid ssid-none),
-              s ∙ row-line G.Service h (word "Passphrase") 11 refl,
-              t ∙ ap chosen (row-read G.Service h (word "Security") 12 refl (wordOf L.Security) (word-none L.Security)),
-              u ∙ ap choice (row-read G.Service h (word "Hidden") 13 refl (flag ConnMan) (flag-none ConnMan)),
+              p ∙ word-by ConnMan L.ServiceType file (keySlot x b N.Type) (entryOf (word "Type") es) (row-key N.Type h),
+              q ∙ row-line N.Name h,
+              r ∙ ap ssidAnswer (row-read N.Ssid h ssid ssid-none),
+              s ∙ row-line N.Passphrase h,
+              t ∙ word-by ConnMan L.Security file (keySlot x b N.Security) (entryOf (word "Security") es) (row-key N.Security h),
+              u ∙ flag-by ConnMan file (keySlot x b N.Hidden) (entryOf (word "Hidden") es) (row-key N.Hidden h),
             );
       }
 
-  pub address-typed : {a : Ipv4} {b c : Chosen} {m : Mac} {n : ℕ} {s t : Entries} {l : ℕ} → a ≡ ipv4Answer (ipv4 (bytesAt file (slot 98 x))) → b ≡ chosen (wordOf L.Ipv6Method (bytesAt file (slot 99 x))) → c ≡ chosen (wordOf L.Privacy (bytesAt file (slot 100 x))) → m ≡ macAnswer (mac (bytesAt file (slot 101 x))) → n ≡ length (plain (addresses Comma (bytesAt file (slot 102 x)))) → s ≡ entriesAnswer (slot 103 x .start) (entries (bytesAt file (slot 103 x))) → t ≡ entriesAnswer (slot 104 x .start) (entries (bytesAt file (slot 104 x))) → l ≡ slot 105 x .line → Typed file x 96 G.Service addressSettingsOf (record { ipv4 = a; ipv6 = b; privacy = c; mac = m; nameservers = n; «search_domains» = s; timeservers = t; domain = l })
+  pub address-typed : {a : Ipv4} {c e : Chosen} {m : Mac} {n : ℕ} {s t : Entries} {l : ℕ} → a ≡ ipv4Answer (ipv4 (bytesOf file x b N.Ipv4)) → c ≡ chosenBy (keySlot x b N.Ipv6 .code) → e ≡ chosenBy (keySlot x b N.Privacy .code) → m ≡ macAnswer (mac (bytesOf file x b N.Mac)) → n ≡ length (plain (addresses Comma (bytesOf file x b N.Nameservers))) → s ≡ entriesAnswer (keySlot x b N.SearchDomains .start) (entries (bytesOf file x b N.SearchDomains)) → t ≡ entriesAnswer (keySlot x b N.Timeservers .start) (entries (bytesOf file x b N.Timeservers)) → l ≡ keySlot x b N.Domain .line → Typed ConnMan file x b G.Service addressSettingsOf (record { ipv4 = a; ipv6 = c; privacy = e; mac = m; nameservers = n; «search_domains» = s; timeservers = t; domain = l })
   unfolding keysOf
   address-typed p q r s t u v w =
       record {
         is = λ es h.
             rw (
-              p ∙ ap ipv4Answer (row-read G.Service h (word "IPv4") 1 refl ipv4 ipv4-none),
-              q ∙ ap chosen (row-read G.Service h (word "IPv6") 2 refl (wordOf L.Ipv6Method) (word-none L.Ipv6Method)),
-              r ∙ ap chosen (row-read G.Service h (word "IPv6.Privacy") 3 refl (wordOf L.Privacy) (word-none L.Privacy)),
-              s ∙ ap macAnswer (row-read G.Service h (word "MAC") 4 refl mac mac-none),
-              t ∙ ap (λ (o : Option (List (List ℕ))). length (plain o)) (row-read G.Service h (word "Nameservers") 5 refl (addresses Comma) (addresses-none Comma)),
-              u ∙ ap₂ entriesAnswer (row-start G.Service h (word "SearchDomains") 6 refl) (row-read G.Service h (word "SearchDomains") 6 refl entries entries-none),
-              v ∙ ap₂ entriesAnswer (row-start G.Service h (word "Timeservers") 7 refl) (row-read G.Service h (word "Timeservers") 7 refl entries entries-none),
-              w ∙ row-line G.Service h (word "Domain") 8 refl,
+              p ∙ ap ipv4Answer (row-read N.Ipv4 h ipv4 ipv4-none),
+              q ∙ word-by ConnMan L.Ipv6Method file (keySlot x b N.Ipv6) (entryOf (word "IPv6") es) (row-key N.Ipv6 h),
+              r ∙ word-by ConnMan L.Privacy file (keySlot x b N.Privacy) (entryOf (word "IPv6.Privacy") es) (row-key N.Privacy h),
+              s ∙ ap macAnswer (row-read N.Mac h mac mac-none),
+              t ∙ ap (λ (o : Option (List (List ℕ))). length (plain o)) (row-read N.Nameservers h (addresses Comma) (addresses-none Comma)),
+              u ∙ ap₂ entriesAnswer (row-start N.SearchDomains h) (row-read N.SearchDomains h entries entries-none),
+              v ∙ ap₂ entriesAnswer (row-start N.Timeservers h) (row-read N.Timeservers h entries entries-none),
+              w ∙ row-line N.Domain h,
             );
       }

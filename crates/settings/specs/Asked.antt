@@ -6,7 +6,6 @@ use mathlib.Core.Option.{none}
 use lib.ListN.{length}
 use Rattle.text.specs.Words.{word}
 use Rattle.text.specs.declared.Dialect.the-variants.{Iwd, ConnMan}
-use Rattle.rules.specs.Lookups.{keyNames}
 use Rattle.rules.specs.Faults.{Entry, Section}
 use Rattle.rules.specs.Groups.{entryOf, entriesIn}
 use Rattle.rules.specs.Reading.{sectionsOf, reading}
@@ -39,13 +38,13 @@ iwdServersAfter name file old = iwdServersOf (asked (reading Iwd name file)) (se
 
 -- the rows of iwd's four groups keep the settings es, by the groups' names
 pub record FourRows (file x : List ℕ) (es : List ℕ → List Entry) : Type 0 where
-  pub general : Row file x 0 (keyNames G.Settings) (es (word "Settings"))
-  pub security : Row file x 16 (keyNames G.Security) (es (word "Security"))
-  pub ipv4 : Row file x 32 (keyNames G.Ipv4) (es (word "IPv4"))
-  pub ipv6 : Row file x 48 (keyNames G.Ipv6) (es (word "IPv6"))
+  pub general : Row Iwd file x 0 G.Settings (es (word "Settings"))
+  pub security : Row Iwd file x 25 G.Security (es (word "Security"))
+  pub ipv4 : Row Iwd file x 50 G.Ipv4 (es (word "IPv4"))
+  pub ipv6 : Row Iwd file x 75 G.Ipv6 (es (word "IPv6"))
 
 pub record IwdRows (file x : List ℕ) : Type 0 where
-  pub long : length x ≡ 384
+  pub long : length x ≡ 976
   pub settings : List ℕ → List Entry
   pub rows : FourRows file x settings
 

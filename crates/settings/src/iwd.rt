@@ -6,12 +6,13 @@ use crate::IwdSettings;
 use crate::rows;
 use crate::values;
 use addresses::Separator;
+use reader::KeyName;
 use rules::Answer;
 use rules::Reading;
 use text::Dialect;
 
 // The settings of an iwd file, by the rows of its four groups.
-fn iwd_rows(file: &[u8], x: &[u16; 384]) -> IwdSettings
+fn iwd_rows(file: &[u8], x: &[u16; 976]) -> IwdSettings
     requires { ⌜ IwdRows (now file) (now x) ⌝ }
     ensures { λ r. ⌜ IwdTyped (now (file .entry)) (now (x .entry)) r ⌝ }
 {
@@ -19,7 +20,7 @@ fn iwd_rows(file: &[u8], x: &[u16; 384]) -> IwdSettings
         general: rows::general_settings(file, x),
         security: rows::security_settings(file, x),
         ipv4: rows::ipv4_settings(file, x),
-        enabled: values::choice_at(Dialect::Iwd, file, x, 49),
+        enabled: values::choice_at(x, 75, KeyName::Enabled),
     }
 }
 
@@ -36,18 +37,21 @@ pub fn iwd_settings(name: &[u8], file: &[u8], servers: &mut [[u8; 4]; 4]) -> Iwd
     ensures { λ r. ⌜ r ≡ iwdAnswered (now (name .entry)) (now (file .entry)) ⌝ }
     ensures { λ r. ⌜ now (servers .exit) ≡ iwdServersAfter (now (name .entry)) (now (file .entry)) (now (servers .entry)) ⌝ }
 {
-    let mut x = [0; 384];
-    let reading = pass::read(Dialect::Iwd, name, file, &mut x, 0);
+    let mut x = [0; 976];
+    let reading = pass::read(Dialect::Iwd, name, file, &mut x);
     match reading {
         Reading::Accepted(settings, services) => {
-            store(servers, values::servers_at(Separator::Spaces, file, &x, 37));
+            store(
+                servers,
+                values::servers_at(Separator::Spaces, file, &x, 50, KeyName::Dns),
+            );
             IwdAnswer {
                 answer: Answer::Good,
                 settings: iwd_rows(file, &x),
             }
         }
         Reading::Refused(refusal, line) => {
-            let none = [0; 384];
+            let none = [0; 976];
             IwdAnswer {
                 answer: Answer::Refused(refusal, line),
                 settings: iwd_rows(file, &none),

@@ -9,75 +9,83 @@ use crate::NetworkSettings;
 use crate::SecuritySettings;
 use crate::values;
 use addresses::Separator;
-use kinds::WordList;
+use reader::KeyName;
+use reader::services::line_of;
 use rules::Group;
 use text::Dialect;
 
-pub fn general_settings(file: &[u8], x: &[u16; 384]) -> GeneralSettings
-    requires { ⌜ RowOf (now file) (now x) 0 Group.Settings ⌝ }
-    ensures { λ r. ⌜ Typed (now (file .entry)) (now (x .entry)) 0 Group.Settings generalOf r ⌝ }
+// Where the rows of iwd's groups start.
+const SETTINGS: usize = 0;
+
+const SECURITY: usize = 25;
+
+const IPV4: usize = 50;
+
+pub fn general_settings(file: &[u8], x: &[u16; 976]) -> GeneralSettings
+    requires { ⌜ RowOf Dialect.Iwd (now file) (now x) 0 Group.Settings ⌝ }
+    ensures { λ r. ⌜ Typed Dialect.Iwd (now (file .entry)) (now (x .entry)) 0 Group.Settings generalOf r ⌝ }
 {
     GeneralSettings {
-        auto_connect: values::choice_at(Dialect::Iwd, file, x, 1),
-        hidden: values::choice_at(Dialect::Iwd, file, x, 2),
-        always_randomize_address: values::choice_at(Dialect::Iwd, file, x, 3),
-        address_override: values::mac_at(file, x, 4),
+        auto_connect: values::choice_at(x, SETTINGS, KeyName::AutoConnect),
+        hidden: values::choice_at(x, SETTINGS, KeyName::IwdHidden),
+        always_randomize_address: values::choice_at(x, SETTINGS, KeyName::AlwaysRandomizeAddress),
+        address_override: values::mac_at(file, x, SETTINGS, KeyName::AddressOverride),
     }
 }
 
-pub fn security_settings(file: &[u8], x: &[u16; 384]) -> SecuritySettings
-    requires { ⌜ RowOf (now file) (now x) 16 Group.Security ⌝ }
-    ensures { λ r. ⌜ Typed (now (file .entry)) (now (x .entry)) 16 Group.Security securityOf r ⌝ }
+pub fn security_settings(file: &[u8], x: &[u16; 976]) -> SecuritySettings
+    requires { ⌜ RowOf Dialect.Iwd (now file) (now x) 25 Group.Security ⌝ }
+    ensures { λ r. ⌜ Typed Dialect.Iwd (now (file .entry)) (now (x .entry)) 25 Group.Security securityOf r ⌝ }
 {
     SecuritySettings {
-        passphrase: values::line_at(x, 17),
-        pre_shared_key: values::key_at(file, x, 18),
+        passphrase: line_of(x, SECURITY, KeyName::IwdPassphrase),
+        pre_shared_key: values::key_at(file, x, SECURITY, KeyName::PreSharedKey),
     }
 }
 
-pub fn ipv4_settings(file: &[u8], x: &[u16; 384]) -> Ipv4Settings
-    requires { ⌜ RowOf (now file) (now x) 32 Group.Ipv4 ⌝ }
-    ensures { λ r. ⌜ Typed (now (file .entry)) (now (x .entry)) 32 Group.Ipv4 ipv4Of r ⌝ }
+pub fn ipv4_settings(file: &[u8], x: &[u16; 976]) -> Ipv4Settings
+    requires { ⌜ RowOf Dialect.Iwd (now file) (now x) 50 Group.Ipv4 ⌝ }
+    ensures { λ r. ⌜ Typed Dialect.Iwd (now (file .entry)) (now (x .entry)) 50 Group.Ipv4 ipv4Of r ⌝ }
 {
     Ipv4Settings {
-        address: values::address_at(file, x, 33),
-        gateway: values::address_at(file, x, 34),
-        broadcast: values::address_at(file, x, 35),
-        netmask: values::netmask_at(file, x, 36),
-        dns: values::count_at(Separator::Spaces, file, x, 37),
-        domain_name: values::line_at(x, 38),
-        send_hostname: values::choice_at(Dialect::Iwd, file, x, 39),
+        address: values::address_at(file, x, IPV4, KeyName::Address),
+        gateway: values::address_at(file, x, IPV4, KeyName::Gateway),
+        broadcast: values::address_at(file, x, IPV4, KeyName::Broadcast),
+        netmask: values::netmask_at(file, x, IPV4, KeyName::Netmask),
+        dns: values::count_at(Separator::Spaces, file, x, IPV4, KeyName::Dns),
+        domain_name: line_of(x, IPV4, KeyName::DomainName),
+        send_hostname: values::choice_at(x, IPV4, KeyName::SendHostname),
     }
 }
 
-// Of the service asked for: which network it joins, and how.
-pub fn network_settings(file: &[u8], x: &[u16; 384]) -> NetworkSettings
-    requires { ⌜ RowOf (now file) (now x) 96 Group.Service ⌝ }
-    ensures { λ r. ⌜ Typed (now (file .entry)) (now (x .entry)) 96 Group.Service networkSettingsOf r ⌝ }
+// Of a service, by its row: which network it joins, and how.
+pub fn network_settings(file: &[u8], x: &[u16; 976], row: usize) -> NetworkSettings
+    requires { ⌜ RowOf Dialect.ConnMan (now file) (now x) row Group.Service ⌝ }
+    ensures { λ r. ⌜ Typed Dialect.ConnMan (now (file .entry)) (now (x .entry)) row Group.Service networkSettingsOf r ⌝ }
 {
     NetworkSettings {
-        service_type: values::chosen_at(WordList::ServiceType, file, x, 97),
-        name: values::line_at(x, 106),
-        ssid: values::ssid_at(file, x, 107),
-        passphrase: values::line_at(x, 108),
-        security: values::chosen_at(WordList::Security, file, x, 109),
-        hidden: values::choice_at(Dialect::ConnMan, file, x, 110),
+        service_type: values::chosen_at(x, row, KeyName::Type),
+        name: line_of(x, row, KeyName::Name),
+        ssid: values::ssid_at(file, x, row, KeyName::Ssid),
+        passphrase: line_of(x, row, KeyName::Passphrase),
+        security: values::chosen_at(x, row, KeyName::Security),
+        hidden: values::choice_at(x, row, KeyName::Hidden),
     }
 }
 
-// Of the service asked for: its addresses.
-pub fn address_settings(file: &[u8], x: &[u16; 384]) -> AddressSettings
-    requires { ⌜ RowOf (now file) (now x) 96 Group.Service ⌝ }
-    ensures { λ r. ⌜ Typed (now (file .entry)) (now (x .entry)) 96 Group.Service addressSettingsOf r ⌝ }
+// Of a service, by its row: its addresses.
+pub fn address_settings(file: &[u8], x: &[u16; 976], row: usize) -> AddressSettings
+    requires { ⌜ RowOf Dialect.ConnMan (now file) (now x) row Group.Service ⌝ }
+    ensures { λ r. ⌜ Typed Dialect.ConnMan (now (file .entry)) (now (x .entry)) row Group.Service addressSettingsOf r ⌝ }
 {
     AddressSettings {
-        ipv4: values::ipv4_at(file, x, 98),
-        ipv6: values::chosen_at(WordList::Ipv6Method, file, x, 99),
-        privacy: values::chosen_at(WordList::Privacy, file, x, 100),
-        mac: values::mac_at(file, x, 101),
-        nameservers: values::count_at(Separator::Comma, file, x, 102),
-        search_domains: values::entries_at(file, x, 103),
-        timeservers: values::entries_at(file, x, 104),
-        domain: values::line_at(x, 105),
+        ipv4: values::ipv4_at(file, x, row, KeyName::Ipv4),
+        ipv6: values::chosen_at(x, row, KeyName::Ipv6),
+        privacy: values::chosen_at(x, row, KeyName::Privacy),
+        mac: values::mac_at(file, x, row, KeyName::Mac),
+        nameservers: values::count_at(Separator::Comma, file, x, row, KeyName::Nameservers),
+        search_domains: values::entries_at(file, x, row, KeyName::SearchDomains),
+        timeservers: values::entries_at(file, x, row, KeyName::Timeservers),
+        domain: line_of(x, row, KeyName::Domain),
     }
 }

@@ -10,20 +10,22 @@ use crate::iwd::store;
 use crate::rows;
 use crate::values;
 use addresses::Separator;
+use reader::KeyName;
+use reader::judging::base_of;
 use rules::Answer;
 use rules::Group;
 use rules::Refusal;
 use rules::asking;
 use text::Dialect;
 
-// The settings of the service asked for, by its row.
-fn service_row(file: &[u8], x: &[u16; 384]) -> ServiceSettings
-    requires { ⌜ RowOf (now file) (now x) 96 Group.Service ⌝ }
-    ensures { λ r. ⌜ Typed (now (file .entry)) (now (x .entry)) 96 Group.Service serviceSettings r ⌝ }
+// The settings of a service, by its row.
+fn service_row(file: &[u8], x: &[u16; 976], row: usize) -> ServiceSettings
+    requires { ⌜ RowOf Dialect.ConnMan (now file) (now x) row Group.Service ⌝ }
+    ensures { λ r. ⌜ Typed Dialect.ConnMan (now (file .entry)) (now (x .entry)) row Group.Service serviceSettings r ⌝ }
 {
     ServiceSettings {
-        network: rows::network_settings(file, x),
-        addresses: rows::address_settings(file, x),
+        network: rows::network_settings(file, x, row),
+        addresses: rows::address_settings(file, x, row),
     }
 }
 
@@ -31,10 +33,10 @@ fn service_row(file: &[u8], x: &[u16; 384]) -> ServiceSettings
 fn refused(file: &[u8], refusal: Refusal, line: usize) -> ServiceAnswer
     ensures { λ r. ⌜ r ≡ serviceAnswerOf (Answer.Refused refusal line) [] ⌝ }
 {
-    let none = [0; 384];
+    let none = [0; 976];
     ServiceAnswer {
         answer: Answer::Refused(refusal, line),
-        settings: service_row(file, &none),
+        settings: service_row(file, &none, 25),
     }
 }
 
@@ -49,15 +51,19 @@ pub fn service_settings(
     ensures { λ r. ⌜ r ≡ serviceAnswered (now (name .entry)) (now (file .entry)) service ⌝ }
     ensures { λ r. ⌜ now (servers .exit) ≡ serviceServersAfter (now (name .entry)) (now (file .entry)) service (now (servers .entry)) ⌝ }
 {
-    let mut x = [0; 384];
-    let reading = pass::read(Dialect::ConnMan, name, file, &mut x, service);
+    let mut x = [0; 976];
+    let reading = pass::read(Dialect::ConnMan, name, file, &mut x);
     let answer = asking::asked_of(service, reading);
     match answer {
         Answer::Good => {
-            store(servers, values::servers_at(Separator::Comma, file, &x, 102));
+            let row = base_of(Group::Service, service);
+            store(
+                servers,
+                values::servers_at(Separator::Comma, file, &x, row, KeyName::Nameservers),
+            );
             ServiceAnswer {
                 answer: Answer::Good,
-                settings: service_row(file, &x),
+                settings: service_row(file, &x, row),
             }
         }
         Answer::Refused(refusal, line) => refused(file, refusal, line),

@@ -1,16 +1,14 @@
 // Values by their slots in the table of places: one reader for each kind. A slot that keeps nothing has no bytes, and no kind
 // reads a value from none.
 ghost use mathlib.Core.Path.{_≡_};
-ghost use mathlib.Core.Option.{some};
 ghost use Prim.Native.Nat.{_+_, _≤_, _<_};
 ghost use lib.ListN.{length};
 ghost use Rattle.text.specs.Options.{plain};
 ghost use Rattle.addresses.specs.Addresses.{address, netmask, addresses, addressAnswer, rows};
-ghost use Rattle.kinds.specs.Kinds.{flag, wordOf, ipv4, entries, mac, key, ssid};
+ghost use Rattle.kinds.specs.Kinds.{ipv4, entries, mac, key, ssid};
 ghost use Rattle.kinds.specs.Answers.{entriesAnswer, ipv4Answer, macAnswer, keyAnswer, ssidAnswer};
-ghost use Rattle.reader.specs.Store.{slot};
-ghost use Rattle.reader.specs.Closing.{SlotIn};
-ghost use Rattle.settings.specs.Values.{choice, chosen, lengthOr0, bytesAt};
+ghost use Rattle.reader.specs.Closing.{InTable, KeyIn, keySlot, bytesOf};
+ghost use Rattle.settings.specs.Values.{choiceBy, chosenBy, lengthOr0};
 use crate::Choice;
 use crate::Chosen;
 use addresses::Address;
@@ -20,105 +18,114 @@ use kinds::Entries;
 use kinds::Ipv4;
 use kinds::Key;
 use kinds::Mac;
-use kinds::NamedWord;
 use kinds::Ssid;
-use kinds::WordList;
-use kinds::YesNo;
-use reader::store::value_at;
-use reader::store::wide;
-use text::Dialect;
+use kinds::Word;
+use reader::KeyName;
+use reader::services::code_of;
+use reader::services::start_of;
+use reader::services::value_of;
 
-fn choice_of(b: bool) -> Choice
-    ensures { λ r. ⌜ r ≡ choice (some b) ⌝ }
+// A yes/no by its code.
+pub fn choice_at(x: &[u16; 976], row: usize, k: KeyName) -> Choice
+    requires { ⌜ InTable (now x) row ⌝ }
+    ensures { λ r. ⌜ r ≡ choiceBy (keySlot (now (x .entry)) row k .code) ⌝ }
 {
-    if b {
-        return Choice::Yes;
-    }
-    Choice::No
-}
-
-pub fn choice_at(d: Dialect, file: &[u8], x: &[u16; 384], i: usize) -> Choice
-    requires { ⌜ SlotIn (now file) (now x) i ⌝ }
-    ensures { λ r. ⌜ r ≡ choice (flag d (bytesAt (now (file .entry)) (slot i (now (x .entry))))) ⌝ }
-{
-    let b = kinds::words::read_flag(d, value_at(file, x, i));
-    match b {
-        YesNo::Is(yes) => choice_of(yes),
-        YesNo::Broken => Choice::Absent,
+    let n = code_of(x, row, k);
+    match n {
+        1 => Choice::No,
+        2 => Choice::Yes,
+        _ => Choice::Absent,
     }
 }
 
-pub fn chosen_at(list: WordList, file: &[u8], x: &[u16; 384], i: usize) -> Chosen
-    requires { ⌜ SlotIn (now file) (now x) i ⌝ }
-    ensures { λ r. ⌜ r ≡ chosen (wordOf list (bytesAt (now (file .entry)) (slot i (now (x .entry))))) ⌝ }
+// A word by its code.
+pub fn chosen_at(x: &[u16; 976], row: usize, k: KeyName) -> Chosen
+    requires { ⌜ InTable (now x) row ⌝ }
+    ensures { λ r. ⌜ r ≡ chosenBy (keySlot (now (x .entry)) row k .code) ⌝ }
 {
-    let w = kinds::words::read_word(list, value_at(file, x, i));
-    match w {
-        NamedWord::Is(word) => Chosen::Is(word),
-        NamedWord::Broken => Chosen::Absent,
+    let n = code_of(x, row, k);
+    match n {
+        1 => Chosen::Is(Word::Wifi),
+        2 => Chosen::Is(Word::Ethernet),
+        3 => Chosen::Is(Word::Off),
+        4 => Chosen::Is(Word::Auto),
+        5 => Chosen::Is(Word::Disabled),
+        6 => Chosen::Is(Word::Enabled),
+        7 => Chosen::Is(Word::Preferred),
+        8 => Chosen::Is(Word::Psk),
+        9 => Chosen::Is(Word::Ieee8021x),
+        10 => Chosen::Is(Word::None),
+        11 => Chosen::Is(Word::Wep),
+        _ => Chosen::Absent,
     }
 }
 
-pub fn address_at(file: &[u8], x: &[u16; 384], i: usize) -> Address
-    requires { ⌜ SlotIn (now file) (now x) i ⌝ }
-    ensures { λ r. ⌜ r ≡ addressAnswer (address (bytesAt (now (file .entry)) (slot i (now (x .entry))))) ⌝ }
+pub fn address_at(file: &[u8], x: &[u16; 976], row: usize, k: KeyName) -> Address
+    requires { ⌜ KeyIn (now file) (now x) row k ⌝ }
+    ensures { λ r. ⌜ r ≡ addressAnswer (address (bytesOf (now (file .entry)) (now (x .entry)) row k)) ⌝ }
 {
-    addresses::numbers::read_address(value_at(file, x, i))
+    addresses::numbers::read_address(value_of(file, x, row, k))
 }
 
-pub fn netmask_at(file: &[u8], x: &[u16; 384], i: usize) -> u8
-    requires { ⌜ SlotIn (now file) (now x) i ⌝ }
-    ensures { λ r. ⌜ r ≡ lengthOr0 (netmask (bytesAt (now (file .entry)) (slot i (now (x .entry))))) ⌝ }
+pub fn netmask_at(file: &[u8], x: &[u16; 976], row: usize, k: KeyName) -> u8
+    requires { ⌜ KeyIn (now file) (now x) row k ⌝ }
+    ensures { λ r. ⌜ r ≡ lengthOr0 (netmask (bytesOf (now (file .entry)) (now (x .entry)) row k)) ⌝ }
 {
-    let m = addresses::masks::read_netmask(value_at(file, x, i));
+    let m = addresses::masks::read_netmask(value_of(file, x, row, k));
     match m {
         Netmask::Length(n) => n,
         Netmask::Broken => 0,
     }
 }
 
-pub fn ipv4_at(file: &[u8], x: &[u16; 384], i: usize) -> Ipv4
-    requires { ⌜ SlotIn (now file) (now x) i ⌝ }
-    ensures { λ r. ⌜ r ≡ ipv4Answer (ipv4 (bytesAt (now (file .entry)) (slot i (now (x .entry))))) ⌝ }
+pub fn ipv4_at(file: &[u8], x: &[u16; 976], row: usize, k: KeyName) -> Ipv4
+    requires { ⌜ KeyIn (now file) (now x) row k ⌝ }
+    ensures { λ r. ⌜ r ≡ ipv4Answer (ipv4 (bytesOf (now (file .entry)) (now (x .entry)) row k)) ⌝ }
 {
-    kinds::connman_ipv4::read_ipv4(value_at(file, x, i))
+    kinds::connman_ipv4::read_ipv4(value_of(file, x, row, k))
 }
 
-pub fn mac_at(file: &[u8], x: &[u16; 384], i: usize) -> Mac
-    requires { ⌜ SlotIn (now file) (now x) i ⌝ }
-    ensures { λ r. ⌜ r ≡ macAnswer (mac (bytesAt (now (file .entry)) (slot i (now (x .entry))))) ⌝ }
+pub fn mac_at(file: &[u8], x: &[u16; 976], row: usize, k: KeyName) -> Mac
+    requires { ⌜ KeyIn (now file) (now x) row k ⌝ }
+    ensures { λ r. ⌜ r ≡ macAnswer (mac (bytesOf (now (file .entry)) (now (x .entry)) row k)) ⌝ }
 {
-    kinds::hexes::read_mac(value_at(file, x, i))
+    kinds::hexes::read_mac(value_of(file, x, row, k))
 }
 
-pub fn key_at(file: &[u8], x: &[u16; 384], i: usize) -> Key
-    requires { ⌜ SlotIn (now file) (now x) i ⌝ }
-    ensures { λ r. ⌜ r ≡ keyAnswer (key (bytesAt (now (file .entry)) (slot i (now (x .entry))))) ⌝ }
+pub fn key_at(file: &[u8], x: &[u16; 976], row: usize, k: KeyName) -> Key
+    requires { ⌜ KeyIn (now file) (now x) row k ⌝ }
+    ensures { λ r. ⌜ r ≡ keyAnswer (key (bytesOf (now (file .entry)) (now (x .entry)) row k)) ⌝ }
 {
-    kinds::hexes::read_key(value_at(file, x, i))
+    kinds::hexes::read_key(value_of(file, x, row, k))
 }
 
-pub fn ssid_at(file: &[u8], x: &[u16; 384], i: usize) -> Ssid
-    requires { ⌜ SlotIn (now file) (now x) i ⌝ }
-    ensures { λ r. ⌜ r ≡ ssidAnswer (ssid (bytesAt (now (file .entry)) (slot i (now (x .entry))))) ⌝ }
+pub fn ssid_at(file: &[u8], x: &[u16; 976], row: usize, k: KeyName) -> Ssid
+    requires { ⌜ KeyIn (now file) (now x) row k ⌝ }
+    ensures { λ r. ⌜ r ≡ ssidAnswer (ssid (bytesOf (now (file .entry)) (now (x .entry)) row k)) ⌝ }
 {
-    kinds::hexes::read_ssid(value_at(file, x, i))
+    kinds::hexes::read_ssid(value_of(file, x, row, k))
 }
 
 // How many addresses a list has.
-pub fn count_at(sep: Separator, file: &[u8], x: &[u16; 384], i: usize) -> usize
-    requires { ⌜ SlotIn (now file) (now x) i ⌝ }
-    ensures { λ r. ⌜ r ≡ length (plain (addresses sep (bytesAt (now (file .entry)) (slot i (now (x .entry)))))) ⌝ }
+pub fn count_at(sep: Separator, file: &[u8], x: &[u16; 976], row: usize, k: KeyName) -> usize
+    requires { ⌜ KeyIn (now file) (now x) row k ⌝ }
+    ensures { λ r. ⌜ r ≡ length (plain (addresses sep (bytesOf (now (file .entry)) (now (x .entry)) row k))) ⌝ }
 {
-    addresses::lists::count_addresses(value_at(file, x, i), sep)
+    addresses::lists::count_addresses(value_of(file, x, row, k), sep)
 }
 
 // The addresses of a list, with zeros behind them.
-pub fn servers_at(sep: Separator, file: &[u8], x: &[u16; 384], i: usize) -> [[u8; 4]; 4]
-    requires { ⌜ SlotIn (now file) (now x) i ⌝ }
-    ensures { λ r. ⌜ r ≡ rows (addresses sep (bytesAt (now (file .entry)) (slot i (now (x .entry))))) ⌝ }
+pub fn servers_at(
+    sep: Separator,
+    file: &[u8],
+    x: &[u16; 976],
+    row: usize,
+    k: KeyName,
+) -> [[u8; 4]; 4]
+    requires { ⌜ KeyIn (now file) (now x) row k ⌝ }
+    ensures { λ r. ⌜ r ≡ rows (addresses sep (bytesOf (now (file .entry)) (now (x .entry)) row k)) ⌝ }
 {
-    addresses::lists::read_addresses(value_at(file, x, i), sep)
+    addresses::lists::read_addresses(value_of(file, x, row, k), sep)
 }
 
 // Stores the addresses of a list, with zeros behind them, and returns how many it has.
@@ -126,29 +133,21 @@ pub fn list_at(
     out: &mut [[u8; 4]; 4],
     sep: Separator,
     file: &[u8],
-    x: &[u16; 384],
-    i: usize,
+    x: &[u16; 976],
+    row: usize,
+    k: KeyName,
 ) -> usize
-    requires { ⌜ SlotIn (now file) (now x) i ⌝ }
-    ensures { λ r. ⌜ (r ≡ length (plain (addresses sep (bytesAt (now (file .entry)) (slot i (now (x .entry)))))))
-        × (now (out .exit) ≡ rows (addresses sep (bytesAt (now (file .entry)) (slot i (now (x .entry)))))) ⌝ }
+    requires { ⌜ KeyIn (now file) (now x) row k ⌝ }
+    ensures { λ r. ⌜ (r ≡ length (plain (addresses sep (bytesOf (now (file .entry)) (now (x .entry)) row k))))
+        × (now (out .exit) ≡ rows (addresses sep (bytesOf (now (file .entry)) (now (x .entry)) row k))) ⌝ }
 {
-    addresses::lists::read_list(out, value_at(file, x, i), sep)
+    addresses::lists::read_list(out, value_of(file, x, row, k), sep)
 }
 
 // The entries of a list, by their places in the file.
-pub fn entries_at(file: &[u8], x: &[u16; 384], i: usize) -> Entries
-    requires { ⌜ SlotIn (now file) (now x) i ⌝ }
-    ensures { λ r. ⌜ r ≡ entriesAnswer (slot i (now (x .entry)) .start) (entries (bytesAt (now (file .entry)) (slot i (now (x .entry))))) ⌝ }
+pub fn entries_at(file: &[u8], x: &[u16; 976], row: usize, k: KeyName) -> Entries
+    requires { ⌜ KeyIn (now file) (now x) row k ⌝ }
+    ensures { λ r. ⌜ r ≡ entriesAnswer (keySlot (now (x .entry)) row k .start) (entries (bytesOf (now (file .entry)) (now (x .entry)) row k)) ⌝ }
 {
-    let start = wide(x[i]);
-    kinds::lists::read_entries(value_at(file, x, i), start)
-}
-
-// The line of a setting, 0 where it is absent.
-pub fn line_at(x: &[u16; 384], i: usize) -> usize
-    requires { ⌜ (length (now x) ≡ 384) × (i < 128) ⌝ }
-    ensures { λ r. ⌜ r ≡ slot i (now (x .entry)) .line ⌝ }
-{
-    wide(x[256 + i])
+    kinds::lists::read_entries(value_of(file, x, row, k), start_of(x, row, k))
 }

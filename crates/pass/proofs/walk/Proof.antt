@@ -12,9 +12,9 @@ pub walk-spec : {M : Type 1} → statement M
 walk-spec =
     tie.close
     (tie.spec
-    (λ d file x₀ wanted st₀ at₀ line₀ x st at line. Running d file wanted x st at line)
-    (λ d file x₀ wanted st₀ at₀ line₀ x st at line. length file + 1 - at)
-    (λ c. running-first (c .before .args .d) (c .before .args .file .now) (c .before .args .wanted) (c .before .pre .0) (c .before .pre .1))
+    (λ d file x₀ st₀ at₀ line₀ x st at line. Running d file x st at line)
+    (λ d file x₀ st₀ at₀ line₀ x st at line. length file + 1 - at)
+    (λ c. running-first (c .before .args .d) (c .before .args .file .now) (c .before .pre .0) (c .before .pre .1))
     (λ c κs. search needs)
     (λ c κs. let h = c .before .before .before .loop .inv in (h .known, (stop-low (c .before .line-end .ensures), (c .before .line-end .ensures .within, (h .low, (h .small, omega (arith, h .high, h .small, c .before .before .loop-test .taken)))))))
     (λ c. search needs)

@@ -14,6 +14,4 @@ clashes-spec =
     (λ c κs. search needs)
     (λ c κs. search needs)
     (λ c κs. search needs)
-    (λ c κs. search needs)
-    (λ c κs. search needs)
-    (λ c. rw (c .either .ensures, c .before .both2 .ensures, c .before .before .taken .ensures, c .before .before .before .both .ensures, c .before .before .before .before .is-wireless .ensures, c .before .before .before .before .before .is-word2 .ensures, c .before .before .before .before .before .before .word-at2 .ensures, c .before .before .before .before .before .before .before .is-word .ensures, c .before .before .before .before .before .before .before .before .word-at .ensures)))
+    (λ c. rw (c .either .ensures, c .before .both2 .ensures, c .before .before .taken .ensures, c .before .before .before .both .ensures, c .before .before .before .before .is-wireless .ensures, c .before .before .before .before .before .is-word2 .ensures, c .before .before .before .before .before .before .is-word .ensures)))

@@ -16,4 +16,4 @@ is-wireless-spec =
     (λ c κs. search needs)
     (λ c κs. search needs)
     (λ c κs. search needs)
-    (λ c. rw (c .either4 .ensures, c .before .either3 .ensures, c .before .before .taken5 .ensures, c .before .before .before .taken4 .ensures, c .before .before .before .before .either2 .ensures, c .before .before .before .before .before .either .ensures, c .before .before .before .before .before .before .taken3 .ensures, c .before .before .before .before .before .before .before .taken2 .ensures, c .before .before .before .before .before .before .before .before .taken .ensures)))
+    (λ c. rw (c .either4 .ensures, c .before .either3 .ensures, c .before .before .taken5 .ensures, c .before .before .before .taken4 .ensures, c .before .before .before .before .either2 .ensures, c .before .before .before .before .before .taken3 .ensures, c .before .before .before .before .before .before .either .ensures, c .before .before .before .before .before .before .before .taken2 .ensures, c .before .before .before .before .before .before .before .before .taken .ensures)))

@@ -10,5 +10,4 @@ keyless-spec =
     (λ c κs. search needs)
     (λ c κs. search needs)
     (λ c κs. search needs)
-    (λ c κs. search needs)
-    (λ c. rw (c .both .ensures, c .before .taken .ensures, c .before .before .is-word .ensures, c .before .before .before .word-at .ensures)))
+    (λ c. rw (c .both .ensures, c .before .taken .ensures, c .before .before .is-word .ensures)))

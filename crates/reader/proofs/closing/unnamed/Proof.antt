@@ -12,5 +12,4 @@ unnamed-spec =
     (λ c κs. search needs)
     (λ c κs. search needs)
     (λ c κs. search needs)
-    (λ c κs. search needs)
-    (λ c. rw (c .both .ensures, c .before .either .ensures, c .before .before .taken2 .ensures, c .before .before .before .taken .ensures, c .before .before .before .before .is-word .ensures, c .before .before .before .before .before .word-at .ensures)))
+    (λ c. rw (c .both .ensures, c .before .either .ensures, c .before .before .taken2 .ensures, c .before .before .before .taken .ensures, c .before .before .before .before .is-word .ensures)))

@@ -1,5 +1,4 @@
 -- The groups' fault, the row that is kept, and the answer.
-use Rattle.reader.proofs.ClosingFault.{words-in}
 use Rattle.reader.proofs.WholeFile.{ends}
 use borrow.Author.Needs.{needs}
 use Rattle.reader.proofs.ending.ending.Statement.{statement}
@@ -9,7 +8,6 @@ pub ending-spec : {M : Type 1} → statement M
 ending-spec =
     tie.close
     (tie.spec
-    (λ c κs. words-in (c .before .before .pre .known .holds))
-    (λ c κs. c .before .before .before .before .pre .known .holds .long)
     (λ c κs. search needs)
-    (λ c. ends (c .before .before .before .before .before .before .args .kind) (c .before .before .before .groups-fault .ensures) (c .before .keep-found .ensures) (c .answer .ensures)))
+    (λ c κs. search needs)
+    (λ c. ends (c .before .before .args .kind) (c .before .groups-fault .ensures) (c .answer .ensures)))

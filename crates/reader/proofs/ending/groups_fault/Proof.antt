@@ -14,4 +14,4 @@ groups-fault-spec =
     (λ c κs. search needs)
     (λ c. search needs)
     (λ c. rw (c .before .before .kind .given .1) (c .file-fault .ensures))
-    (λ c. rw (c .before .enum-told2 .given .1) (c .closed .ensures)))
+    (λ c. rw (c .before .enum-told2 .given .1) (c .services-fault .ensures)))

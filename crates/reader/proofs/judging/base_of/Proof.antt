@@ -1,4 +1,6 @@
 -- The group's base, by cases.
+use mathlib.Core.Path.{sym}
+use Rattle.reader.proofs.Values.{service-base}
 use borrow.Author.Needs.{needs}
 use Rattle.reader.proofs.judging.base_of.Statement.{statement}
 use Rattle.reader.proofs.judging.base_of.Tie as tie
@@ -13,9 +15,10 @@ base-of-spec =
     (λ c. search needs)
     (λ c. search needs)
     (λ c. search needs)
+    (λ c. search needs)
     (λ c. rw (c .enum-told .given .1))
     (λ c. rw (c .enum-told2 .given .1))
     (λ c. rw (c .enum-told3 .given .1))
     (λ c. rw (c .enum-told4 .given .1))
     (λ c. rw (c .enum-told5 .given .1))
-    (λ c. rw (c .enum-told6 .given .1)))
+    (λ c. rw (c .enum-told6 .given .1) (sym (service-base _))))

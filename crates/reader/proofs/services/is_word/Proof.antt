@@ -1,7 +1,7 @@
--- A word by its number.
-use mathlib.Core.Path.{ap}
-use lib.Dec.{eqb}
-use Prim.Native.Nat.{ℕ}
+-- The code at the slot.
+use native.Mathlib.Omega.{arith}
+use mathlib.Core.Path.{refl, sym}
+use Rattle.reader.specs.Keys.{key-few}
 use borrow.Author.Needs.{needs}
 use Rattle.reader.proofs.services.is_word.Statement.{statement}
 use Rattle.reader.proofs.services.is_word.Tie as tie
@@ -10,8 +10,10 @@ pub is-word-spec : {M : Type 1} → statement M
 is-word-spec =
     tie.close
     (tie.spec
-    (λ c. search needs)
     (λ c κs. search needs)
-    (λ c. search needs)
-    (λ c. rw (c .before .before .n .given .1) (ap (λ (m : ℕ). eqb m (c .before .before .before .before .args .k)) (c .word-number .ensures)))
-    (λ c. search needs))
+    (λ c. omega (arith, c .place-of .ensures, key-few (c .before .args .k) .1, c .before .pre .row))
+    (λ c. omega (arith, c .place-of .ensures, key-few (c .before .args .k) .1, c .before .pre .row))
+    (λ c. omega (arith, c .place-of .ensures, key-few (c .before .args .k) .1, c .before .pre .row))
+    (λ c. omega (arith, c .place-of .ensures, key-few (c .before .args .k) .1, c .before .pre .row, c .before .pre .long))
+    (λ c κs. search needs)
+    (λ c. rw (sym (c .before .before .place-of .ensures), sym (c .word-number .ensures)) refl))

@@ -1,4 +1,4 @@
--- Three stores.
+-- Four stores.
 use mathlib.Core.Path.{refl}
 use Rattle.reader.specs.Store.{stored}
 use borrow.Author.Needs.{needs}
@@ -10,6 +10,9 @@ unfolding stored
 put-slot-spec =
     tie.close
     (tie.spec
+    (λ c. search needs)
+    (λ c. search needs)
+    (λ c. search needs)
     (λ c. search needs)
     (λ c. search needs)
     (λ c. search needs)

@@ -13,4 +13,4 @@ address-at-spec =
     (tie.spec
     (λ c κs. search needs)
     (λ c κs. search needs)
-    (λ c. c .read-address .ensures ∙ ap (λ (s : List ℕ). addressAnswer (address s)) (c .before .value-at .ensures)))
+    (λ c. c .read-address .ensures ∙ ap (λ (s : List ℕ). addressAnswer (address s)) (c .before .value-of .ensures)))

@@ -1,23 +1,26 @@
--- The value is a named word, or there is none.
-use Prim.Native.Nat.{ℕ}
+-- By the code.
 use mathlib.Core.Path.{ap, sym, _∙_}
-use mathlib.Core.List.{List}
-use Rattle.kinds.specs.Kinds.{wordOf}
-use Rattle.kinds.specs.Answers.{namedWord}
-use Rattle.reader.specs.Store.{slot}
-use Rattle.settings.specs.Values.{bytesAt, chosen}
-use Rattle.settings.proofs.Told.{word-told}
+use Rattle.settings.specs.Values.{chosenBy}
+use Rattle.settings.proofs.Told.{chosen-rest}
 use borrow.Author.Needs.{needs}
 use Rattle.settings.proofs.values.chosen_at.Statement.{statement}
 use Rattle.settings.proofs.values.chosen_at.Tie as tie
 
 pub chosen-at-spec : {M : Type 1} → statement M
+unfolding chosenBy
 chosen-at-spec =
     tie.close
     (tie.spec
     (λ c κs. search needs)
-    (λ c κs. search needs)
-    (λ c. search needs)
-    (λ c. search needs)
-    (λ c. ap chosen (sym (word-told (wordOf (c .before .before .before .before .before .before .args .list) (bytesAt (c .before .before .before .before .before .before .args .file .now) (slot (c .before .before .before .before .before .before .args .i) (c .before .before .before .before .before .before .args .x .now)))) (c .before .before .before .read-word .ensures ∙ ap (λ (s : List ℕ). namedWord (wordOf (c .before .before .before .before .before .before .args .list) s)) (c .before .before .before .before .value-at .ensures)) (c .before .w .given .1))))
-    (λ c. ap chosen (sym (word-told (wordOf (c .before .before .before .before .before .args .list) (bytesAt (c .before .before .before .before .before .args .file .now) (slot (c .before .before .before .before .before .args .i) (c .before .before .before .before .before .args .x .now)))) (c .before .before .read-word .ensures ∙ ap (λ (s : List ℕ). namedWord (wordOf (c .before .before .before .before .before .args .list) s)) (c .before .before .before .value-at .ensures)) (c .enum-told .given .1)))))
+    (λ c. ap chosenBy (sym (c .match .keys1) ∙ c .before .code-of .ensures))
+    (λ c. ap chosenBy (sym (c .match .keys2) ∙ c .before .code-of .ensures))
+    (λ c. ap chosenBy (sym (c .match .keys3) ∙ c .before .code-of .ensures))
+    (λ c. ap chosenBy (sym (c .match .keys4) ∙ c .before .code-of .ensures))
+    (λ c. ap chosenBy (sym (c .match .keys5) ∙ c .before .code-of .ensures))
+    (λ c. ap chosenBy (sym (c .match .keys6) ∙ c .before .code-of .ensures))
+    (λ c. ap chosenBy (sym (c .match .keys7) ∙ c .before .code-of .ensures))
+    (λ c. ap chosenBy (sym (c .match .keys8) ∙ c .before .code-of .ensures))
+    (λ c. ap chosenBy (sym (c .match .keys9) ∙ c .before .code-of .ensures))
+    (λ c. ap chosenBy (sym (c .match .keys10) ∙ c .before .code-of .ensures))
+    (λ c. ap chosenBy (sym (c .match .keys11) ∙ c .before .code-of .ensures))
+    (λ c. chosen-rest (c .before .code-of .result) (c .match .rest .0 .0 .0 .0 .0 .0 .0 .0 .0 .0 .1) (c .match .rest .0 .0 .0 .0 .0 .0 .0 .0 .0 .1) (c .match .rest .0 .0 .0 .0 .0 .0 .0 .0 .1) (c .match .rest .0 .0 .0 .0 .0 .0 .0 .1) (c .match .rest .0 .0 .0 .0 .0 .0 .1) (c .match .rest .0 .0 .0 .0 .0 .1) (c .match .rest .0 .0 .0 .0 .1) (c .match .rest .0 .0 .0 .1) (c .match .rest .0 .0 .1) (c .match .rest .0 .1) (c .match .rest .1) ∙ ap chosenBy (c .before .code-of .ensures)))

@@ -15,4 +15,4 @@ count-at-spec =
     (tie.spec
     (λ c κs. search needs)
     (λ c κs. search needs)
-    (λ c. c .count-addresses .ensures ∙ ap (λ (s : List ℕ). length (plain (addresses (c .before .before .before .args .sep) s))) (c .before .value-at .ensures)))
+    (λ c. c .count-addresses .ensures ∙ ap (λ (s : List ℕ). length (plain (addresses (c .before .before .before .args .sep) s))) (c .before .value-of .ensures)))

@@ -1,4 +1,4 @@
--- The value at the slot, read, and its places counted from its start.
+-- The value of the key, read, and its places counted from its start.
 use Prim.Native.Nat.{ℕ}
 use mathlib.Core.Path.{ap₂, _∙_}
 use mathlib.Core.List.{List}
@@ -12,9 +12,7 @@ pub entries-at-spec : {M : Type 1} → statement M
 entries-at-spec =
     tie.close
     (tie.spec
-    (λ c. search needs)
-    (λ c. search needs)
     (λ c κs. search needs)
+    (λ c κs. c .before .before .pre .table)
     (λ c κs. search needs)
-    (λ c κs. search needs)
-    (λ c. c .read-entries .ensures ∙ ap₂ (λ (a : ℕ) (s : List ℕ). entriesAnswer a (entries s)) (c .before .before .wide .ensures) (c .before .value-at .ensures)))
+    (λ c. c .read-entries .ensures ∙ ap₂ (λ (a : ℕ) (s : List ℕ). entriesAnswer a (entries s)) (c .before .start-of .ensures) (c .before .before .value-of .ensures)))

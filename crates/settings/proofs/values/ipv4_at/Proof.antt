@@ -14,4 +14,4 @@ ipv4-at-spec =
     (tie.spec
     (λ c κs. search needs)
     (λ c κs. search needs)
-    (λ c. c .read-ipv4 .ensures ∙ ap (λ (s : List ℕ). ipv4Answer (ipv4 s)) (c .before .value-at .ensures)))
+    (λ c. c .read-ipv4 .ensures ∙ ap (λ (s : List ℕ). ipv4Answer (ipv4 s)) (c .before .value-of .ensures)))

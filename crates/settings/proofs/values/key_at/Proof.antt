@@ -14,4 +14,4 @@ key-at-spec =
     (tie.spec
     (λ c κs. search needs)
     (λ c κs. search needs)
-    (λ c. c .read-key .ensures ∙ ap (λ (s : List ℕ). keyAnswer (key s)) (c .before .value-at .ensures)))
+    (λ c. c .read-key .ensures ∙ ap (λ (s : List ℕ). keyAnswer (key s)) (c .before .value-of .ensures)))

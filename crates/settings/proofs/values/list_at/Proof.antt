@@ -15,4 +15,4 @@ list-at-spec =
     (tie.spec
     (λ c κs. search needs)
     (λ c κs. search needs)
-    (λ c. (c .read-list .ensures .0 ∙ ap (λ (s : List ℕ). length (plain (addresses (c .before .before .before .before .args .sep) s))) (c .before .value-at .ensures), c .read-list .ensures .1 ∙ ap (λ (s : List ℕ). rows (addresses (c .before .before .before .before .args .sep) s)) (c .before .value-at .ensures))))
+    (λ c. (c .read-list .ensures .0 ∙ ap (λ (s : List ℕ). length (plain (addresses (c .before .before .before .before .args .sep) s))) (c .before .value-of .ensures), c .read-list .ensures .1 ∙ ap (λ (s : List ℕ). rows (addresses (c .before .before .before .before .args .sep) s)) (c .before .value-of .ensures))))

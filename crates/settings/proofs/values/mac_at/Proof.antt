@@ -14,4 +14,4 @@ mac-at-spec =
     (tie.spec
     (λ c κs. search needs)
     (λ c κs. search needs)
-    (λ c. c .read-mac .ensures ∙ ap (λ (s : List ℕ). macAnswer (mac s)) (c .before .value-at .ensures)))
+    (λ c. c .read-mac .ensures ∙ ap (λ (s : List ℕ). macAnswer (mac s)) (c .before .value-of .ensures)))

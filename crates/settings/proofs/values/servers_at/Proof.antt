@@ -13,4 +13,4 @@ servers-at-spec =
     (tie.spec
     (λ c κs. search needs)
     (λ c κs. search needs)
-    (λ c. c .read-addresses .ensures ∙ ap (λ (s : List ℕ). rows (addresses (c .before .before .before .args .sep) s)) (c .before .value-at .ensures)))
+    (λ c. c .read-addresses .ensures ∙ ap (λ (s : List ℕ). rows (addresses (c .before .before .before .args .sep) s)) (c .before .value-of .ensures)))

@@ -14,4 +14,4 @@ ssid-at-spec =
     (tie.spec
     (λ c κs. search needs)
     (λ c κs. search needs)
-    (λ c. c .read-ssid .ensures ∙ ap (λ (s : List ℕ). ssidAnswer (ssid s)) (c .before .value-at .ensures)))
+    (λ c. c .read-ssid .ensures ∙ ap (λ (s : List ℕ). ssidAnswer (ssid s)) (c .before .value-of .ensures)))

@@ -1,0 +1,18 @@
+-- The line at the slot.
+use native.Mathlib.Omega.{arith}
+use mathlib.Core.Path.{refl, sym}
+use Rattle.reader.specs.Keys.{key-few}
+use borrow.Author.Needs.{needs}
+use Rattle.reader.proofs.services.taken.Statement.{statement}
+use Rattle.reader.proofs.services.taken.Tie as tie
+
+pub taken-spec : {M : Type 1} → statement M
+taken-spec =
+    tie.close
+    (tie.spec
+    (λ c κs. search needs)
+    (λ c. omega (arith, c .place-of .ensures, key-few (c .before .args .k) .1, c .before .pre .row))
+    (λ c. omega (arith, c .place-of .ensures, key-few (c .before .args .k) .1, c .before .pre .row))
+    (λ c. omega (arith, c .place-of .ensures, key-few (c .before .args .k) .1, c .before .pre .row))
+    (λ c. omega (arith, c .place-of .ensures, key-few (c .before .args .k) .1, c .before .pre .row, c .before .pre .long))
+    (λ c. rw (sym (c .before .place-of .ensures)) refl))
