@@ -31,6 +31,7 @@ use Rattle.reader.proofs.FileKind.{the-type}
 use Rattle.pass.specs.Pass.{WalkIs, Walks, Found, ReadsKind, Reads}
 use Rattle.pass.specs.declared.Walked.{Walked}
 use Rattle.pass.specs.declared.Walked.the-variants.{Through, Stopped}
+use Rattle.reader.specs.Store.{fileLimit, tableLength}
 
 -- ---- the kind of a name
 
@@ -72,7 +73,7 @@ module _ {d : Dialect} {file : List ℕ} {x : List ℕ} {r : Walked} (h : Walks 
   walked : {q : Walked} → r ≡ q → WalkIs d file x q
   walked e = subst (WalkIs d file x) e (h .is)
 
-  pub walked-held : {st : State} → r ≡ Through st → (length x ≡ 976) × (st .services ≤ 8)
+  pub walked-held : {st : State} → r ≡ Through st → (length x ≡ tableLength) × (st .services ≤ 8)
   walked-held e = (walked e .1 .table .long, walked e .1 .spans .few)
 
   module _ {k : FileKind} (t : OneOf (1 ∷ 2 ∷ []) (tagOf the-type k)) where
@@ -99,17 +100,17 @@ module _ {d : Dialect} {file : List ℕ} {x : List ℕ} {r : Walked} (h : Walks 
 -- ---- any file
 
 module _ {d : Dialect} (name : List ℕ) {file : List ℕ} where
-  pub reads-large : {y : List ℕ} → 16384 < length file → y ≡ replicate 976 0 → Reads d name file y (Refused Size 0)
+  pub reads-large : {y : List ℕ} → fileLimit < length file → y ≡ replicate tableLength 0 → Reads d name file y (Refused Size 0)
   unfolding reading
-  reads-large l e = record { is = rw (lt-leb (length file) 16384 l); found = λ q. refused-accepted q; few = λ q. refused-accepted q; left = λ q. e }
+  reads-large l e = record { is = rw (lt-leb (length file) fileLimit l); found = λ q. refused-accepted q; few = λ q. refused-accepted q; left = λ q. e }
 
-  module _ (l : length file ≤ 16384) {k : FileKind} (e : k ≡ kindOfName (nameIn d name)) {y : List ℕ} {r : Reading} (h : ReadsKind k d file y r) where
+  module _ (l : length file ≤ fileLimit) {k : FileKind} (e : k ≡ kindOfName (nameIn d name)) {y : List ℕ} {r : Reading} (h : ReadsKind k d file y r) where
     is-reading : r ≡ reading d name file
     unfolding reading
-    is-reading = rw (le-leb (length file) 16384 l) (h .is name e)
+    is-reading = rw (le-leb (length file) fileLimit l) (h .is name e)
 
     pub reads-accepted : {n m : ℕ} → r ≡ Accepted n m → Reads d name file y (Accepted n m)
     reads-accepted q = record { is = sym q ∙ is-reading; found = λ z. h .found q; few = λ z. h .few (q ∙ z); left = λ z. refused-accepted (sym z) }
 
-    pub reads-refused : {f : Refusal} {i : ℕ} → r ≡ Refused f i → {z : List ℕ} → z ≡ replicate 976 0 → Reads d name file z (Refused f i)
+    pub reads-refused : {f : Refusal} {i : ℕ} → r ≡ Refused f i → {z : List ℕ} → z ≡ replicate tableLength 0 → Reads d name file z (Refused f i)
     reads-refused q v = record { is = sym q ∙ is-reading; found = λ z. refused-accepted z; few = λ z. refused-accepted z; left = λ z. v }

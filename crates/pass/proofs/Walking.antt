@@ -21,7 +21,7 @@ use Rattle.rules.specs.Reading.{afterLine, lineFault, grown, settings}
 use Rattle.rules.specs.declared.Group.{Group}
 use Rattle.rules.specs.declared.Group.the-variants as G
 use Rattle.rules.specs.declared.Refusal.{Refusal}
-use Rattle.reader.specs.Store.{Slot, slot, emptySlot}
+use Rattle.reader.specs.Store.{fileLimit, slotCount, linesFrom, codesFrom, tableLength, lastRow, Slot, slot, emptySlot}
 use Rattle.reader.specs.History.{baseAt, groupAt}
 use Rattle.reader.specs.Holds.{Row, Holds}
 use Rattle.reader.specs.Steps.{Known, StepIs, Steps}
@@ -35,7 +35,7 @@ use Rattle.pass.specs.declared.Walked.the-variants.{Through, Stopped}
 
 -- the rest of the file from at on, after the groups of which state and table tell, is what the whole file is
 pub record Running (d : Dialect) (file : List ℕ) (x : List ℕ) (st : State) (at line : ℕ) : Type 0 where
-  pub small : length file ≤ 16384
+  pub small : length file ≤ fileLimit
   pub within : at ≤ length file + 1
   pub low : st .settings < line
   pub high : line ≤ at + 1
@@ -45,13 +45,13 @@ pub record Running (d : Dialect) (file : List ℕ) (x : List ℕ) (st : State) (
 
 -- ---- before the first line
 
-empty-slot : (i : ℕ) → i < 244 → slot i (replicate 976 0) ≡ emptySlot
-empty-slot i h = rw (getD-replicate {A = ℕ} 976 i 0 0 (omega (arith, h)), getD-replicate {A = ℕ} 976 (244 + i) 0 0 (omega (arith, h)), getD-replicate {A = ℕ} 976 (488 + i) 0 0 (omega (arith, h)), getD-replicate {A = ℕ} 976 (732 + i) 0 0 (omega (arith, h)))
+empty-slot : (i : ℕ) → i < slotCount → slot i (replicate tableLength 0) ≡ emptySlot
+empty-slot i h = rw (getD-replicate {A = ℕ} tableLength i 0 0 (omega (arith, h)), getD-replicate {A = ℕ} tableLength (slotCount + i) 0 0 (omega (arith, h)), getD-replicate {A = ℕ} tableLength (linesFrom + i) 0 0 (omega (arith, h)), getD-replicate {A = ℕ} tableLength (codesFrom + i) 0 0 (omega (arith, h)))
 
-pub empty-row : (d : Dialect) (file : List ℕ) (b : ℕ) (g : Group) → b ≤ 200 → Row d file (replicate 976 0) b g []
+pub empty-row : (d : Dialect) (file : List ℕ) (b : ℕ) (g : Group) → b ≤ lastRow → Row d file (replicate tableLength 0) b g []
 empty-row d file b g h = record { each = λ k z. empty-slot (b + place k (keyNames g)) (omega (arith, h, keys-few g k)) }
 
-pub running-first : (d : Dialect) (file : List ℕ) → length file ≤ 16384 → {x : List ℕ} → x ≡ replicate 976 0 → Running d file x (record { current = Outside; services = 0; settings = 0 }) 0 1
+pub running-first : (d : Dialect) (file : List ℕ) → length file ≤ fileLimit → {x : List ℕ} → x ≡ replicate tableLength 0 → Running d file x (record { current = Outside; services = 0; settings = 0 }) 0 1
 running-first d file h e =
     rw e
     (record {
@@ -63,7 +63,7 @@ running-first d file h e =
         groups = [];
         holds = record {
           table = record {
-            long = length-replicate {A = ℕ} 976 0;
+            long = length-replicate {A = ℕ} tableLength 0;
             rows = record { few = omega arith; well = tt; each = λ r l. empty-row d file (baseAt r) (groupAt r) (let o = lies d r l in omega arith) };
             heads = λ r l. empty-slot (baseAt r) (let o = lies d r l in omega arith);
           };

@@ -16,6 +16,7 @@ use Rattle.reader.specs.Ending.{kindOfName}
 use Rattle.reader.specs.declared.FileKind.{FileKind}
 use Rattle.pass.specs.declared.Walked.{Walked}
 use Rattle.pass.specs.declared.Walked.the-variants.{Through, Stopped}
+use Rattle.reader.specs.Store.{tableLength}
 
 -- no line is faulty, and the state and the table hold of the groups of the whole file; or the first faulty line
 abbrev pub WalkIs : Dialect → List ℕ → List ℕ → Walked → Type 0
@@ -43,4 +44,4 @@ pub record Reads (d : Dialect) (name file : List ℕ) (y : List ℕ) (r : Readin
   pub is : r ≡ reading d name file
   pub found : {n m : ℕ} → r ≡ Accepted n m → Found d file y
   pub few : {n m : ℕ} → r ≡ Accepted n m → m ≤ 8
-  pub left : {f : Refusal} {l : ℕ} → r ≡ Refused f l → y ≡ replicate 976 0
+  pub left : {f : Refusal} {l : ℕ} → r ≡ Refused f l → y ≡ replicate tableLength 0

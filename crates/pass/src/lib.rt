@@ -9,8 +9,12 @@ ghost use Rattle.names.specs.Names.{networkOf, connmanName};
 ghost use Rattle.rules.specs.Reading.{nameIn};
 ghost use Rattle.reader.specs.Ending.{kindOfName};
 ghost use Rattle.pass.specs.Pass.{Walks, ReadsKind, Reads};
+ghost use Rattle.reader.specs.Store.{fileLimit, tableLength};
 use reader::Current;
+use reader::FILE_LIMIT;
 use reader::FileKind;
+use reader::PLACES;
+use reader::Places;
 use reader::State;
 use reader::Stepped;
 use rules::Reading;
@@ -54,9 +58,9 @@ fn kind_of(d: Dialect, name: &[u8]) -> FileKind
 }
 
 // Walks over the lines of a file, and stops at the first faulty one.
-fn walk(d: Dialect, file: &[u8], x: &mut [u16; 976]) -> Walked
-    requires small { ⌜ length (now file) ≤ 16384 ⌝ }
-    requires empty { ⌜ now x ≡ replicate 976 0 ⌝ }
+fn walk(d: Dialect, file: &[u8], x: &mut Places) -> Walked
+    requires small { ⌜ length (now file) ≤ fileLimit ⌝ }
+    requires empty { ⌜ now x ≡ replicate tableLength 0 ⌝ }
     ensures { λ r. ⌜ Walks d (now (file .entry)) (now (x .exit)) r ⌝ }
 {
     let mut st = State {
@@ -84,9 +88,9 @@ fn walk(d: Dialect, file: &[u8], x: &mut [u16; 976]) -> Walked
 }
 
 // The reading of a file whose size is allowed and whose name says this kind.
-fn read_kind(kind: FileKind, d: Dialect, file: &[u8], x: &mut [u16; 976]) -> Reading
-    requires small { ⌜ length (now file) ≤ 16384 ⌝ }
-    requires empty { ⌜ now x ≡ replicate 976 0 ⌝ }
+fn read_kind(kind: FileKind, d: Dialect, file: &[u8], x: &mut Places) -> Reading
+    requires small { ⌜ length (now file) ≤ fileLimit ⌝ }
+    requires empty { ⌜ now x ≡ replicate tableLength 0 ⌝ }
     ensures { λ r. ⌜ ReadsKind kind d (now (file .entry)) (now (x .exit)) r ⌝ }
 {
     if let FileKind::Misnamed = kind {
@@ -101,11 +105,11 @@ fn read_kind(kind: FileKind, d: Dialect, file: &[u8], x: &mut [u16; 976]) -> Rea
 
 // Reads a file, and leaves where its settings stand, those of each service in a row of their own, in the table. A refusal
 // leaves the table as it was, empty.
-pub fn read(d: Dialect, name: &[u8], file: &[u8], x: &mut [u16; 976]) -> Reading
-    requires empty { ⌜ now x ≡ replicate 976 0 ⌝ }
+pub fn read(d: Dialect, name: &[u8], file: &[u8], x: &mut Places) -> Reading
+    requires empty { ⌜ now x ≡ replicate tableLength 0 ⌝ }
     ensures { λ r. ⌜ Reads d (now (name .entry)) (now (file .entry)) (now (x .exit)) r ⌝ }
 {
-    if 16384 < file.len() {
+    if FILE_LIMIT < file.len() {
         return Reading::Refused(Refusal::Size, 0);
     }
     let kind = kind_of(d, name);
@@ -113,7 +117,7 @@ pub fn read(d: Dialect, name: &[u8], file: &[u8], x: &mut [u16; 976]) -> Reading
     match reading {
         Reading::Accepted(settings, services) => Reading::Accepted(settings, services),
         Reading::Refused(refusal, line) => {
-            *x = [0; 976];
+            *x = [0; PLACES];
             Reading::Refused(refusal, line)
         }
     }

@@ -15,7 +15,7 @@ use Rattle.rules.specs.Tables.{kindOf}
 use Rattle.rules.specs.Lookups.{keyNames}
 use Rattle.rules.specs.Faults.{Entry, Section, given, withEntry, services}
 use Rattle.rules.specs.declared.Group.{Group}
-use Rattle.reader.specs.Store.{Slot, slot, stored}
+use Rattle.reader.specs.Store.{slotCount, Slot, slot, stored}
 use Rattle.reader.specs.History.{nameBase, baseAt, Own, groupAt, rowAfter, latest}
 use Rattle.reader.specs.Holds.{Stands, Row, Spans, among, Holds}
 use Rattle.reader.specs.declared.State.{State}
@@ -40,10 +40,10 @@ module _ {d : Dialect} {file : List ℕ} {st : State} {x : List ℕ} {s : Sectio
   low : Lies d (rowAfter s gs)
   low = lies d (rowAfter s gs) (own-row d (s .name) (h .table .rows .well .0) (services (s ∷ gs)) (h .table .rows .few))
 
-  small : here < 225
+  small : here < nameBase
   small = let o = low in omega (arith, keys-few (s .group) k)
 
-  there : (j : ℕ) → j < 244 → (j ≡ here → ⊥) → slot j (stored here p x) ≡ slot j x
+  there : (j : ℕ) → j < slotCount → (j ≡ here → ⊥) → slot j (stored here p x) ≡ slot j x
   there j r n = stored-there x here p (h .table .long) (omega (arith, small)) j r n
 
   named : (i : ℕ) → i < st .services → slot (nameBase + i) (stored here p x) ≡ slot (nameBase + i) x

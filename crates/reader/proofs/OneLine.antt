@@ -26,8 +26,8 @@ use Rattle.rules.specs.Faults.{Entry, Section, given, keyFault, valueFault, fau
 use Rattle.rules.specs.declared.Group.{Group}
 use Rattle.rules.specs.declared.Refusal.{Refusal}
 use Rattle.rules.specs.declared.Refusal.the-variants.{RepeatedKey}
-use Rattle.reader.specs.Store.{Slot, stored, Fits}
-use Rattle.reader.specs.History.{baseAt, rowAfter, currentOf}
+use Rattle.reader.specs.Store.{fileLimit, lastRow, Slot, stored, Fits}
+use Rattle.reader.specs.History.{nameBase, baseAt, rowAfter, currentOf}
 use Rattle.reader.specs.Holds.{codeOf, Coded, Stands, Rows, Holds}
 use Rattle.reader.specs.Says.{valueCode, NewSetting, CurrentRow}
 use Rattle.reader.specs.Steps.{GoodSetting, LineIs, LineSays, Known, StepIs, Steps}
@@ -42,10 +42,10 @@ use Rattle.reader.proofs.SettingLine.{Head, head}
 use Rattle.reader.proofs.Growing.{holds-setting}
 
 -- a place in a file of allowed size fits the table
-pub fits-within : {n a e l : ℕ} → a ≤ e → e ≤ n → n ≤ 16384 → l ≤ 16384 → Fits a e l
+pub fits-within : {n a e l : ℕ} → a ≤ e → e ≤ n → n ≤ fileLimit → l ≤ fileLimit → Fits a e l
 fits-within p q r s = record { low = omega (arith, p, q, r); high = omega (arith, q, r); counted = omega (arith, s) }
 
-rows-base : {d : Dialect} {file x : List ℕ} (s : Section) (gs : List Section) {b : ℕ} → baseAt (rowAfter s gs) ≡ b → Rows d file x (s ∷ gs) → b ≤ 200
+rows-base : {d : Dialect} {file x : List ℕ} (s : Section) (gs : List Section) {b : ℕ} → baseAt (rowAfter s gs) ≡ b → Rows d file x (s ∷ gs) → b ≤ lastRow
 rows-base {d} s gs e h = let o = lies d (rowAfter s gs) (own-row d (s .name) (h .well .0) (services (s ∷ gs)) (h .few)) in omega (arith, e)
 
 -- the row of the group in force lies in the table
@@ -129,7 +129,7 @@ module _ {d : Dialect} {file : List ℕ} {st : State} {x : List ℕ} {s : ℕ} {
     pub value-inside : Known d file st x → Inside (length file) p
     value-inside k = good (k .holds) .inside
 
-    pub slot-few : Known d file st x → i < 225
+    pub slot-few : Known d file st x → i < nameBase
     slot-few k = let u = good (k .holds) .new in omega (arith, u .is, current-row k .row (u .group) (u .row) (k .holds .current ∙ u .in-force), keys-few (u .group) (good (k .holds) .key))
 
     module _ {n : ℕ} (first : 0 < n) {r : State} (e : r ≡ record { current = st .current; services = st .services; settings = st .settings + 1 }) where

@@ -21,7 +21,7 @@ use Rattle.rules.specs.Faults.{Entry, Section, nameGiven, serves, services}
 use Rattle.rules.specs.Groups.{entriesIn}
 use Rattle.rules.specs.declared.Group.{Group}
 use Rattle.rules.specs.declared.Group.the-variants.{Settings, Security, Ipv4, Ipv6, Global, Service}
-use Rattle.reader.specs.Store.{Slot, slot, stored}
+use Rattle.reader.specs.Store.{slotCount, Slot, slot, stored}
 use Rattle.reader.specs.History.{nameBase, rowOf, baseAt, Own, groupAt, rowAfter, latest, headSlot}
 use Rattle.reader.specs.Holds.{Row, WellNamed, Table, Holds}
 use Rattle.reader.specs.Steps.{header}
@@ -140,7 +140,7 @@ latest-new (s ∷ gs) r h = rw (ne-eqb r (rowAfter s gs) (λ e. omega (arith, e,
 
 module _ {d : Dialect} {file x : List ℕ} {gs : List Section} (t : Table d file x gs) where
   -- a slot behind the rows
-  pub table-named : (i : ℕ) (p : Slot) → 225 ≤ i → i < 244 → Table d file (stored i p x) gs
+  pub table-named : (i : ℕ) (p : Slot) → nameBase ≤ i → i < slotCount → Table d file (stored i p x) gs
   table-named i p low high =
       record {
         long = stored-long x i p (t .long) high;
@@ -148,7 +148,7 @@ module _ {d : Dialect} {file x : List ℕ} {gs : List Section} (t : Table d file
         heads = λ r l. there (baseAt r) (let o = lies d r l in omega arith) ∙ t .heads r l;
       }
     where
-      there : (j : ℕ) → j < 225 → slot j (stored i p x) ≡ slot j x
+      there : (j : ℕ) → j < nameBase → slot j (stored i p x) ≡ slot j x
       there j k = stored-there x i p (t .long) high j (omega (arith, k)) (λ e. omega (arith, e, k, low))
 
   module _ (n : List ℕ) (g : Group) (s l : ℕ) where
@@ -159,7 +159,7 @@ module _ {d : Dialect} {file x : List ℕ} {gs : List Section} (t : Table d file
       low : Lies d (rowAfter this gs)
       low = lies d (rowAfter this gs) (own-row d n q (services (this ∷ gs)) few)
 
-      pub there : (j : ℕ) → j < 244 → (j ≡ baseAt (rowAfter this gs) → ⊥) → slot j (stored (baseAt (rowAfter this gs)) (header s l) x) ≡ slot j x
+      pub there : (j : ℕ) → j < slotCount → (j ≡ baseAt (rowAfter this gs) → ⊥) → slot j (stored (baseAt (rowAfter this gs)) (header s l) x) ≡ slot j x
       there j k e = stored-there x (baseAt (rowAfter this gs)) (header s l) (t .long) (let o = low in omega arith) j k e
 
       row-of : latest (rowAfter this gs) gs ≡ [] → (r : ℕ) → Own d r → (b : Bool) → eqb r (rowAfter this gs) ≡ b → Row d file (stored (baseAt (rowAfter this gs)) (header s l) x) (baseAt r) (groupAt r) (cond b [] (latest r gs))

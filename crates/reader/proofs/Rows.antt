@@ -21,7 +21,7 @@ use Rattle.rules.specs.Faults.{Entry, Section, given, serves, services}
 use Rattle.rules.specs.Groups.{entryOf}
 use Rattle.rules.specs.declared.Group.{Group}
 use Rattle.rules.specs.declared.Group.the-variants.{Settings, Security, Ipv4, Ipv6, Global, Service}
-use Rattle.reader.specs.Store.{Slot, slot, emptySlot, stored}
+use Rattle.reader.specs.Store.{lastRow, rowLength, tableLength, Slot, slot, emptySlot, stored}
 use Rattle.reader.specs.History.{rowOf, baseAt, Own, groupAt, rowAfter, latest}
 use Rattle.reader.specs.Holds.{Stands, Kept, Row, Rows}
 use Rattle.reader.proofs.Slots.{stored-here, stored-there}
@@ -67,7 +67,7 @@ few Ipv6 = omega arith
 few Global = omega arith
 few Service = omega arith
 
-pub keys-few : (g : Group) (k : List ℕ) → place k (keyNames g) < 25
+pub keys-few : (g : Group) (k : List ℕ) → place k (keyNames g) < rowLength
 keys-few g k = let m : place k (keyNames g) ≤ length (keyNames g) = place-most k (keyNames g) in omega (arith, m, few g)
 
 -- ---- settings, one more
@@ -112,7 +112,7 @@ module _ {d : Dialect} {file x : List ℕ} {b : ℕ} {g : Group} {es : List Entr
   pub row-kept : {y : List ℕ} → ((k : List ℕ) → (place k (keyNames g) ≡ 0 → ⊥) → slot (b + place k (keyNames g)) y ≡ slot (b + place k (keyNames g)) x) → Row d file y b g es
   row-kept {y} kept = record { each = λ k z. rw (kept k z) (h .each k z) }
 
-  module _ (long : length x ≡ 976) (k : List ℕ) (r : b ≤ 200) (free : given k es ≡ false) where
+  module _ (long : length x ≡ tableLength) (k : List ℕ) (r : b ≤ lastRow) (free : given k es ≡ false) where
     pub row-put : {e : Entry} {s : Slot} → e .key ≡ k → Stands d (kindOf g k) file s e → Row d file (stored (b + place k (keyNames g)) s x) b g (es ++ (e ∷ []))
     row-put {e} {s} q w = record { each = λ m y. go m y (same m k) refl }
       where
@@ -143,7 +143,7 @@ shift Iwd = 0
 shift ConnMan = 4
 
 pub record Lies (d : Dialect) (r : ℕ) : Type 0 where
-  pub is : baseAt r ≡ 25 * (r - shift d)
+  pub is : baseAt r ≡ rowLength * (r - shift d)
   pub low : shift d ≤ r
   pub high : r < shift d + 9
 

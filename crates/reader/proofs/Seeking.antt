@@ -8,6 +8,7 @@ use Rattle.text.specs.Parts.{part}
 use Rattle.text.specs.Words.{same}
 use Rattle.reader.specs.Store.{slot}
 use Rattle.reader.specs.Holds.{among}
+use Rattle.reader.specs.History.{nameBase}
 
 pub record Seeking (file x : List ℕ) (n i : ℕ) (w : List ℕ) : Type 0 where
   pub few : i ≤ n
@@ -17,7 +18,7 @@ module _ {file x : List ℕ} {n i : ℕ} {w : List ℕ} (h : Seeking file x n i 
   pub seeking-end : i ≤ 0 → false ≡ among file x n w
   seeking-end l = let z : i ≡ 0 = omega arith in sym (ap (λ (m : ℕ). among file x m w) z) ∙ h .rest
 
-  module _ (l : 0 < i) {b : Bool} (q : b ≡ same w (part (slot (225 + (i - 1)) x .start) (slot (225 + (i - 1)) x .end) file)) where
+  module _ (l : 0 < i) {b : Bool} (q : b ≡ same w (part (slot (nameBase + (i - 1)) x .start) (slot (nameBase + (i - 1)) x .end) file)) where
     step : among file x n w ≡ (b || among file x (i - 1) w)
     step = let z : i ≡ suc (i - 1) = omega arith in sym (h .rest) ∙ ap (λ (m : ℕ). among file x m w) z ∙ ap (λ (t : Bool). t || among file x (i - 1) w) (sym q)
 

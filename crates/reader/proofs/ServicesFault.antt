@@ -17,7 +17,7 @@ use Rattle.rules.specs.GoodEntries.{serves-service}
 use Rattle.rules.specs.declared.Group.{Group}
 use Rattle.rules.specs.declared.Group.the-variants.{Settings, Security, Ipv4, Ipv6, Global, Service}
 use Rattle.rules.specs.declared.Refusal.{Refusal}
-use Rattle.reader.specs.Store.{Slot, slot}
+use Rattle.reader.specs.Store.{rowLength, Slot, slot}
 use Rattle.reader.specs.History.{rowOf, baseAt, groupAt, rowAfter, latest, headSlot, allFault}
 use Rattle.reader.specs.Holds.{Row, Table}
 use Rattle.reader.specs.Closing.{slotsRule, slotsFaultAt, slotsFault, ruleAnswer, pendingOf}
@@ -38,10 +38,10 @@ rowsFault gs zero = none
 rowsFault gs (suc n) = orElse (rowsFault gs n) (rowFault (4 + suc n) gs)
 
 module _ {file x : List ℕ} {gs : List Section} (t : Table ConnMan file x gs) where
-  row-fault : (n : ℕ) → n < 8 → slotsFaultAt x (25 + 25 * n) ≡ rowFault (4 + suc n) gs
+  row-fault : (n : ℕ) → n < 8 → slotsFaultAt x (rowLength + rowLength * n) ≡ rowFault (4 + suc n) gs
   row-fault n l =
       let own : (4 ≤ 4 + suc n) × (4 + suc n < 13) = (omega arith, omega (arith, l)) in
-      let at : 25 + 25 * n ≡ baseAt (4 + suc n) = (let o = lies ConnMan (4 + suc n) own in omega arith) in
+      let at : rowLength + rowLength * n ≡ baseAt (4 + suc n) = (let o = lies ConnMan (4 + suc n) own in omega arith) in
       rw (at, ap (λ (s : Slot). s .line) (t .heads (4 + suc n) own), row-rule (subst (λ (g : Group). Row ConnMan file x (baseAt (4 + suc n)) g (latest (4 + suc n) gs)) (group-at Service (suc n) (λ e. omega arith)) (t .rows .each (4 + suc n) own)))
 
   rows-fault : (n : ℕ) → n ≤ 8 → slotsFault x n ≡ rowsFault gs n
@@ -104,11 +104,11 @@ answer-obeyed : (o : Option Refusal) {r : Rule} → r ≡ ruleAnswer o → OneOf
 answer-obeyed none e n = refl
 answer-obeyed (some f) e n = absurd (miss (0 ∷ []) 1 tt (subst (λ (q : Rule). OneOf (0 ∷ []) (tagOf the-type q)) e n))
 
-module _ (x : List ℕ) (i : ℕ) (h : slotsFault x i ≡ none) {r : Rule} (q : r ≡ ruleAnswer (slotsRule x (25 + 25 * i))) where
-  pub fault-broken : {f : Refusal} → r ≡ R.Broken f → (n : ℕ) → i < n → {m : ℕ} → m ≡ slot (25 + 25 * i) x .line → P.At f m ≡ pendingOf (slotsFault x n)
+module _ (x : List ℕ) (i : ℕ) (h : slotsFault x i ≡ none) {r : Rule} (q : r ≡ ruleAnswer (slotsRule x (rowLength + rowLength * i))) where
+  pub fault-broken : {f : Refusal} → r ≡ R.Broken f → (n : ℕ) → i < n → {m : ℕ} → m ≡ slot (rowLength + rowLength * i) x .line → P.At f m ≡ pendingOf (slotsFault x n)
   fault-broken {f} e n k {m} w =
-      let here : slotsFault x (suc i) ≡ some (record { refusal = f; line = m }) = rw (h, answer-broken (slotsRule x (25 + 25 * i)) (sym q ∙ e), w) in
+      let here : slotsFault x (suc i) ≡ some (record { refusal = f; line = m }) = rw (h, answer-broken (slotsRule x (rowLength + rowLength * i)) (sym q ∙ e), w) in
       sym (ap pendingOf (fault-kept x (suc i) n here (omega (arith, k))))
 
   pub fault-next : OneOf (0 ∷ []) (tagOf the-type r) → slotsFault x (i + 1) ≡ none
-  fault-next n = let s : i + 1 ≡ suc i = omega arith in ap (slotsFault x) s ∙ rw (h, answer-obeyed (slotsRule x (25 + 25 * i)) q n)
+  fault-next n = let s : i + 1 ≡ suc i = omega arith in ap (slotsFault x) s ∙ rw (h, answer-obeyed (slotsRule x (rowLength + rowLength * i)) q n)

@@ -29,8 +29,8 @@ use Rattle.rules.specs.declared.Group.the-variants.{Settings, Security, Ipv4, I
 use Rattle.rules.specs.declared.Listed.{Listed}
 use Rattle.rules.specs.declared.Listed.the-variants as L
 use Rattle.rules.specs.declared.Refusal.the-variants.{NoGroup, UnknownKey, RepeatedKey, ValueText, ValueKind}
-use Rattle.reader.specs.Store.{slot}
-use Rattle.reader.specs.History.{baseAt, rowAfter, currentOf}
+use Rattle.reader.specs.Store.{linesFrom, slot}
+use Rattle.reader.specs.History.{nameBase, baseAt, rowAfter, currentOf}
 use Rattle.reader.specs.Holds.{Row, Rows}
 use Rattle.reader.specs.Says.{NewSetting, SettingIs, CurrentRow, SettingSays}
 use Rattle.reader.specs.declared.Current.{Current}
@@ -115,18 +115,18 @@ module _ (d : Dialect) (file x : List ℕ) (c : Current) (key value : Place) whe
       placed : place (partAt file key) (keyNames g) ≡ 0 → ⊥
       placed = kind-placed g (partAt file key) (known .1)
 
-      whether : (gs : List Section) → Row d file x b g (inForce gs) → {t : Bool} → eqb (getD x (488 + (b + n)) 0) 0 ≡ t → given (partAt file key) (inForce gs) ≡ not t
+      whether : (gs : List Section) → Row d file x b g (inForce gs) → {t : Bool} → eqb (getD x (linesFrom + (b + n)) 0) 0 ≡ t → given (partAt file key) (inForce gs) ≡ not t
       whether gs row {t} l =
-          let at : eqb (getD x (488 + (b + place (partAt file key) (keyNames g))) 0) 0 ≡ t = rw (known .0) l in
+          let at : eqb (getD x (linesFrom + (b + place (partAt file key) (keyNames g))) 0) 0 ≡ t = rw (known .0) l in
           given-entry (partAt file key) (inForce gs) ∙ kept-given d (kindOf g (partAt file key)) file (slot (b + place (partAt file key) (keyNames g)) x) (entryOf (partAt file key) (inForce gs)) (row .each (partAt file key) placed) at
 
-      pub slot-small : CurrentRow x c → b + n < 225
+      pub slot-small : CurrentRow x c → b + n < nameBase
       slot-small h = omega (arith, h .row g b q, known .0, keys-few g (partAt file key))
 
-      pub setting-repeated : (getD x (488 + (b + n)) 0 ≡ 0 → ⊥) → SettingSays d file x c key value (Refused RepeatedKey)
+      pub setting-repeated : (getD x (linesFrom + (b + n)) 0 ≡ 0 → ⊥) → SettingSays d file x c key value (Refused RepeatedKey)
       setting-repeated l = record { says = λ gs e rows. faulty gs e ∙ rw (known .1, whether gs (row-in-force gs (head gs e q) rows) (ne-eqb _ 0 l)) }
 
-      module _ (l : getD x (488 + (b + n)) 0 ≡ 0) {j : Judgement} (s : j ≡ judgementAt value (judged d kind (partAt file value))) where
+      module _ (l : getD x (linesFrom + (b + n)) 0 ≡ 0) {j : Judgement} (s : j ≡ judgementAt value (judged d kind (partAt file value))) where
         judging : (gs : List Section) → c ≡ currentOf gs → Rows d file x gs → fault d gs (setting (partAt file key) (partAt file value)) ≡ valueFault (judged d kind (partAt file value))
         judging gs e rows = faulty gs e ∙ rw (known .1, whether gs (row-in-force gs (head gs e q) rows) (eq-eqb _ 0 l))
 

@@ -15,7 +15,7 @@ use Rattle.text.specs.declared.Dialect.the-variants.{ConnMan}
 use Rattle.kinds.specs.declared.Kind.{Kind}
 use Rattle.rules.specs.Faults.{Entry, Section, serves, services}
 use Rattle.rules.specs.Asking.{firstOr, serviceAt, readAs, lineIn, startIn}
-use Rattle.reader.specs.Store.{Slot}
+use Rattle.reader.specs.Store.{lastRow, rowLength, Slot}
 use Rattle.reader.specs.History.{rowOf, base, rowAfter, latest, numbered}
 use Rattle.reader.specs.Holds.{Kept, Row, Table}
 use Rattle.rules.specs.GoodEntries.{serves-service}
@@ -115,10 +115,10 @@ numbered-row {file} {x} {gs} t w l =
     subst (λ (es : List Entry). Row ConnMan file x (base Service w) Service es) (numbered-latest w (l .0) gs)
     (subst (λ (g : Group). Row ConnMan file x (base Service w) g (latest (4 + w) gs)) (group-at Service w (λ e. l .0)) (t .rows .each (4 + w) (omega arith, omega (arith, l .1))))
 
-pub service-base : (n : ℕ) → base Service n ≡ 25 * n
+pub service-base : (n : ℕ) → base Service n ≡ rowLength * n
 service-base n = rw (le-leb 4 (4 + n) (omega arith)) (omega arith)
 
-pub base-few : (g : Group) (n : ℕ) → n ≤ 8 → base g n ≤ 200
+pub base-few : (g : Group) (n : ℕ) → n ≤ 8 → base g n ≤ lastRow
 base-few Settings n l = omega arith
 base-few Security n l = omega arith
 base-few Ipv4 n l = omega arith

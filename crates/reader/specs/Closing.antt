@@ -12,7 +12,7 @@ use Rattle.kinds.specs.declared.Word.{Word}
 use Rattle.kinds.specs.declared.Word.the-variants.{Wifi, Ethernet, Psk, None}
 use Rattle.rules.specs.Groups.{Fault, faultAt, wordNumber, lackOrClash}
 use Rattle.rules.specs.declared.Refusal.{Refusal}
-use Rattle.reader.specs.Store.{Slot, slot}
+use Rattle.reader.specs.Store.{tableLength, rowLength, lastRow, Slot, slot}
 use Rattle.reader.specs.Keys.{placeOf}
 use Rattle.reader.specs.declared.KeyName.{KeyName}
 use Rattle.reader.specs.declared.KeyName.the-variants as N
@@ -23,8 +23,8 @@ use Rattle.reader.specs.declared.Pending.the-variants as P
 
 -- a row from b on lies in the table
 pub record InTable (x : List ℕ) (b : ℕ) : Type 0 where
-  pub long : length x ≡ 976
-  pub row : b ≤ 200
+  pub long : length x ≡ tableLength
+  pub row : b ≤ lastRow
 
 -- what the row from b on keeps of a key
 abbrev pub keySlot : List ℕ → ℕ → KeyName → Slot
@@ -79,4 +79,4 @@ slotsFaultAt x b = faultAt (slot b x .line) (slotsRule x b)
 
 abbrev pub slotsFault : List ℕ → ℕ → Option Fault
 slotsFault x zero = none
-slotsFault x (suc n) = orElse (slotsFault x n) (slotsFaultAt x (25 + 25 * n))
+slotsFault x (suc n) = orElse (slotsFault x n) (slotsFaultAt x (rowLength + rowLength * n))

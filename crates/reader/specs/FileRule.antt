@@ -6,13 +6,15 @@ use mathlib.Core.Option.{Option}
 use Rattle.names.specs.declared.Suffix.{Suffix}
 use Rattle.rules.specs.Groups.{isOpen, lackOrClash}
 use Rattle.rules.specs.declared.Refusal.{Refusal}
+use Rattle.rules.specs.declared.Group.the-variants.{Security, Ipv4}
+use Rattle.reader.specs.History.{base}
 use Rattle.reader.specs.Closing.{isTaken}
 use Rattle.reader.specs.declared.KeyName.the-variants as N
 
 -- ---- the slots of Passphrase and PreSharedKey
 
 abbrev pub slotsSecret : List ℕ → Bool
-slotsSecret x = isTaken x 25 N.IwdPassphrase || isTaken x 25 N.PreSharedKey
+slotsSecret x = isTaken x (base Security 0) N.IwdPassphrase || isTaken x (base Security 0) N.PreSharedKey
 
 abbrev pub slotsSecretless : Suffix → List ℕ → Bool
 slotsSecretless s x = not (isOpen s) && not (slotsSecret x)
@@ -20,10 +22,10 @@ slotsSecretless s x = not (isOpen s) && not (slotsSecret x)
 -- ---- the slots of Address, Gateway, Broadcast and Netmask
 
 abbrev pub slotsGatewayless : List ℕ → Bool
-slotsGatewayless x = isTaken x 50 N.Address && not (isTaken x 50 N.Gateway)
+slotsGatewayless x = isTaken x (base Ipv4 0) N.Address && not (isTaken x (base Ipv4 0) N.Gateway)
 
 abbrev pub slotsAddressless : List ℕ → Bool
-slotsAddressless x = (isTaken x 50 N.Gateway || (isTaken x 50 N.Netmask || isTaken x 50 N.Broadcast)) && not (isTaken x 50 N.Address)
+slotsAddressless x = (isTaken x (base Ipv4 0) N.Gateway || (isTaken x (base Ipv4 0) N.Netmask || isTaken x (base Ipv4 0) N.Broadcast)) && not (isTaken x (base Ipv4 0) N.Address)
 
 -- ---- the rules
 

@@ -11,11 +11,12 @@ use Rattle.rules.specs.Faults.{Entry, Section, services, serves}
 use Rattle.rules.specs.Groups.{Fault, sectionFault}
 use Rattle.rules.specs.declared.Group.{Group}
 use Rattle.rules.specs.declared.Group.the-variants.{Settings, Security, Ipv4, Ipv6, Global, Service}
-use Rattle.reader.specs.Store.{Slot, emptySlot}
+use Rattle.reader.specs.Store.{rowLength, lastRow, Slot, emptySlot}
 use Rattle.reader.specs.declared.Current.{Current}
 use Rattle.reader.specs.declared.Current.the-variants.{Outside, In}
 
--- the row of a group in the table of places, n services counted: 25 slots from its base on, the first for its header, the others by the keys' places
+-- the row of a group in the table of places, n services counted; the first slot of a row is for its
+-- header, the others are by the keys' places
 abbrev pub rowOf : Group → ℕ → ℕ
 rowOf Settings n = 0
 rowOf Security n = 1
@@ -26,7 +27,7 @@ rowOf Service n = 4 + n
 
 -- where a row starts; the rows of the two dialects lie over each other, since a file has one
 abbrev pub baseAt : ℕ → ℕ
-baseAt r = cond (leb 4 r) (25 * (r - 4)) (25 * r)
+baseAt r = cond (leb 4 r) (rowLength * (r - 4)) (rowLength * r)
 
 abbrev pub base : Group → ℕ → ℕ
 base g n = baseAt (rowOf g n)
@@ -37,7 +38,7 @@ Own Iwd r = r < 4
 Own ConnMan r = (4 ≤ r) × (r < 13)
 
 abbrev pub nameBase : ℕ
-nameBase = 225
+nameBase = lastRow + rowLength
 
 unfoldable pub groupAt : ℕ → Group
 groupAt r = cond (eqb r 0) Settings (cond (eqb r 1) Security (cond (eqb r 2) Ipv4 (cond (eqb r 3) Ipv6 (cond (eqb r 4) Global Service))))

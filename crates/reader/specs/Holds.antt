@@ -18,7 +18,7 @@ use Rattle.rules.specs.Groups.{Fault, entryOf, wordNumber}
 use Rattle.rules.specs.Reading.{settings}
 use Rattle.rules.specs.declared.Group.{Group}
 use Rattle.rules.specs.declared.Group.the-variants.{Service}
-use Rattle.reader.specs.Store.{Slot, slot, emptySlot}
+use Rattle.reader.specs.Store.{tableLength, Slot, slot, emptySlot}
 use Rattle.reader.specs.History.{baseAt, Own, nameBase, groupAt, currentOf, latest, headSlot}
 use Rattle.reader.specs.declared.State.{State}
 
@@ -86,7 +86,7 @@ among file x (suc i) w = same w (part (slot (nameBase + i) x .start) (slot (name
 
 -- where the settings and the header of each group stand
 pub record Table (d : Dialect) (file x : List ℕ) (gs : List Section) : Type 0 where
-  pub long : length x ≡ 976
+  pub long : length x ≡ tableLength
   pub rows : Rows d file x gs
   pub heads : (r : ℕ) → Own d r → slot (baseAt r) x ≡ headSlot r gs
 

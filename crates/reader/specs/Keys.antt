@@ -17,6 +17,7 @@ use Rattle.rules.specs.declared.Group.{Group}
 use Rattle.rules.specs.declared.Group.the-variants as G
 use Rattle.reader.specs.declared.KeyName.{KeyName}
 use Rattle.reader.specs.declared.KeyName.the-variants as N
+use Rattle.reader.specs.Store.{rowLength}
 
 -- a key's group, its word, its kind, and its place in the row
 pub record Key : Type 0 where
@@ -74,7 +75,7 @@ placeOf k = keyOf k .slot
 pub record Listed (k : Key) : Type 0 where
   pub placed : place (k .name) (keyNames (k .group)) ≡ k .slot
   pub kind : T.kindOf (k .group) (k .name) ≡ some (k .kind)
-  pub few : (0 < k .slot) × (k .slot < 25)
+  pub few : (0 < k .slot) × (k .slot < rowLength)
 
 listed : (k : KeyName) → Listed (keyOf k)
 unfolding keysOf
@@ -115,5 +116,5 @@ key-placed k = listed k .placed
 pub key-kind : (k : KeyName) → T.kindOf (groupOf k) (wordOf k) ≡ some (kindOf k)
 key-kind k = listed k .kind
 
-pub key-few : (k : KeyName) → (0 < placeOf k) × (placeOf k < 25)
+pub key-few : (k : KeyName) → (0 < placeOf k) × (placeOf k < rowLength)
 key-few k = listed k .few

@@ -26,6 +26,7 @@ use Rattle.reader.specs.declared.Current.{Current}
 use Rattle.reader.specs.declared.Current.the-variants.{Outside, In}
 use Rattle.reader.specs.declared.Line.{Line}
 use Rattle.reader.specs.declared.Line.the-variants.{Blank, Comment, Header, Setting, Refused}
+use Rattle.reader.specs.Store.{tableLength, lastRow}
 
 -- a good setting: its slot is that of its key in the group in force, and v is what its kind reads at p from the bytes b
 pub record NewSetting (d : Dialect) (gs : List Section) (k b : List ℕ) (i : ℕ) (p : Place) (v : Value) : Type 0 where
@@ -54,8 +55,8 @@ valueCode (X.Text p) = 0
 
 -- the row of the group in force lies in the table
 pub record CurrentRow (x : List ℕ) (c : Current) : Type 0 where
-  pub long : length x ≡ 976
-  pub row : (g : Group) (b : ℕ) → c ≡ In g b → b ≤ 200
+  pub long : length x ≡ tableLength
+  pub row : (g : Group) (b : ℕ) → c ≡ In g b → b ≤ lastRow
 
 pub record SettingSays (d : Dialect) (file x : List ℕ) (c : Current) (key value : Place) (r : Line) : Type 0 where
   pub says : (gs : List Section) → c ≡ currentOf gs → Rows d file x gs → SettingIs d file gs key value r

@@ -3,8 +3,12 @@ ghost use mathlib.Core.Path.{_≡_};
 ghost use Prim.Native.Nat.{_≤_};
 ghost use lib.ListN.{length};
 ghost use Rattle.reader.specs.Closing.{InTable, slotsUnnamed, slotsKeyless, slotsLack, slotsWireless, slotsClash, slotsRule, ruleAnswer, pendingOf, slotsFault};
+ghost use Rattle.reader.specs.Store.{tableLength};
 use crate::KeyName;
+use crate::LINES;
 use crate::Pending;
+use crate::Places;
+use crate::ROW;
 use crate::Rule;
 use crate::services::both;
 use crate::services::either;
@@ -15,7 +19,7 @@ use kinds::Word;
 use rules::Refusal;
 
 // Whether a wireless service has neither a name nor an SSID.
-fn unnamed(x: &[u16; 976], row: usize) -> bool
+fn unnamed(x: &Places, row: usize) -> bool
     requires { ⌜ InTable (now x) row ⌝ }
     ensures { λ r. ⌜ r ≡ slotsUnnamed (now (x .entry)) row ⌝ }
 {
@@ -27,7 +31,7 @@ fn unnamed(x: &[u16; 976], row: usize) -> bool
 }
 
 // Whether a service needs a passphrase and has none.
-fn keyless(x: &[u16; 976], row: usize) -> bool
+fn keyless(x: &Places, row: usize) -> bool
     requires { ⌜ InTable (now x) row ⌝ }
     ensures { λ r. ⌜ r ≡ slotsKeyless (now (x .entry)) row ⌝ }
 {
@@ -36,7 +40,7 @@ fn keyless(x: &[u16; 976], row: usize) -> bool
 }
 
 // Whether something needed is missing in a service.
-fn lacks(x: &[u16; 976], row: usize) -> bool
+fn lacks(x: &Places, row: usize) -> bool
     requires { ⌜ InTable (now x) row ⌝ }
     ensures { λ r. ⌜ r ≡ slotsLack (now (x .entry)) row ⌝ }
 {
@@ -47,7 +51,7 @@ fn lacks(x: &[u16; 976], row: usize) -> bool
 }
 
 // Whether a service holds anything that only a wireless one may.
-fn is_wireless(x: &[u16; 976], row: usize) -> bool
+fn is_wireless(x: &Places, row: usize) -> bool
     requires { ⌜ InTable (now x) row ⌝ }
     ensures { λ r. ⌜ r ≡ slotsWireless (now (x .entry)) row ⌝ }
 {
@@ -63,7 +67,7 @@ fn is_wireless(x: &[u16; 976], row: usize) -> bool
 }
 
 // Whether the settings of a service contradict each other.
-fn clashes(x: &[u16; 976], row: usize) -> bool
+fn clashes(x: &Places, row: usize) -> bool
     requires { ⌜ InTable (now x) row ⌝ }
     ensures { λ r. ⌜ r ≡ slotsClash (now (x .entry)) row ⌝ }
 {
@@ -74,7 +78,7 @@ fn clashes(x: &[u16; 976], row: usize) -> bool
 }
 
 // The rules over a service: what is missing before what contradicts.
-fn service_rule(x: &[u16; 976], row: usize) -> Rule
+fn service_rule(x: &Places, row: usize) -> Rule
     requires { ⌜ InTable (now x) row ⌝ }
     ensures { λ r. ⌜ r ≡ ruleAnswer (slotsRule (now (x .entry)) row) ⌝ }
 {
@@ -88,16 +92,16 @@ fn service_rule(x: &[u16; 976], row: usize) -> Rule
 }
 
 // The first fault of the first n services.
-pub fn services_fault(x: &[u16; 976], n: usize) -> Pending
-    requires { ⌜ (length (now x) ≡ 976) × (n ≤ 8) ⌝ }
+pub fn services_fault(x: &Places, n: usize) -> Pending
+    requires { ⌜ (length (now x) ≡ tableLength) × (n ≤ 8) ⌝ }
     ensures { λ r. ⌜ r ≡ pendingOf (slotsFault (now (x .entry)) n) ⌝ }
 {
     let mut i = 0;
     while i < n {
-        let row = 25 + 25 * i;
+        let row = ROW + ROW * i;
         let rule = service_rule(x, row);
         if let Rule::Broken(refusal) = rule {
-            return Pending::At(refusal, wide(x[488 + row]));
+            return Pending::At(refusal, wide(x[LINES + row]));
         }
         i += 1;
     }

@@ -3,16 +3,18 @@ ghost use mathlib.Core.Path.{_≡_};
 ghost use Prim.Native.Nat.{_≤_};
 ghost use lib.ListN.{length};
 ghost use Rattle.reader.specs.Ending.{slotsGroups, answered, Ends};
+ghost use Rattle.reader.specs.Store.{tableLength};
 use crate::FileKind;
 use crate::Pending;
+use crate::Places;
 use crate::State;
 use crate::closing::services_fault;
 use crate::file_rules::file_fault;
 use rules::Reading;
 
 // The first fault of the groups: of the services in file order, or of an iwd file.
-fn groups_fault(kind: FileKind, x: &[u16; 976], services: usize) -> Pending
-    requires { ⌜ (length (now x) ≡ 976) × (services ≤ 8) ⌝ }
+fn groups_fault(kind: FileKind, x: &Places, services: usize) -> Pending
+    requires { ⌜ (length (now x) ≡ tableLength) × (services ≤ 8) ⌝ }
     ensures { λ r. ⌜ r ≡ slotsGroups kind (now (x .entry)) services ⌝ }
 {
     match kind {
@@ -32,8 +34,8 @@ fn answer(fault: Pending, settings: usize, services: usize) -> Reading
 }
 
 // The reading of a file of this kind whose lines are all good.
-pub fn ending(kind: FileKind, x: &[u16; 976], st: State) -> Reading
-    requires { ⌜ (length (now x) ≡ 976) × (st .services ≤ 8) ⌝ }
+pub fn ending(kind: FileKind, x: &Places, st: State) -> Reading
+    requires { ⌜ (length (now x) ≡ tableLength) × (st .services ≤ 8) ⌝ }
     ensures { λ r. ⌜ Ends kind st (now (x .entry)) r ⌝ }
 {
     let fault = groups_fault(kind, x, st.services);

@@ -4,18 +4,17 @@ ghost use lib.ListN.{length};
 ghost use Rattle.rules.specs.Groups.{isOpen, faultAt};
 ghost use Rattle.reader.specs.Closing.{pendingOf};
 ghost use Rattle.reader.specs.FileRule.{slotsSecret, slotsSecretless, slotsGatewayless, slotsAddressless, slotsFileLacks, slotsFileClashes, slotsFile};
+ghost use Rattle.reader.specs.Store.{tableLength};
+use crate::IPV4_ROW;
 use crate::KeyName;
 use crate::Pending;
+use crate::Places;
+use crate::SECURITY_ROW;
 use crate::services::both;
 use crate::services::either;
 use crate::services::taken;
 use names::Suffix;
 use rules::Refusal;
-
-// Where the rows of iwd's groups start.
-const SECURITY: usize = 25;
-
-const IPV4: usize = 50;
 
 // Whether the file's name says that its network is open.
 fn is_open(s: Suffix) -> bool
@@ -28,53 +27,53 @@ fn is_open(s: Suffix) -> bool
 }
 
 // Whether a passphrase or a key is given.
-fn has_secret(x: &[u16; 976]) -> bool
-    requires { ⌜ length (now x) ≡ 976 ⌝ }
+fn has_secret(x: &Places) -> bool
+    requires { ⌜ length (now x) ≡ tableLength ⌝ }
     ensures { λ r. ⌜ r ≡ slotsSecret (now (x .entry)) ⌝ }
 {
     either(
-        taken(x, SECURITY, KeyName::IwdPassphrase),
-        taken(x, SECURITY, KeyName::PreSharedKey),
+        taken(x, SECURITY_ROW, KeyName::IwdPassphrase),
+        taken(x, SECURITY_ROW, KeyName::PreSharedKey),
     )
 }
 
 // Whether a passphrase or a key is needed and neither is given.
-fn lacks_secret(suffix: Suffix, x: &[u16; 976]) -> bool
-    requires { ⌜ length (now x) ≡ 976 ⌝ }
+fn lacks_secret(suffix: Suffix, x: &Places) -> bool
+    requires { ⌜ length (now x) ≡ tableLength ⌝ }
     ensures { λ r. ⌜ r ≡ slotsSecretless suffix (now (x .entry)) ⌝ }
 {
     both(!is_open(suffix), !has_secret(x))
 }
 
 // Whether an address is given without its gateway.
-fn lacks_gateway(x: &[u16; 976]) -> bool
-    requires { ⌜ length (now x) ≡ 976 ⌝ }
+fn lacks_gateway(x: &Places) -> bool
+    requires { ⌜ length (now x) ≡ tableLength ⌝ }
     ensures { λ r. ⌜ r ≡ slotsGatewayless (now (x .entry)) ⌝ }
 {
     both(
-        taken(x, IPV4, KeyName::Address),
-        !taken(x, IPV4, KeyName::Gateway),
+        taken(x, IPV4_ROW, KeyName::Address),
+        !taken(x, IPV4_ROW, KeyName::Gateway),
     )
 }
 
 // Whether a gateway, a netmask or a broadcast address is given without an address.
-fn lacks_address(x: &[u16; 976]) -> bool
-    requires { ⌜ length (now x) ≡ 976 ⌝ }
+fn lacks_address(x: &Places) -> bool
+    requires { ⌜ length (now x) ≡ tableLength ⌝ }
     ensures { λ r. ⌜ r ≡ slotsAddressless (now (x .entry)) ⌝ }
 {
     let needs_it = either(
-        taken(x, IPV4, KeyName::Gateway),
+        taken(x, IPV4_ROW, KeyName::Gateway),
         either(
-            taken(x, IPV4, KeyName::Netmask),
-            taken(x, IPV4, KeyName::Broadcast),
+            taken(x, IPV4_ROW, KeyName::Netmask),
+            taken(x, IPV4_ROW, KeyName::Broadcast),
         ),
     );
-    both(needs_it, !taken(x, IPV4, KeyName::Address))
+    both(needs_it, !taken(x, IPV4_ROW, KeyName::Address))
 }
 
 // Whether something needed is missing in the file.
-fn file_lacks(suffix: Suffix, x: &[u16; 976]) -> bool
-    requires { ⌜ length (now x) ≡ 976 ⌝ }
+fn file_lacks(suffix: Suffix, x: &Places) -> bool
+    requires { ⌜ length (now x) ≡ tableLength ⌝ }
     ensures { λ r. ⌜ r ≡ slotsFileLacks suffix (now (x .entry)) ⌝ }
 {
     either(
@@ -84,16 +83,16 @@ fn file_lacks(suffix: Suffix, x: &[u16; 976]) -> bool
 }
 
 // Whether the settings of the file contradict its name.
-fn file_clashes(suffix: Suffix, x: &[u16; 976]) -> bool
-    requires { ⌜ length (now x) ≡ 976 ⌝ }
+fn file_clashes(suffix: Suffix, x: &Places) -> bool
+    requires { ⌜ length (now x) ≡ tableLength ⌝ }
     ensures { λ r. ⌜ r ≡ slotsFileClashes suffix (now (x .entry)) ⌝ }
 {
     both(is_open(suffix), has_secret(x))
 }
 
 // The fault of the file as a whole, if there is one: what is missing before what contradicts.
-pub fn file_fault(suffix: Suffix, x: &[u16; 976]) -> Pending
-    requires { ⌜ length (now x) ≡ 976 ⌝ }
+pub fn file_fault(suffix: Suffix, x: &Places) -> Pending
+    requires { ⌜ length (now x) ≡ tableLength ⌝ }
     ensures { λ r. ⌜ r ≡ pendingOf (faultAt 0 (slotsFile suffix (now (x .entry)))) ⌝ }
 {
     if file_lacks(suffix, x) {

@@ -6,7 +6,10 @@ ghost use Rattle.rules.specs.Tables.{groupOf};
 ghost use Rattle.rules.specs.Faults.{serves};
 ghost use Rattle.reader.specs.Holds.{Spans};
 ghost use Rattle.reader.specs.Headings.{slotsNamed, slotsOpen, slotsHeading};
+ghost use Rattle.reader.specs.Store.{tableLength};
 use crate::Heading;
+use crate::LINES;
+use crate::Places;
 use crate::judging::base_of;
 use crate::services::service_named;
 use rules::Group;
@@ -28,8 +31,8 @@ pub fn is_service(g: Group) -> bool
 }
 
 // Whether a group was named before.
-fn was_named(file: &[u8], x: &[u16; 976], services: usize, name: &[u8], g: Group) -> bool
-    requires long { ⌜ length (now x) ≡ 976 ⌝ }
+fn was_named(file: &[u8], x: &Places, services: usize, name: &[u8], g: Group) -> bool
+    requires long { ⌜ length (now x) ≡ tableLength ⌝ }
     requires spans { ⌜ Spans (now file) (now x) services ⌝ }
     ensures { λ r. ⌜ r ≡ slotsNamed (now (file .entry)) (now (x .entry)) services (now (name .entry)) g ⌝ }
 {
@@ -37,12 +40,12 @@ fn was_named(file: &[u8], x: &[u16; 976], services: usize, name: &[u8], g: Group
         return service_named(file, x, services, name);
     }
     let row = base_of(g, 0);
-    x[488 + row] != 0
+    x[LINES + row] != 0
 }
 
 // What a header of a listed group does.
-fn open_group(file: &[u8], x: &[u16; 976], services: usize, name: &[u8], g: Group) -> Heading
-    requires long { ⌜ length (now x) ≡ 976 ⌝ }
+fn open_group(file: &[u8], x: &Places, services: usize, name: &[u8], g: Group) -> Heading
+    requires long { ⌜ length (now x) ≡ tableLength ⌝ }
     requires spans { ⌜ Spans (now file) (now x) services ⌝ }
     ensures { λ r. ⌜ r ≡ slotsOpen (now (file .entry)) (now (x .entry)) services (now (name .entry)) g ⌝ }
 {
@@ -58,8 +61,8 @@ fn open_group(file: &[u8], x: &[u16; 976], services: usize, name: &[u8], g: Grou
 }
 
 // What a header does, by its name.
-pub fn heading(d: Dialect, file: &[u8], x: &[u16; 976], services: usize, name: &[u8]) -> Heading
-    requires long { ⌜ length (now x) ≡ 976 ⌝ }
+pub fn heading(d: Dialect, file: &[u8], x: &Places, services: usize, name: &[u8]) -> Heading
+    requires long { ⌜ length (now x) ≡ tableLength ⌝ }
     requires spans { ⌜ Spans (now file) (now x) services ⌝ }
     ensures { λ r. ⌜ r ≡ slotsHeading (now (file .entry)) (now (x .entry)) services (now (name .entry)) (groupOf d (now (name .entry))) ⌝ }
 {

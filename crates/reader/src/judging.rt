@@ -8,7 +8,14 @@ ghost use Rattle.reader.specs.Says.{CurrentRow, SettingSays};
 ghost use Rattle.reader.specs.Steps.{LineSays};
 ghost use Rattle.rules.specs.Faults.{breakOf};
 use crate::Current;
+use crate::IPV4_ROW;
+use crate::IPV6_ROW;
+use crate::LINES;
 use crate::Line;
+use crate::Places;
+use crate::ROW;
+use crate::SECURITY_ROW;
+use crate::SETTINGS_ROW;
 use kinds::Judgement;
 use lines::Break;
 use lines::Form;
@@ -24,12 +31,12 @@ pub fn base_of(g: Group, n: usize) -> usize
     ensures { λ r. ⌜ r ≡ base g n ⌝ }
 {
     match g {
-        Group::Settings => 0,
-        Group::Security => 25,
-        Group::Ipv4 => 50,
-        Group::Ipv6 => 75,
+        Group::Settings => SETTINGS_ROW,
+        Group::Security => SECURITY_ROW,
+        Group::Ipv4 => IPV4_ROW,
+        Group::Ipv6 => IPV6_ROW,
         Group::Global => 0,
-        Group::Service => 25 * n,
+        Group::Service => ROW * n,
     }
 }
 
@@ -37,7 +44,7 @@ pub fn base_of(g: Group, n: usize) -> usize
 pub fn setting_line(
     d: Dialect,
     file: &[u8],
-    x: &[u16; 976],
+    x: &Places,
     current: Current,
     key: Place,
     value: Place,
@@ -57,7 +64,7 @@ pub fn setting_line(
         return Line::Refused(Refusal::UnknownKey);
     };
     let i = row + n;
-    if x[488 + i] != 0 {
+    if x[LINES + i] != 0 {
         return Line::Refused(Refusal::RepeatedKey);
     }
     let judgement = kinds::judging::judge(d, kind, file, value);
@@ -94,7 +101,7 @@ fn refusal_of(b: Break) -> Refusal
 pub fn line_at(
     d: Dialect,
     file: &[u8],
-    x: &[u16; 976],
+    x: &Places,
     current: Current,
     start: usize,
     end: usize,

@@ -19,6 +19,37 @@ use rules::Group;
 use rules::Refusal;
 use text::Place;
 
+// How many bytes a file may have; each number of the table of places is below it, or is it.
+pub const FILE_LIMIT: usize = 16384;
+
+// How many slots the table of places has, and how many of them a row.
+pub const SLOTS: usize = 244;
+
+pub const ROW: usize = 25;
+
+// The table is the starts of all slots, and from here on their ends, their lines, and their codes.
+pub const ENDS: usize = SLOTS;
+
+pub const LINES: usize = 2 * SLOTS;
+
+pub const CODES: usize = 3 * SLOTS;
+
+pub const PLACES: usize = 4 * SLOTS;
+
+pub type Places = [u16; PLACES];
+
+// Where the rows of iwd's groups start.
+pub const SETTINGS_ROW: usize = 0;
+
+pub const SECURITY_ROW: usize = ROW;
+
+pub const IPV4_ROW: usize = 2 * ROW;
+
+pub const IPV6_ROW: usize = 3 * ROW;
+
+// Where the places of the services' names start, behind nine rows.
+pub const NAMES: usize = 9 * ROW;
+
 // The keys that document 01 lists, by group.
 pub enum KeyName {
     AutoConnect,

@@ -7,10 +7,12 @@ ghost use lib.ListN.{length};
 ghost use Rattle.text.specs.Parts.{Inside, partAt};
 ghost use Rattle.lines.specs.Lines.{header};
 ghost use Rattle.rules.specs.Faults.{serves};
-ghost use Rattle.reader.specs.Store.{Fits};
+ghost use Rattle.reader.specs.Store.{tableLength, Fits};
 ghost use Rattle.reader.specs.Steps.{Opened, Known, Steps};
 use crate::Current;
 use crate::Heading;
+use crate::NAMES;
+use crate::Places;
 use crate::State;
 use crate::Stepped;
 use crate::headings::heading;
@@ -22,8 +24,8 @@ use text::Dialect;
 use text::Place;
 
 // Stores a good header, and returns what is known after it. Of a service the place of its name is stored too.
-fn opened(x: &mut [u16; 976], st: State, g: Group, start: usize, name: Place, line: usize) -> State
-    requires long { ⌜ length (now x) ≡ 976 ⌝ }
+fn opened(x: &mut Places, st: State, g: Group, start: usize, name: Place, line: usize) -> State
+    requires long { ⌜ length (now x) ≡ tableLength ⌝ }
     requires few { ⌜ st .services ≤ 8 ⌝ }
     requires room { ⌜ (serves g && leb 8 (st .services)) ≡ false ⌝ }
     requires header { ⌜ Fits start start line ⌝ }
@@ -34,7 +36,7 @@ fn opened(x: &mut [u16; 976], st: State, g: Group, start: usize, name: Place, li
     if is_service(g) {
         let row = base_of(g, n + 1);
         put_slot(x, row, start, start, line, 0);
-        put_slot(x, 225 + n, name.start, name.end, line, 0);
+        put_slot(x, NAMES + n, name.start, name.end, line, 0);
         return State {
             current: Current::In(g, row),
             services: n + 1,
@@ -54,7 +56,7 @@ fn opened(x: &mut [u16; 976], st: State, g: Group, start: usize, name: Place, li
 pub fn header_step(
     d: Dialect,
     file: &[u8],
-    x: &mut [u16; 976],
+    x: &mut Places,
     st: State,
     start: usize,
     name: Place,

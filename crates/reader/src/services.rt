@@ -5,22 +5,27 @@ ghost use lib.ListN.{length};
 ghost use Rattle.rules.specs.Groups.{wordNumber};
 ghost use Rattle.reader.specs.Holds.{Spans, among};
 ghost use Rattle.reader.specs.Closing.{InTable, KeyIn, keySlot, bytesOf, isTaken, slotIs};
+ghost use Rattle.reader.specs.Store.{tableLength};
+use crate::CODES;
 use crate::KeyName;
+use crate::LINES;
+use crate::NAMES;
+use crate::Places;
 use crate::keys::place_of;
 use crate::store::value_at;
 use crate::store::wide;
 use kinds::Word;
 
 // Whether a name is that of one of the first n services.
-pub fn service_named(file: &[u8], x: &[u16; 976], n: usize, name: &[u8]) -> bool
-    requires long { ⌜ length (now x) ≡ 976 ⌝ }
+pub fn service_named(file: &[u8], x: &Places, n: usize, name: &[u8]) -> bool
+    requires long { ⌜ length (now x) ≡ tableLength ⌝ }
     requires spans { ⌜ Spans (now file) (now x) n ⌝ }
     ensures { λ r. ⌜ r ≡ among (now (file .entry)) (now (x .entry)) n (now (name .entry)) ⌝ }
 {
     let mut i = n;
     while 0 < i {
         let j = i - 1;
-        if text::words::equal(name, value_at(file, x, 225 + j)) {
+        if text::words::equal(name, value_at(file, x, NAMES + j)) {
             return true;
         }
         i = j;
@@ -59,25 +64,25 @@ pub fn both(a: bool, b: bool) -> bool
 }
 
 // Whether a key is given, in the row that starts at a slot.
-pub fn taken(x: &[u16; 976], row: usize, k: KeyName) -> bool
+pub fn taken(x: &Places, row: usize, k: KeyName) -> bool
     requires { ⌜ InTable (now x) row ⌝ }
     ensures { λ r. ⌜ r ≡ isTaken (now (x .entry)) row k ⌝ }
 {
     let i = row + place_of(k);
-    x[488 + i] != 0
+    x[LINES + i] != 0
 }
 
 // Whether a key is given and is a word.
-pub fn is_word(x: &[u16; 976], row: usize, k: KeyName, w: Word) -> bool
+pub fn is_word(x: &Places, row: usize, k: KeyName, w: Word) -> bool
     requires { ⌜ InTable (now x) row ⌝ }
     ensures { λ r. ⌜ r ≡ slotIs (now (x .entry)) row k w ⌝ }
 {
     let i = row + place_of(k);
-    x[732 + i] == word_number(w)
+    x[CODES + i] == word_number(w)
 }
 
 // The value of a key, a part of the file; empty where it is not given.
-pub fn value_of<'a, 'b>(file: &'a [u8], x: &'b [u16; 976], row: usize, k: KeyName) -> &'a [u8]
+pub fn value_of<'a, 'b>(file: &'a [u8], x: &'b Places, row: usize, k: KeyName) -> &'a [u8]
     requires { ⌜ KeyIn (now file) (now x) row k ⌝ }
     ensures { λ r. ⌜ now r ≡ bytesOf (now (file .entry)) (now (x .entry)) row k ⌝ }
 {
@@ -86,25 +91,25 @@ pub fn value_of<'a, 'b>(file: &'a [u8], x: &'b [u16; 976], row: usize, k: KeyNam
 }
 
 // The line of a key, 0 where it is not given.
-pub fn line_of(x: &[u16; 976], row: usize, k: KeyName) -> usize
+pub fn line_of(x: &Places, row: usize, k: KeyName) -> usize
     requires { ⌜ InTable (now x) row ⌝ }
     ensures { λ r. ⌜ r ≡ keySlot (now (x .entry)) row k .line ⌝ }
 {
     let i = row + place_of(k);
-    wide(x[488 + i])
+    wide(x[LINES + i])
 }
 
 // The code of a key's value, 0 where it is not given.
-pub fn code_of(x: &[u16; 976], row: usize, k: KeyName) -> u16
+pub fn code_of(x: &Places, row: usize, k: KeyName) -> u16
     requires { ⌜ InTable (now x) row ⌝ }
     ensures { λ r. ⌜ r ≡ keySlot (now (x .entry)) row k .code ⌝ }
 {
     let i = row + place_of(k);
-    x[732 + i]
+    x[CODES + i]
 }
 
 // Where the value of a key starts, 0 where it is not given.
-pub fn start_of(x: &[u16; 976], row: usize, k: KeyName) -> usize
+pub fn start_of(x: &Places, row: usize, k: KeyName) -> usize
     requires { ⌜ InTable (now x) row ⌝ }
     ensures { λ r. ⌜ r ≡ keySlot (now (x .entry)) row k .start ⌝ }
 {

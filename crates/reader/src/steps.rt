@@ -4,10 +4,12 @@ ghost use Prim.Native.Nat.{_≤_, _<_};
 ghost use lib.ListN.{length};
 ghost use Rattle.text.specs.Parts.{part};
 ghost use Rattle.lines.specs.Lines.{lineOf, valueStart};
+ghost use Rattle.reader.specs.Store.{fileLimit};
 ghost use Rattle.reader.specs.Holds.{flagCode};
 ghost use Rattle.reader.specs.Says.{valueCode};
 ghost use Rattle.reader.specs.Steps.{Known, Steps};
 use crate::Line;
+use crate::Places;
 use crate::State;
 use crate::Stepped;
 use crate::judging::line_at;
@@ -42,7 +44,7 @@ fn flag_code(b: bool) -> u16
 pub fn step(
     d: Dialect,
     file: &[u8],
-    x: &mut [u16; 976],
+    x: &mut Places,
     st: State,
     start: usize,
     end: usize,
@@ -52,7 +54,7 @@ pub fn step(
     requires low { ⌜ start ≤ end ⌝ }
     requires within { ⌜ end ≤ length (now file) ⌝ }
     requires counted { ⌜ st .settings < line ⌝ }
-    requires small { ⌜ (length (now file) ≤ 16384) × (line ≤ 16384) ⌝ }
+    requires small { ⌜ (length (now file) ≤ fileLimit) × (line ≤ fileLimit) ⌝ }
     ensures { λ r. ⌜ Steps d (now (file .entry)) st (now (x .entry)) line start (valueStart d (part start end (now (file .entry)))) (lineOf d (part start end (now (file .entry)))) (now (x .exit)) r ⌝ }
 {
     let current = st.current;

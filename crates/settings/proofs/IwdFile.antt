@@ -40,15 +40,16 @@ use Rattle.settings.specs.declared.SecuritySettings.{SecuritySettings}
 use Rattle.settings.specs.declared.Ipv4Settings.{Ipv4Settings}
 use Rattle.settings.specs.declared.IwdSettings.{IwdSettings}
 use Rattle.settings.proofs.Rowwise.{key-in, row-read, flag-by, addresses-none}
+use Rattle.reader.specs.Store.{lastRow, tableLength}
 
 -- ---- the rows
 
 module _ {file x : List ℕ} where
-  pub iwd-typed : {a : GeneralSettings} {b : SecuritySettings} {c : Ipv4Settings} {e : Choice} → Typed Iwd file x 0 G.Settings generalOf a → Typed Iwd file x 25 G.Security securityOf b → Typed Iwd file x 50 G.Ipv4 ipv4Of c → e ≡ choiceBy (keySlot x 75 N.Enabled .code) → IwdTyped file x (record { general = a; security = b; ipv4 = c; enabled = e })
+  pub iwd-typed : {a : GeneralSettings} {b : SecuritySettings} {c : Ipv4Settings} {e : Choice} → Typed Iwd file x (base G.Settings 0) G.Settings generalOf a → Typed Iwd file x (base G.Security 0) G.Security securityOf b → Typed Iwd file x (base G.Ipv4 0) G.Ipv4 ipv4Of c → e ≡ choiceBy (keySlot x (base G.Ipv6 0) N.Enabled .code) → IwdTyped file x (record { general = a; security = b; ipv4 = c; enabled = e })
   unfolding keysOf
   iwd-typed p q r s =
       record {
-        is = λ es h. rw (p .is (es (word "Settings")) (h .general), q .is (es (word "Security")) (h .security), r .is (es (word "IPv4")) (h .ipv4), s ∙ flag-by Iwd file (keySlot x 75 N.Enabled) (entryOf (word "Enabled") (es (word "IPv6"))) (row-key N.Enabled (h .ipv6)));
+        is = λ es h. rw (p .is (es (word "Settings")) (h .general), q .is (es (word "Security")) (h .security), r .is (es (word "IPv4")) (h .ipv4), s ∙ flag-by Iwd file (keySlot x (base G.Ipv6 0) N.Enabled) (entryOf (word "Enabled") (es (word "IPv6"))) (row-key N.Enabled (h .ipv6)));
       }
 
 module _ {file : List ℕ} {y : List ℕ} (f : Found Iwd file y) where
@@ -59,20 +60,20 @@ module _ {file : List ℕ} {y : List ℕ} (f : Found Iwd file y) where
   unfolding groupOf
   found-rows = record { general = of-group G.Settings refl refl; security = of-group G.Security refl refl; ipv4 = of-group G.Ipv4 refl refl; ipv6 = of-group G.Ipv6 refl refl }
 
-none-rows : (file : List ℕ) → FourRows file (replicate 976 0) (λ n. [])
+none-rows : (file : List ℕ) → FourRows file (replicate tableLength 0) (λ n. [])
 none-rows file =
     record {
-      general = empty-row Iwd file 0 G.Settings (omega arith);
-      security = empty-row Iwd file 25 G.Security (omega arith);
-      ipv4 = empty-row Iwd file 50 G.Ipv4 (omega arith);
-      ipv6 = empty-row Iwd file 75 G.Ipv6 (omega arith);
+      general = empty-row Iwd file (base G.Settings 0) G.Settings (omega arith);
+      security = empty-row Iwd file (base G.Security 0) G.Security (omega arith);
+      ipv4 = empty-row Iwd file (base G.Ipv4 0) G.Ipv4 (omega arith);
+      ipv6 = empty-row Iwd file (base G.Ipv6 0) G.Ipv6 (omega arith);
     }
 
-pub none-kept : (file : List ℕ) {x : List ℕ} → x ≡ replicate 976 0 → IwdRows file x
-none-kept file e = rw e (record { long = length-replicate {A = ℕ} 976 0; settings = λ n. []; rows = none-rows file })
+pub none-kept : (file : List ℕ) {x : List ℕ} → x ≡ replicate tableLength 0 → IwdRows file x
+none-kept file e = rw e (record { long = length-replicate {A = ℕ} tableLength 0; settings = λ n. []; rows = none-rows file })
 
 -- the row of one group
-pub row-of : {file x : List ℕ} (h : IwdRows file x) {b : ℕ} → b ≤ 200 → (g : Group) {es : List Entry} → Row Iwd file x b g es → RowOf Iwd file x b g
+pub row-of : {file x : List ℕ} (h : IwdRows file x) {b : ℕ} → b ≤ lastRow → (g : Group) {es : List Entry} → Row Iwd file x b g es → RowOf Iwd file x b g
 row-of h l g {es} r = record { table = record { long = h .long; row = l }; settings = es; row = r }
 
 -- ---- the answers
@@ -82,7 +83,7 @@ module _ {name file : List ℕ} {y : List ℕ} {q : Reading} (h : Reads Iwd name
     pub found-kept : IwdRows file y
     found-kept = let f = h .found e in record { long = f .kept .long; settings = λ n. entriesIn n (sectionsOf Iwd file); rows = found-rows f }
 
-    pub dns-in : KeyIn file y 50 N.Dns
+    pub dns-in : KeyIn file y (base G.Ipv4 0) N.Dns
     dns-in = key-in N.Dns (row-of found-kept (omega arith) G.Ipv4 (found-kept .rows .ipv4))
 
     good : asked (reading Iwd name file) ≡ Good
@@ -91,7 +92,7 @@ module _ {name file : List ℕ} {y : List ℕ} {q : Reading} (h : Reads Iwd name
     pub iwd-good : {s : IwdSettings} → IwdTyped file y s → record { answer = Good; settings = s } ≡ iwdAnswered name file
     iwd-good t = rw (good, t .is (λ n. entriesIn n (sectionsOf Iwd file)) (found-rows (h .found e)))
 
-    pub servers-good : (old : List (List ℕ)) {t z : List (List ℕ)} → t ≡ rows (addresses Spaces (bytesOf file y 50 N.Dns)) → z ≡ t → z ≡ iwdServersAfter name file old
+    pub servers-good : (old : List (List ℕ)) {t z : List (List ℕ)} → t ≡ rows (addresses Spaces (bytesOf file y (base G.Ipv4 0) N.Dns)) → z ≡ t → z ≡ iwdServersAfter name file old
     unfolding keysOf
     servers-good old p k = k ∙ p ∙ rw good (ap rows (row-read N.Dns (found-rows (h .found e) .ipv4) (addresses Spaces) (addresses-none Spaces)))
 
@@ -99,7 +100,7 @@ module _ {name file : List ℕ} {y : List ℕ} {q : Reading} (h : Reads Iwd name
     bad : asked (reading Iwd name file) ≡ Refused r l
     bad = ap asked (sym (h .is) ∙ e)
 
-    pub iwd-refused : {x : List ℕ} → x ≡ replicate 976 0 → {s : IwdSettings} → IwdTyped file x s → record { answer = Refused r l; settings = s } ≡ iwdAnswered name file
+    pub iwd-refused : {x : List ℕ} → x ≡ replicate tableLength 0 → {s : IwdSettings} → IwdTyped file x s → record { answer = Refused r l; settings = s } ≡ iwdAnswered name file
     iwd-refused z t = rw (bad, t .is (λ n. []) (rw z (none-rows file)))
 
     pub servers-refused : (old : List (List ℕ)) → old ≡ iwdServersAfter name file old

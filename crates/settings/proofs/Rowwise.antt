@@ -34,6 +34,7 @@ use Rattle.rules.specs.Asking.{readAs, lineIn, startIn}
 use Rattle.rules.specs.declared.Group.{Group}
 use Rattle.rules.specs.declared.Group.the-variants as G
 use Rattle.reader.specs.Store.{Slot}
+use Rattle.reader.specs.History.{base}
 use Rattle.reader.specs.Keys.{groupOf, wordOf as nameOf, kindOf}
 use Rattle.reader.specs.Holds.{flagCode, Kept, Row}
 use Rattle.reader.specs.Closing.{InTable, keySlot, bytesOf, KeyIn}
@@ -133,24 +134,24 @@ flag-by d file s (some e) h = let w = coded-flag d (e .value) (h .code) in ap ch
 -- ---- the functions
 
 module _ {file x : List ℕ} where
-  pub general-typed : {a b c : Choice} {m : Mac} → a ≡ choiceBy (keySlot x 0 N.AutoConnect .code) → b ≡ choiceBy (keySlot x 0 N.IwdHidden .code) → c ≡ choiceBy (keySlot x 0 N.AlwaysRandomizeAddress .code) → m ≡ macAnswer (mac (bytesOf file x 0 N.AddressOverride)) → Typed Iwd file x 0 G.Settings generalOf (record { «auto_connect» = a; hidden = b; «always_randomize_address» = c; «address_override» = m })
+  pub general-typed : {a b c : Choice} {m : Mac} → a ≡ choiceBy (keySlot x (base G.Settings 0) N.AutoConnect .code) → b ≡ choiceBy (keySlot x (base G.Settings 0) N.IwdHidden .code) → c ≡ choiceBy (keySlot x (base G.Settings 0) N.AlwaysRandomizeAddress .code) → m ≡ macAnswer (mac (bytesOf file x (base G.Settings 0) N.AddressOverride)) → Typed Iwd file x (base G.Settings 0) G.Settings generalOf (record { «auto_connect» = a; hidden = b; «always_randomize_address» = c; «address_override» = m })
   unfolding keysOf
   general-typed p q r s =
       record {
         is = λ es h.
             rw (
-              p ∙ flag-by Iwd file (keySlot x 0 N.AutoConnect) (entryOf (word "AutoConnect") es) (row-key N.AutoConnect h),
-              q ∙ flag-by Iwd file (keySlot x 0 N.IwdHidden) (entryOf (word "Hidden") es) (row-key N.IwdHidden h),
-              r ∙ flag-by Iwd file (keySlot x 0 N.AlwaysRandomizeAddress) (entryOf (word "AlwaysRandomizeAddress") es) (row-key N.AlwaysRandomizeAddress h),
+              p ∙ flag-by Iwd file (keySlot x (base G.Settings 0) N.AutoConnect) (entryOf (word "AutoConnect") es) (row-key N.AutoConnect h),
+              q ∙ flag-by Iwd file (keySlot x (base G.Settings 0) N.IwdHidden) (entryOf (word "Hidden") es) (row-key N.IwdHidden h),
+              r ∙ flag-by Iwd file (keySlot x (base G.Settings 0) N.AlwaysRandomizeAddress) (entryOf (word "AlwaysRandomizeAddress") es) (row-key N.AlwaysRandomizeAddress h),
               s ∙ ap macAnswer (row-read N.AddressOverride h mac mac-none),
             );
       }
 
-  pub security-typed : {l : ℕ} {k : Key} → l ≡ keySlot x 25 N.IwdPassphrase .line → k ≡ keyAnswer (key (bytesOf file x 25 N.PreSharedKey)) → Typed Iwd file x 25 G.Security securityOf (record { passphrase = l; «pre_shared_key» = k })
+  pub security-typed : {l : ℕ} {k : Key} → l ≡ keySlot x (base G.Security 0) N.IwdPassphrase .line → k ≡ keyAnswer (key (bytesOf file x (base G.Security 0) N.PreSharedKey)) → Typed Iwd file x (base G.Security 0) G.Security securityOf (record { passphrase = l; «pre_shared_key» = k })
   unfolding keysOf
   security-typed p q = record { is = λ es h. rw (p ∙ row-line N.IwdPassphrase h, q ∙ ap keyAnswer (row-read N.PreSharedKey h key key-none)) }
 
-  pub ipv4-typed : {a b c : Address} {m n l : ℕ} {s : Choice} → a ≡ addressAnswer (address (bytesOf file x 50 N.Address)) → b ≡ addressAnswer (address (bytesOf file x 50 N.Gateway)) → c ≡ addressAnswer (address (bytesOf file x 50 N.Broadcast)) → m ≡ lengthOr0 (netmask (bytesOf file x 50 N.Netmask)) → n ≡ length (plain (addresses Spaces (bytesOf file x 50 N.Dns))) → l ≡ keySlot x 50 N.DomainName .line → s ≡ choiceBy (keySlot x 50 N.SendHostname .code) → Typed Iwd file x 50 G.Ipv4 ipv4Of (record { address = a; gateway = b; broadcast = c; netmask = m; dns = n; «domain_name» = l; «send_hostname» = s })
+  pub ipv4-typed : {a b c : Address} {m n l : ℕ} {s : Choice} → a ≡ addressAnswer (address (bytesOf file x (base G.Ipv4 0) N.Address)) → b ≡ addressAnswer (address (bytesOf file x (base G.Ipv4 0) N.Gateway)) → c ≡ addressAnswer (address (bytesOf file x (base G.Ipv4 0) N.Broadcast)) → m ≡ lengthOr0 (netmask (bytesOf file x (base G.Ipv4 0) N.Netmask)) → n ≡ length (plain (addresses Spaces (bytesOf file x (base G.Ipv4 0) N.Dns))) → l ≡ keySlot x (base G.Ipv4 0) N.DomainName .line → s ≡ choiceBy (keySlot x (base G.Ipv4 0) N.SendHostname .code) → Typed Iwd file x (base G.Ipv4 0) G.Ipv4 ipv4Of (record { address = a; gateway = b; broadcast = c; netmask = m; dns = n; «domain_name» = l; «send_hostname» = s })
   unfolding keysOf
   ipv4-typed p q r s t u v =
       record {
@@ -162,7 +163,7 @@ module _ {file x : List ℕ} where
               s ∙ ap lengthOr0 (row-read N.Netmask h netmask netmask-none),
               t ∙ ap (λ (o : Option (List (List ℕ))). length (plain o)) (row-read N.Dns h (addresses Spaces) (addresses-none Spaces)),
               u ∙ row-line N.DomainName h,
-              v ∙ flag-by Iwd file (keySlot x 50 N.SendHostname) (entryOf (word "SendHostname") es) (row-key N.SendHostname h),
+              v ∙ flag-by Iwd file (keySlot x (base G.Ipv4 0) N.SendHostname) (entryOf (word "SendHostname") es) (row-key N.SendHostname h),
             );
       }
 

@@ -32,19 +32,20 @@ use Rattle.settings.specs.declared.AddressSettings.{AddressSettings}
 use Rattle.settings.specs.declared.ServiceSettings.{ServiceSettings}
 use Rattle.settings.specs.declared.ServiceAnswer.{ServiceAnswer}
 use Rattle.settings.proofs.Rowwise.{key-in, row-read, addresses-none}
+use Rattle.reader.specs.Store.{rowLength, tableLength}
 
 -- ---- the row
 
 pub service-typed : {file x : List ℕ} {r : ℕ} {a : NetworkSettings} {b : AddressSettings} → Typed ConnMan file x r G.Service networkSettingsOf a → Typed ConnMan file x r G.Service addressSettingsOf b → Typed ConnMan file x r G.Service serviceSettings (record { network = a; addresses = b })
 service-typed p q = record { is = λ es h. rw (p .is es h, q .is es h) }
 
-none-row : (file : List ℕ) → Row ConnMan file (replicate 976 0) 25 G.Service []
-none-row file = empty-row ConnMan file 25 G.Service (omega arith)
+none-row : (file : List ℕ) → Row ConnMan file (replicate tableLength 0) rowLength G.Service []
+none-row file = empty-row ConnMan file rowLength G.Service (omega arith)
 
-pub none-kept : (file : List ℕ) → RowOf ConnMan file (replicate 976 0) 25 G.Service
-none-kept file = record { table = record { long = length-replicate {A = ℕ} 976 0; row = omega arith }; settings = []; row = none-row file }
+pub none-kept : (file : List ℕ) → RowOf ConnMan file (replicate tableLength 0) rowLength G.Service
+none-kept file = record { table = record { long = length-replicate {A = ℕ} tableLength 0; row = omega arith }; settings = []; row = none-row file }
 
-pub none-answer : {file : List ℕ} {s : ServiceSettings} → Typed ConnMan file (replicate 976 0) 25 G.Service serviceSettings s → (r : Refusal) (l : ℕ) → record { answer = Refused r l; settings = s } ≡ serviceAnswerOf (Refused r l) []
+pub none-answer : {file : List ℕ} {s : ServiceSettings} → Typed ConnMan file (replicate tableLength 0) rowLength G.Service serviceSettings s → (r : Refusal) (l : ℕ) → record { answer = Refused r l; settings = s } ≡ serviceAnswerOf (Refused r l) []
 none-answer {file} t r l = rw (t .is [] (none-row file))
 
 -- after a reading

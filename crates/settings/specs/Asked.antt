@@ -13,11 +13,13 @@ use Rattle.rules.specs.Asking.{iwdEntry, serviceAt, asked, askedOf}
 use Rattle.rules.specs.declared.Answer.{Answer}
 use Rattle.rules.specs.declared.Answer.the-variants.{Good, Refused}
 use Rattle.rules.specs.declared.Group.the-variants as G
+use Rattle.reader.specs.History.{base}
 use Rattle.reader.specs.Holds.{Row}
 use Rattle.settings.specs.Settings.{iwdSettings, iwdServers, serviceSettings, serviceServers}
 use Rattle.settings.specs.declared.IwdSettings.{IwdSettings}
 use Rattle.settings.specs.declared.IwdAnswer.{IwdAnswer}
 use Rattle.settings.specs.declared.ServiceAnswer.{ServiceAnswer}
+use Rattle.reader.specs.Store.{tableLength}
 
 -- ---- an iwd file
 
@@ -38,13 +40,13 @@ iwdServersAfter name file old = iwdServersOf (asked (reading Iwd name file)) (se
 
 -- the rows of iwd's four groups keep the settings es, by the groups' names
 pub record FourRows (file x : List ℕ) (es : List ℕ → List Entry) : Type 0 where
-  pub general : Row Iwd file x 0 G.Settings (es (word "Settings"))
-  pub security : Row Iwd file x 25 G.Security (es (word "Security"))
-  pub ipv4 : Row Iwd file x 50 G.Ipv4 (es (word "IPv4"))
-  pub ipv6 : Row Iwd file x 75 G.Ipv6 (es (word "IPv6"))
+  pub general : Row Iwd file x (base G.Settings 0) G.Settings (es (word "Settings"))
+  pub security : Row Iwd file x (base G.Security 0) G.Security (es (word "Security"))
+  pub ipv4 : Row Iwd file x (base G.Ipv4 0) G.Ipv4 (es (word "IPv4"))
+  pub ipv6 : Row Iwd file x (base G.Ipv6 0) G.Ipv6 (es (word "IPv6"))
 
 pub record IwdRows (file x : List ℕ) : Type 0 where
-  pub long : length x ≡ 976
+  pub long : length x ≡ tableLength
   pub settings : List ℕ → List Entry
   pub rows : FourRows file x settings
 

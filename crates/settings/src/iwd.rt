@@ -6,13 +6,17 @@ use crate::IwdSettings;
 use crate::rows;
 use crate::values;
 use addresses::Separator;
+use reader::IPV4_ROW;
+use reader::IPV6_ROW;
 use reader::KeyName;
+use reader::PLACES;
+use reader::Places;
 use rules::Answer;
 use rules::Reading;
 use text::Dialect;
 
 // The settings of an iwd file, by the rows of its four groups.
-fn iwd_rows(file: &[u8], x: &[u16; 976]) -> IwdSettings
+fn iwd_rows(file: &[u8], x: &Places) -> IwdSettings
     requires { ⌜ IwdRows (now file) (now x) ⌝ }
     ensures { λ r. ⌜ IwdTyped (now (file .entry)) (now (x .entry)) r ⌝ }
 {
@@ -20,7 +24,7 @@ fn iwd_rows(file: &[u8], x: &[u16; 976]) -> IwdSettings
         general: rows::general_settings(file, x),
         security: rows::security_settings(file, x),
         ipv4: rows::ipv4_settings(file, x),
-        enabled: values::choice_at(x, 75, KeyName::Enabled),
+        enabled: values::choice_at(x, IPV6_ROW, KeyName::Enabled),
     }
 }
 
@@ -37,13 +41,13 @@ pub fn iwd_settings(name: &[u8], file: &[u8], servers: &mut [[u8; 4]; 4]) -> Iwd
     ensures { λ r. ⌜ r ≡ iwdAnswered (now (name .entry)) (now (file .entry)) ⌝ }
     ensures { λ r. ⌜ now (servers .exit) ≡ iwdServersAfter (now (name .entry)) (now (file .entry)) (now (servers .entry)) ⌝ }
 {
-    let mut x = [0; 976];
+    let mut x = [0; PLACES];
     let reading = pass::read(Dialect::Iwd, name, file, &mut x);
     match reading {
         Reading::Accepted(settings, services) => {
             store(
                 servers,
-                values::servers_at(Separator::Spaces, file, &x, 50, KeyName::Dns),
+                values::servers_at(Separator::Spaces, file, &x, IPV4_ROW, KeyName::Dns),
             );
             IwdAnswer {
                 answer: Answer::Good,
@@ -51,7 +55,7 @@ pub fn iwd_settings(name: &[u8], file: &[u8], servers: &mut [[u8; 4]; 4]) -> Iwd
             }
         }
         Reading::Refused(refusal, line) => {
-            let none = [0; 976];
+            let none = [0; PLACES];
             IwdAnswer {
                 answer: Answer::Refused(refusal, line),
                 settings: iwd_rows(file, &none),

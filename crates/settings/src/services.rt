@@ -11,6 +11,9 @@ use crate::rows;
 use crate::values;
 use addresses::Separator;
 use reader::KeyName;
+use reader::PLACES;
+use reader::Places;
+use reader::ROW;
 use reader::judging::base_of;
 use rules::Answer;
 use rules::Group;
@@ -19,7 +22,7 @@ use rules::asking;
 use text::Dialect;
 
 // The settings of a service, by its row.
-fn service_row(file: &[u8], x: &[u16; 976], row: usize) -> ServiceSettings
+fn service_row(file: &[u8], x: &Places, row: usize) -> ServiceSettings
     requires { ⌜ RowOf Dialect.ConnMan (now file) (now x) row Group.Service ⌝ }
     ensures { λ r. ⌜ Typed Dialect.ConnMan (now (file .entry)) (now (x .entry)) row Group.Service serviceSettings r ⌝ }
 {
@@ -33,10 +36,10 @@ fn service_row(file: &[u8], x: &[u16; 976], row: usize) -> ServiceSettings
 fn refused(file: &[u8], refusal: Refusal, line: usize) -> ServiceAnswer
     ensures { λ r. ⌜ r ≡ serviceAnswerOf (Answer.Refused refusal line) [] ⌝ }
 {
-    let none = [0; 976];
+    let none = [0; PLACES];
     ServiceAnswer {
         answer: Answer::Refused(refusal, line),
-        settings: service_row(file, &none, 25),
+        settings: service_row(file, &none, ROW),
     }
 }
 
@@ -51,7 +54,7 @@ pub fn service_settings(
     ensures { λ r. ⌜ r ≡ serviceAnswered (now (name .entry)) (now (file .entry)) service ⌝ }
     ensures { λ r. ⌜ now (servers .exit) ≡ serviceServersAfter (now (name .entry)) (now (file .entry)) service (now (servers .entry)) ⌝ }
 {
-    let mut x = [0; 976];
+    let mut x = [0; PLACES];
     let reading = pass::read(Dialect::ConnMan, name, file, &mut x);
     let answer = asking::asked_of(service, reading);
     match answer {

@@ -21,12 +21,13 @@ use kinds::Mac;
 use kinds::Ssid;
 use kinds::Word;
 use reader::KeyName;
+use reader::Places;
 use reader::services::code_of;
 use reader::services::start_of;
 use reader::services::value_of;
 
 // A yes/no by its code.
-pub fn choice_at(x: &[u16; 976], row: usize, k: KeyName) -> Choice
+pub fn choice_at(x: &Places, row: usize, k: KeyName) -> Choice
     requires { ⌜ InTable (now x) row ⌝ }
     ensures { λ r. ⌜ r ≡ choiceBy (keySlot (now (x .entry)) row k .code) ⌝ }
 {
@@ -39,7 +40,7 @@ pub fn choice_at(x: &[u16; 976], row: usize, k: KeyName) -> Choice
 }
 
 // A word by its code.
-pub fn chosen_at(x: &[u16; 976], row: usize, k: KeyName) -> Chosen
+pub fn chosen_at(x: &Places, row: usize, k: KeyName) -> Chosen
     requires { ⌜ InTable (now x) row ⌝ }
     ensures { λ r. ⌜ r ≡ chosenBy (keySlot (now (x .entry)) row k .code) ⌝ }
 {
@@ -60,14 +61,14 @@ pub fn chosen_at(x: &[u16; 976], row: usize, k: KeyName) -> Chosen
     }
 }
 
-pub fn address_at(file: &[u8], x: &[u16; 976], row: usize, k: KeyName) -> Address
+pub fn address_at(file: &[u8], x: &Places, row: usize, k: KeyName) -> Address
     requires { ⌜ KeyIn (now file) (now x) row k ⌝ }
     ensures { λ r. ⌜ r ≡ addressAnswer (address (bytesOf (now (file .entry)) (now (x .entry)) row k)) ⌝ }
 {
     addresses::numbers::read_address(value_of(file, x, row, k))
 }
 
-pub fn netmask_at(file: &[u8], x: &[u16; 976], row: usize, k: KeyName) -> u8
+pub fn netmask_at(file: &[u8], x: &Places, row: usize, k: KeyName) -> u8
     requires { ⌜ KeyIn (now file) (now x) row k ⌝ }
     ensures { λ r. ⌜ r ≡ lengthOr0 (netmask (bytesOf (now (file .entry)) (now (x .entry)) row k)) ⌝ }
 {
@@ -78,28 +79,28 @@ pub fn netmask_at(file: &[u8], x: &[u16; 976], row: usize, k: KeyName) -> u8
     }
 }
 
-pub fn ipv4_at(file: &[u8], x: &[u16; 976], row: usize, k: KeyName) -> Ipv4
+pub fn ipv4_at(file: &[u8], x: &Places, row: usize, k: KeyName) -> Ipv4
     requires { ⌜ KeyIn (now file) (now x) row k ⌝ }
     ensures { λ r. ⌜ r ≡ ipv4Answer (ipv4 (bytesOf (now (file .entry)) (now (x .entry)) row k)) ⌝ }
 {
     kinds::connman_ipv4::read_ipv4(value_of(file, x, row, k))
 }
 
-pub fn mac_at(file: &[u8], x: &[u16; 976], row: usize, k: KeyName) -> Mac
+pub fn mac_at(file: &[u8], x: &Places, row: usize, k: KeyName) -> Mac
     requires { ⌜ KeyIn (now file) (now x) row k ⌝ }
     ensures { λ r. ⌜ r ≡ macAnswer (mac (bytesOf (now (file .entry)) (now (x .entry)) row k)) ⌝ }
 {
     kinds::hexes::read_mac(value_of(file, x, row, k))
 }
 
-pub fn key_at(file: &[u8], x: &[u16; 976], row: usize, k: KeyName) -> Key
+pub fn key_at(file: &[u8], x: &Places, row: usize, k: KeyName) -> Key
     requires { ⌜ KeyIn (now file) (now x) row k ⌝ }
     ensures { λ r. ⌜ r ≡ keyAnswer (key (bytesOf (now (file .entry)) (now (x .entry)) row k)) ⌝ }
 {
     kinds::hexes::read_key(value_of(file, x, row, k))
 }
 
-pub fn ssid_at(file: &[u8], x: &[u16; 976], row: usize, k: KeyName) -> Ssid
+pub fn ssid_at(file: &[u8], x: &Places, row: usize, k: KeyName) -> Ssid
     requires { ⌜ KeyIn (now file) (now x) row k ⌝ }
     ensures { λ r. ⌜ r ≡ ssidAnswer (ssid (bytesOf (now (file .entry)) (now (x .entry)) row k)) ⌝ }
 {
@@ -107,7 +108,7 @@ pub fn ssid_at(file: &[u8], x: &[u16; 976], row: usize, k: KeyName) -> Ssid
 }
 
 // How many addresses a list has.
-pub fn count_at(sep: Separator, file: &[u8], x: &[u16; 976], row: usize, k: KeyName) -> usize
+pub fn count_at(sep: Separator, file: &[u8], x: &Places, row: usize, k: KeyName) -> usize
     requires { ⌜ KeyIn (now file) (now x) row k ⌝ }
     ensures { λ r. ⌜ r ≡ length (plain (addresses sep (bytesOf (now (file .entry)) (now (x .entry)) row k))) ⌝ }
 {
@@ -115,13 +116,7 @@ pub fn count_at(sep: Separator, file: &[u8], x: &[u16; 976], row: usize, k: KeyN
 }
 
 // The addresses of a list, with zeros behind them.
-pub fn servers_at(
-    sep: Separator,
-    file: &[u8],
-    x: &[u16; 976],
-    row: usize,
-    k: KeyName,
-) -> [[u8; 4]; 4]
+pub fn servers_at(sep: Separator, file: &[u8], x: &Places, row: usize, k: KeyName) -> [[u8; 4]; 4]
     requires { ⌜ KeyIn (now file) (now x) row k ⌝ }
     ensures { λ r. ⌜ r ≡ rows (addresses sep (bytesOf (now (file .entry)) (now (x .entry)) row k)) ⌝ }
 {
@@ -133,7 +128,7 @@ pub fn list_at(
     out: &mut [[u8; 4]; 4],
     sep: Separator,
     file: &[u8],
-    x: &[u16; 976],
+    x: &Places,
     row: usize,
     k: KeyName,
 ) -> usize
@@ -145,7 +140,7 @@ pub fn list_at(
 }
 
 // The entries of a list, by their places in the file.
-pub fn entries_at(file: &[u8], x: &[u16; 976], row: usize, k: KeyName) -> Entries
+pub fn entries_at(file: &[u8], x: &Places, row: usize, k: KeyName) -> Entries
     requires { ⌜ KeyIn (now file) (now x) row k ⌝ }
     ensures { λ r. ⌜ r ≡ entriesAnswer (keySlot (now (x .entry)) row k .start) (entries (bytesOf (now (file .entry)) (now (x .entry)) row k)) ⌝ }
 {
