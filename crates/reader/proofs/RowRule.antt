@@ -11,13 +11,14 @@ use Rattle.text.specs.Words.{word, place}
 use Rattle.text.specs.Options.{andThen, mapped}
 use Rattle.text.specs.declared.Dialect.{Dialect}
 use Rattle.utf8.specs.Utf8.{valueText}
+use Rattle.addresses.specs.Addresses.{netmask}
 use Rattle.kinds.specs.Kinds.{flag, wordOf}
 use Rattle.kinds.specs.Typed as T
 use Rattle.kinds.specs.Typed.{Typed, byKind, typed, stringBroken, kindJudged, judged}
 use Rattle.kinds.specs.declared.Word.{Word}
 use Rattle.kinds.specs.declared.Word.the-variants.{Wifi, Ethernet, Off, Auto, Disabled, Enabled, Preferred, Psk, Ieee8021x, None, Wep}
 use Rattle.kinds.specs.declared.Kind.{Kind}
-use Rattle.kinds.specs.declared.Kind.the-variants.{Flag, Named}
+use Rattle.kinds.specs.declared.Kind.the-variants.{Flag, Named, Netmask}
 use Rattle.kinds.specs.declared.WordList.{WordList}
 use Rattle.kinds.specs.declared.WordList.the-variants as W
 use Rattle.rules.specs.Lookups.{keyNames}
@@ -53,37 +54,33 @@ good-typed d k v {t} e = go (valueText v) (stringBroken d k v) (typed d k v) e
     go true false none e = let z : _≡_ {A = ℕ} 0 1 = cc in absurd (omega arith)
     go true false (some u) e = let z : u ≡ t = cc in ap some z
 
--- a good value of a list of words is a word, and its code that word's number
-pub record WordCoded (l : WordList) (v : List ℕ) (c : ℕ) : Type 0 where
-  pub word : Word
-  pub is : wordOf l v ≡ some word
-  pub code : c ≡ wordNumber word
+-- a good value of a kind that reads it by f, with its code
+pub record CodedBy {A : Type 0} (f : List ℕ → Option A) (number : A → ℕ) (v : List ℕ) (n : ℕ) : Type 0 where
+  pub value : A
+  pub is : f v ≡ some value
+  pub code : n ≡ number value
 
-pub coded-word : (d : Dialect) (l : WordList) (v : List ℕ) {c : ℕ} → Coded d (some (Named l)) v c → WordCoded l v c
+module _ {A : Type 0} (f : List ℕ → Option A) (t : A → Typed) (d : Dialect) (k : Kind) (v : List ℕ) (q : typed d k v ≡ mapped t (f v)) where
+  pub coded-by : {n : ℕ} → Coded d (some k) v n → CodedBy f (λ a. codeOf (t a)) v n
+  coded-by {n} h =
+      let e : h .kind ≡ k = Option·some-injective (h .kind) k (sym (h .of-kind)) in
+      go (f v) refl (h .typed) (sym q ∙ good-typed d k v (subst (λ (m : Kind). judged d m v ≡ T.good (h .typed)) e (h .good))) (h .is)
+    where
+      go : (o : Option A) → f v ≡ o → (u : Typed) → mapped t o ≡ some u → n ≡ codeOf u → CodedBy f (λ a. codeOf (t a)) v n
+      go none p u e w = absurd (Option·none-ne-some u e)
+      go (some a) p u e w = record { value = a; is = p; code = w ∙ ap codeOf (sym (Option·some-injective (t a) u e)) }
+
+pub coded-word : (d : Dialect) (l : WordList) (v : List ℕ) {n : ℕ} → Coded d (some (Named l)) v n → CodedBy (wordOf l) wordNumber v n
 unfolding typed
-coded-word d l v {c} h =
-    let k : h .kind ≡ Named l = Option·some-injective (h .kind) (Named l) (sym (h .of-kind)) in
-    go (wordOf l v) refl (h .typed) (good-typed d (Named l) v (subst (λ (k : Kind). judged d k v ≡ T.good (h .typed)) k (h .good))) (h .is)
-  where
-    go : (o : Option Word) → wordOf l v ≡ o → (t : Typed) → mapped T.word o ≡ some t → c ≡ codeOf t → WordCoded l v c
-    go none p t e q = absurd (Option·none-ne-some t e)
-    go (some u) p t e q = record { word = u; is = p; code = q ∙ ap codeOf (sym (Option·some-injective (T.word u) t e)) }
+coded-word d l v h = coded-by (wordOf l) T.word d (Named l) v refl h
 
--- and a good yes/no
-pub record FlagCoded (d : Dialect) (v : List ℕ) (c : ℕ) : Type 0 where
-  pub yes : Bool
-  pub is : flag d v ≡ some yes
-  pub code : c ≡ flagCode yes
-
-pub coded-flag : (d : Dialect) (v : List ℕ) {c : ℕ} → Coded d (some Flag) v c → FlagCoded d v c
+pub coded-flag : (d : Dialect) (v : List ℕ) {n : ℕ} → Coded d (some Flag) v n → CodedBy (flag d) flagCode v n
 unfolding typed
-coded-flag d v {c} h =
-    let k : h .kind ≡ Flag = Option·some-injective (h .kind) Flag (sym (h .of-kind)) in
-    go (flag d v) refl (h .typed) (good-typed d Flag v (subst (λ (k : Kind). judged d k v ≡ T.good (h .typed)) k (h .good))) (h .is)
-  where
-    go : (o : Option Bool) → flag d v ≡ o → (t : Typed) → mapped T.flag o ≡ some t → c ≡ codeOf t → FlagCoded d v c
-    go none p t e q = absurd (Option·none-ne-some t e)
-    go (some u) p t e q = record { yes = u; is = p; code = q ∙ ap codeOf (sym (Option·some-injective (T.flag u) t e)) }
+coded-flag d v h = coded-by (flag d) T.flag d Flag v refl h
+
+pub coded-mask : (d : Dialect) (v : List ℕ) {n : ℕ} → Coded d (some Netmask) v n → CodedBy netmask (λ m. m) v n
+unfolding typed
+coded-mask d v h = coded-by netmask T.maskLength d Netmask v refl h
 
 -- ---- the row of a service
 

@@ -69,9 +69,6 @@ none-rows file =
       ipv6 = empty-row Iwd file (base G.Ipv6 0) G.Ipv6 (omega arith);
     }
 
-pub none-kept : (file : List ℕ) {x : List ℕ} → x ≡ replicate tableLength 0 → IwdRows file x
-none-kept file e = rw e (record { long = length-replicate {A = ℕ} tableLength 0; settings = λ n. []; rows = none-rows file })
-
 -- the row of one group
 pub row-of : {file x : List ℕ} (h : IwdRows file x) {b : ℕ} → b ≤ lastRow → (g : Group) {es : List Entry} → Row Iwd file x b g es → RowOf Iwd file x b g
 row-of h l g {es} r = record { table = record { long = h .long; row = l }; settings = es; row = r }
@@ -100,8 +97,11 @@ module _ {name file : List ℕ} {y : List ℕ} {q : Reading} (h : Reads Iwd name
     bad : asked (reading Iwd name file) ≡ Refused r l
     bad = ap asked (sym (h .is) ∙ e)
 
-    pub iwd-refused : {x : List ℕ} → x ≡ replicate tableLength 0 → {s : IwdSettings} → IwdTyped file x s → record { answer = Refused r l; settings = s } ≡ iwdAnswered name file
-    iwd-refused z t = rw (bad, t .is (λ n. []) (rw z (none-rows file)))
+    pub refused-kept : IwdRows file y
+    refused-kept = rw (h .left e) (record { long = length-replicate {A = ℕ} tableLength 0; settings = λ n. []; rows = none-rows file })
+
+    pub iwd-refused : {s : IwdSettings} → IwdTyped file y s → record { answer = Refused r l; settings = s } ≡ iwdAnswered name file
+    iwd-refused t = rw (bad, t .is (λ n. []) (rw (h .left e) (none-rows file)))
 
     pub servers-refused : (old : List (List ℕ)) → old ≡ iwdServersAfter name file old
     servers-refused old = rw bad

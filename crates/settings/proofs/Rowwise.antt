@@ -16,8 +16,10 @@ use Rattle.addresses.specs.declared.Address.{Address}
 use Rattle.addresses.specs.declared.Separator.{Separator}
 use Rattle.addresses.specs.declared.Separator.the-variants.{Spaces, Comma}
 use Rattle.kinds.specs.Kinds.{flag, wordOf, ipv4, entries, mac, key, ssid}
+use Rattle.kinds.specs.Values.{netmask-good}
 use Rattle.kinds.specs.Answers.{ipv4Answer, entriesAnswer, macAnswer, keyAnswer, ssidAnswer}
-use Rattle.kinds.specs.declared.Kind.the-variants.{Flag, Named}
+use Rattle.kinds.specs.declared.Kind.{Kind}
+use Rattle.kinds.specs.declared.Kind.the-variants.{Flag, Named, Netmask}
 use Rattle.kinds.specs.declared.Word.{Word}
 use Rattle.kinds.specs.declared.Word.the-variants.{Wifi, Ethernet, Off, Auto, Disabled, Enabled, Preferred, Psk, Ieee8021x, None, Wep}
 use Rattle.kinds.specs.declared.WordList.{WordList}
@@ -36,15 +38,15 @@ use Rattle.rules.specs.declared.Group.the-variants as G
 use Rattle.reader.specs.Store.{Slot}
 use Rattle.reader.specs.History.{base}
 use Rattle.reader.specs.Keys.{groupOf, wordOf as nameOf, kindOf}
-use Rattle.reader.specs.Holds.{flagCode, Kept, Row}
+use Rattle.reader.specs.Holds.{flagCode, Coded, Kept, Row}
 use Rattle.reader.specs.Closing.{InTable, keySlot, bytesOf, KeyIn}
 use Rattle.reader.specs.declared.KeyName.{KeyName}
 use Rattle.reader.specs.declared.KeyName.the-variants as N
-use Rattle.reader.proofs.RowRule.{row-key, coded-word, coded-flag}
+use Rattle.reader.proofs.RowRule.{row-key, CodedBy, coded-word, coded-flag, coded-mask}
 use Rattle.reader.proofs.Values.{kept-read, kept-line, kept-start}
 use Rattle.settings.specs.Values.{choice, chosen, choiceBy, chosenBy, lengthOr0}
 use Rattle.settings.specs.Settings.{generalOf, securityOf, ipv4Of, networkSettingsOf, addressSettingsOf}
-use Rattle.settings.specs.Rows.{RowOf, Typed}
+use Rattle.settings.specs.Rows.{RowOf, MaskIn, Typed}
 use Rattle.settings.specs.declared.Choice.{Choice}
 use Rattle.settings.specs.declared.Chosen.{Chosen}
 
@@ -53,10 +55,6 @@ use Rattle.settings.specs.declared.Chosen.{Chosen}
 pub address-none : address [] ≡ none
 unfolding address number value
 address-none = refl
-
-pub netmask-none : netmask [] ≡ none
-unfolding netmask address number value
-netmask-none = refl
 
 pub addresses-none : (s : Separator) → addresses s [] ≡ none
 unfolding addresses address number value
@@ -122,14 +120,27 @@ flag-back : (b : Bool) → choiceBy (flagCode b) ≡ choice (some b)
 flag-back false = refl
 flag-back true = refl
 
+-- what a slot's code gives, where the code of no setting gives what is absent and that of a value what it is
+by-code : {A B : Type 0} (back : ℕ → B) (give : Option A → B) (f : List ℕ → Option A) (code : A → ℕ) → back 0 ≡ give none → ((a : A) → back (code a) ≡ give (some a)) → (d : Dialect) (k : Kind) (file : List ℕ) (s : Slot) (o : Option Entry) → ((v : List ℕ) → Coded d (some k) v (s .code) → CodedBy f code v (s .code)) → Kept d (some k) file s o → back (s .code) ≡ give (readAs f o)
+by-code back give f code z b d k file s none c q = ap (λ (t : Slot). back (t .code)) q ∙ z
+by-code back give f code z b d k file s (some e) c h = let w = c (e .value) (h .code) in ap back (w .code) ∙ b (w .value) ∙ sym (ap give (w .is))
+
 pub word-by : (d : Dialect) (l : WordList) (file : List ℕ) (s : Slot) (o : Option Entry) → Kept d (some (Named l)) file s o → chosenBy (s .code) ≡ chosen (readAs (wordOf l) o)
 unfolding chosenBy
-word-by d l file s none q = rw (ap (λ (t : Slot). t .code) q)
-word-by d l file s (some e) h = let w = coded-word d l (e .value) (h .code) in ap chosenBy (w .code) ∙ word-back (w .word) ∙ sym (ap chosen (w .is))
+word-by d l file s o h = by-code chosenBy chosen (wordOf l) wordNumber refl word-back d (Named l) file s o (λ v c. coded-word d l v c) h
 
 pub flag-by : (d : Dialect) (file : List ℕ) (s : Slot) (o : Option Entry) → Kept d (some Flag) file s o → choiceBy (s .code) ≡ choice (readAs (flag d) o)
-flag-by d file s none q = rw (ap (λ (t : Slot). t .code) q)
-flag-by d file s (some e) h = let w = coded-flag d (e .value) (h .code) in ap choiceBy (w .code) ∙ flag-back (w .yes) ∙ sym (ap choice (w .is))
+flag-by d file s o h = by-code choiceBy choice (flag d) flagCode refl flag-back d Flag file s o (λ v c. coded-flag d v c) h
+
+pub mask-by : (d : Dialect) (file : List ℕ) (s : Slot) (o : Option Entry) → Kept d (some Netmask) file s o → s .code ≡ lengthOr0 (readAs netmask o)
+mask-by d file s o h = by-code (λ n. n) lengthOr0 netmask (λ m. m) refl (λ m. refl) d Netmask file s o (λ v c. coded-mask d v c) h
+
+mask-few : (d : Dialect) (file : List ℕ) (s : Slot) (o : Option Entry) → Kept d (some Netmask) file s o → s .code ≤ 32
+mask-few d file s none q = rw (ap (λ (t : Slot). t .code) q) (omega arith)
+mask-few d file s (some e) h = let w = coded-mask d (e .value) (h .code) in omega (arith, w .code, netmask-good (e .value) (w .is) .1)
+
+pub mask-in : {d : Dialect} {file x : List ℕ} {b : ℕ} → RowOf d file x b G.Ipv4 → MaskIn x b N.Netmask
+mask-in {d} {file} {x} {b} h = record { table = h .table; small = mask-few d file (keySlot x b N.Netmask) (entryOf (word "Netmask") (h .settings)) (row-key N.Netmask (h .row)) }
 
 -- ---- the functions
 
@@ -151,7 +162,7 @@ module _ {file x : List ℕ} where
   unfolding keysOf
   security-typed p q = record { is = λ es h. rw (p ∙ row-line N.IwdPassphrase h, q ∙ ap keyAnswer (row-read N.PreSharedKey h key key-none)) }
 
-  pub ipv4-typed : {a b c : Address} {m n l : ℕ} {s : Choice} → a ≡ addressAnswer (address (bytesOf file x (base G.Ipv4 0) N.Address)) → b ≡ addressAnswer (address (bytesOf file x (base G.Ipv4 0) N.Gateway)) → c ≡ addressAnswer (address (bytesOf file x (base G.Ipv4 0) N.Broadcast)) → m ≡ lengthOr0 (netmask (bytesOf file x (base G.Ipv4 0) N.Netmask)) → n ≡ length (plain (addresses Spaces (bytesOf file x (base G.Ipv4 0) N.Dns))) → l ≡ keySlot x (base G.Ipv4 0) N.DomainName .line → s ≡ choiceBy (keySlot x (base G.Ipv4 0) N.SendHostname .code) → Typed Iwd file x (base G.Ipv4 0) G.Ipv4 ipv4Of (record { address = a; gateway = b; broadcast = c; netmask = m; dns = n; «domain_name» = l; «send_hostname» = s })
+  pub ipv4-typed : {a b c : Address} {m n l : ℕ} {s : Choice} → a ≡ addressAnswer (address (bytesOf file x (base G.Ipv4 0) N.Address)) → b ≡ addressAnswer (address (bytesOf file x (base G.Ipv4 0) N.Gateway)) → c ≡ addressAnswer (address (bytesOf file x (base G.Ipv4 0) N.Broadcast)) → m ≡ keySlot x (base G.Ipv4 0) N.Netmask .code → n ≡ length (plain (addresses Spaces (bytesOf file x (base G.Ipv4 0) N.Dns))) → l ≡ keySlot x (base G.Ipv4 0) N.DomainName .line → s ≡ choiceBy (keySlot x (base G.Ipv4 0) N.SendHostname .code) → Typed Iwd file x (base G.Ipv4 0) G.Ipv4 ipv4Of (record { address = a; gateway = b; broadcast = c; netmask = m; dns = n; «domain_name» = l; «send_hostname» = s })
   unfolding keysOf
   ipv4-typed p q r s t u v =
       record {
@@ -160,7 +171,7 @@ module _ {file x : List ℕ} where
               p ∙ ap addressAnswer (row-read N.Address h address address-none),
               q ∙ ap addressAnswer (row-read N.Gateway h address address-none),
               r ∙ ap addressAnswer (row-read N.Broadcast h address address-none),
-              s ∙ ap lengthOr0 (row-read N.Netmask h netmask netmask-none),
+              s ∙ mask-by Iwd file (keySlot x (base G.Ipv4 0) N.Netmask) (entryOf (word "Netmask") es) (row-key N.Netmask h),
               t ∙ ap (λ (o : Option (List (List ℕ))). length (plain o)) (row-read N.Dns h (addresses Spaces) (addresses-none Spaces)),
               u ∙ row-line N.DomainName h,
               v ∙ flag-by Iwd file (keySlot x (base G.Ipv4 0) N.SendHostname) (entryOf (word "SendHostname") es) (row-key N.SendHostname h),

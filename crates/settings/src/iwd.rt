@@ -54,12 +54,9 @@ pub fn iwd_settings(name: &[u8], file: &[u8], servers: &mut [[u8; 4]; 4]) -> Iwd
                 settings: iwd_rows(file, &x),
             }
         }
-        Reading::Refused(refusal, line) => {
-            let none = [0; PLACES];
-            IwdAnswer {
-                answer: Answer::Refused(refusal, line),
-                settings: iwd_rows(file, &none),
-            }
-        }
+        Reading::Refused(refusal, line) => IwdAnswer {
+            answer: Answer::Refused(refusal, line),
+            settings: iwd_rows(file, &x),
+        },
     }
 }

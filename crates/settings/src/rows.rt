@@ -52,7 +52,7 @@ pub fn ipv4_settings(file: &[u8], x: &Places) -> Ipv4Settings
         address: values::address_at(file, x, IPV4_ROW, KeyName::Address),
         gateway: values::address_at(file, x, IPV4_ROW, KeyName::Gateway),
         broadcast: values::address_at(file, x, IPV4_ROW, KeyName::Broadcast),
-        netmask: values::netmask_at(file, x, IPV4_ROW, KeyName::Netmask),
+        netmask: values::netmask_at(x, IPV4_ROW, KeyName::Netmask),
         dns: values::count_at(Separator::Spaces, file, x, IPV4_ROW, KeyName::Dns),
         domain_name: line_of(x, IPV4_ROW, KeyName::DomainName),
         send_hostname: values::choice_at(x, IPV4_ROW, KeyName::SendHostname),

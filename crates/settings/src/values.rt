@@ -4,15 +4,15 @@ ghost use mathlib.Core.Path.{_≡_};
 ghost use Prim.Native.Nat.{_+_, _≤_, _<_};
 ghost use lib.ListN.{length};
 ghost use Rattle.text.specs.Options.{plain};
-ghost use Rattle.addresses.specs.Addresses.{address, netmask, addresses, addressAnswer, rows};
+ghost use Rattle.addresses.specs.Addresses.{address, addresses, addressAnswer, rows};
 ghost use Rattle.kinds.specs.Kinds.{ipv4, entries, mac, key, ssid};
 ghost use Rattle.kinds.specs.Answers.{entriesAnswer, ipv4Answer, macAnswer, keyAnswer, ssidAnswer};
 ghost use Rattle.reader.specs.Closing.{InTable, KeyIn, keySlot, bytesOf};
-ghost use Rattle.settings.specs.Values.{choiceBy, chosenBy, lengthOr0};
+ghost use Rattle.settings.specs.Values.{choiceBy, chosenBy};
+ghost use Rattle.settings.specs.Rows.{MaskIn};
 use crate::Choice;
 use crate::Chosen;
 use addresses::Address;
-use addresses::Netmask;
 use addresses::Separator;
 use kinds::Entries;
 use kinds::Ipv4;
@@ -68,15 +68,12 @@ pub fn address_at(file: &[u8], x: &Places, row: usize, k: KeyName) -> Address
     addresses::numbers::read_address(value_of(file, x, row, k))
 }
 
-pub fn netmask_at(file: &[u8], x: &Places, row: usize, k: KeyName) -> u8
-    requires { ⌜ KeyIn (now file) (now x) row k ⌝ }
-    ensures { λ r. ⌜ r ≡ lengthOr0 (netmask (bytesOf (now (file .entry)) (now (x .entry)) row k)) ⌝ }
+// A mask's length by its code, 0 where there is none.
+pub fn netmask_at(x: &Places, row: usize, k: KeyName) -> u8
+    requires { ⌜ MaskIn (now x) row k ⌝ }
+    ensures { λ r. ⌜ r ≡ keySlot (now (x .entry)) row k .code ⌝ }
 {
-    let m = addresses::masks::read_netmask(value_of(file, x, row, k));
-    match m {
-        Netmask::Length(n) => n,
-        Netmask::Broken => 0,
-    }
+    code_of(x, row, k) as u8
 }
 
 pub fn ipv4_at(file: &[u8], x: &Places, row: usize, k: KeyName) -> Ipv4

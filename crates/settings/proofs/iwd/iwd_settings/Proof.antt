@@ -1,6 +1,5 @@
 -- The file is accepted, or refused.
-use Rattle.settings.proofs.IwdFile.{none-kept, found-kept, dns-in, iwd-good, servers-good, iwd-refused, servers-refused}
-use mathlib.Core.Path.{refl}
+use Rattle.settings.proofs.IwdFile.{refused-kept, found-kept, dns-in, iwd-good, servers-good, iwd-refused, servers-refused}
 use borrow.Author.Needs.{needs}
 use Rattle.settings.proofs.iwd.iwd_settings.Statement.{statement}
 use Rattle.settings.proofs.iwd.iwd_settings.Tie as tie
@@ -15,6 +14,6 @@ iwd-settings-spec =
     (λ c κs. search needs)
     (λ c κs. found-kept (c .before .before .before .before .before .before .before .before .read .ensures) (c .before .before .before .before .before .before .reading .given .1))
     (λ c. search needs)
-    (λ c κs. none-kept (c .before .before .before .before .before .before .before .before .args .file .now) refl)
+    (λ c κs. refused-kept (c .before .before .before .before .read .ensures) (c .before .before .reading2 .given .1))
     (λ c. (iwd-good (c .before .before .before .before .before .before .before .before .before .read .ensures) (c .before .before .before .before .before .before .before .reading .given .1) (c .iwd-rows .ensures), servers-good (c .before .before .before .before .before .before .before .before .before .read .ensures) (c .before .before .before .before .before .before .before .reading .given .1) (c .before .before .before .before .before .before .before .before .before .before .before .before .before .args .servers .now) (c .before .before .before .servers-at .ensures) (c .before .before .store .ensures)))
-    (λ c. (iwd-refused (c .before .before .before .before .before .read .ensures) (c .before .before .before .reading2 .given .1) refl (c .iwd-rows2 .ensures), servers-refused (c .before .before .before .before .before .read .ensures) (c .before .before .before .reading2 .given .1) (c .before .before .before .before .before .before .before .before .before .args .servers .now))))
+    (λ c. (iwd-refused (c .before .before .before .before .before .read .ensures) (c .before .before .before .reading2 .given .1) (c .iwd-rows2 .ensures), servers-refused (c .before .before .before .before .before .read .ensures) (c .before .before .before .reading2 .given .1) (c .before .before .before .before .before .before .before .before .before .args .servers .now))))

@@ -1,6 +1,6 @@
 -- The group IPv4, slot by slot.
 use Rattle.reader.specs.declared.KeyName.the-variants as N
-use Rattle.settings.proofs.Rowwise.{key-in, ipv4-typed}
+use Rattle.settings.proofs.Rowwise.{key-in, mask-in, ipv4-typed}
 use Rattle.settings.proofs.rows.ipv4_settings.Statement.{statement}
 use Rattle.settings.proofs.rows.ipv4_settings.Tie as tie
 
@@ -11,7 +11,7 @@ ipv4-settings-spec =
     (λ c κs. key-in N.Address (c .before .pre))
     (λ c κs. key-in N.Gateway (c .before .before .pre))
     (λ c κs. key-in N.Broadcast (c .before .before .before .pre))
-    (λ c κs. key-in N.Netmask (c .before .before .before .before .pre))
+    (λ c κs. mask-in (c .before .before .before .before .pre))
     (λ c κs. key-in N.Dns (c .before .before .before .before .before .pre))
     (λ c κs. c .before .before .before .before .before .before .pre .table)
     (λ c κs. c .before .before .before .before .before .before .before .pre .table)
