@@ -93,14 +93,14 @@ module _ (d : Dialect) (file : List ℕ) (s e : ℕ) (low : s ≤ e) (within : e
             go L.Blank gs w = absurd w
             go L.Comment gs w = absurd w
             go (L.Header p) gs w = absurd w
-            go (L.Setting i p v) gs w =
-                rw (w .2)
-                (record {
+            go (L.Setting i v) gs w =
+                record {
                   key = partAt file a;
+                  place = b;
                   is = is-setting;
                   good = rw is-setting (w .0);
                   new = w .1;
                   inside = setting-inside-file .1;
                   starts = starts;
-                })
+                }
             go (L.Refused r) gs w = rw is-setting w

@@ -2,23 +2,27 @@
 use Prim.Native.Nat.{ℕ, _+_, _*_, _≤_, _<_}
 use native.Mathlib.Omega.{arith}
 use mathlib.Core.Path.{_≡_, refl, ap, ap₂, sym, _∙_, subst}
-use mathlib.Core.Bool.{Bool, true, false, cond}
+use mathlib.Core.Bool.{Bool, true, false, cond, true≢false}
 use mathlib.Core.List.{List, [], _∷_}
-use mathlib.Core.Option.{Option, none, some, Option·none-ne-some}
+use mathlib.Core.Option.{Option, none, some, Option·none-ne-some, Option·some-injective}
 use denote.Enum.Declared.{tagOf}
 use types.Run.{OneOf, miss}
 use lib.ListN.{length}
 use Rattle.text.specs.Parts.{partAt, Inside}
 use Rattle.text.specs.Words.{place}
+use Rattle.text.specs.Options.{mapped}
 use Rattle.text.specs.declared.Dialect.{Dialect}
 use Rattle.text.specs.declared.Place.{Place}
 use Rattle.lines.specs.Lines as Lines
 use Rattle.lines.specs.Lines.{setting, lineOf, valueStart}
 use Rattle.kinds.specs.Typed as T
-use Rattle.kinds.specs.Typed.{Typed, Judged, judged}
+use Rattle.kinds.specs.Typed.{Typed, typed, Judged, judged}
+use Rattle.kinds.specs.Kinds as Kinds
+use Rattle.addresses.specs.Addresses as A
 use Rattle.kinds.specs.Answers.{valueAt, judgementAt}
 use Rattle.kinds.specs.declared.Judgement.the-variants as J
 use Rattle.kinds.specs.declared.Kind.{Kind}
+use Rattle.kinds.specs.declared.Kind.the-variants as K
 use Rattle.kinds.specs.declared.Value.{Value}
 use Rattle.rules.specs.Tables.{kindOf}
 use Rattle.rules.specs.Lookups.{keyNames}
@@ -28,8 +32,8 @@ use Rattle.rules.specs.declared.Refusal.{Refusal}
 use Rattle.rules.specs.declared.Refusal.the-variants.{RepeatedKey}
 use Rattle.reader.specs.Store.{fileLimit, lastRow, Slot, stored, Fits}
 use Rattle.reader.specs.History.{nameBase, baseAt, rowAfter, currentOf}
-use Rattle.reader.specs.Holds.{codeOf, Coded, Stands, Rows, Holds}
-use Rattle.reader.specs.Says.{valueCode, NewSetting, CurrentRow}
+use Rattle.reader.specs.Holds.{codeOf, isText, OfText, Coded, Stands, Rows, Holds}
+use Rattle.reader.specs.Says.{valueCode, textPlace, NewSetting, CurrentRow}
 use Rattle.reader.specs.Steps.{GoodSetting, LineIs, LineSays, Known, StepIs, Steps}
 use Rattle.reader.specs.declared.State.{State}
 use Rattle.reader.specs.declared.Line.{Line}
@@ -39,6 +43,7 @@ use Rattle.reader.specs.declared.Stepped.the-variants.{Goes, Stops}
 use Rattle.reader.proofs.Line.{the-type}
 use Rattle.reader.proofs.Rows.{keys-few, lies, own-row}
 use Rattle.reader.proofs.SettingLine.{Head, head}
+use Rattle.reader.proofs.RowRule.{good-typed}
 use Rattle.reader.proofs.Growing.{holds-setting}
 
 -- a place in a file of allowed size fits the table
@@ -65,24 +70,65 @@ not-given d k v (some y) es e f = go (given k es) (valueFault (judged d y v)) f
     go true o f = absurd (Option·none-ne-some RepeatedKey (sym f))
     go false o f = refl
 
--- what a good value's code says
-coded : {d : Dialect} {k : Option Kind} {b : List ℕ} {kind : Kind} (p : Place) {v : Value} (j : Judged) → judged d kind b ≡ j → k ≡ some kind → judgementAt p (judged d kind b) ≡ J.Good v → Coded d k b (valueCode v)
-coded {d} {k} {b} {kind} p {v} (T.good t) e q r = record { kind = kind; of-kind = q; typed = t; good = e; is = go t (sym (ap (judgementAt p) e) ∙ r) }
+-- a value that was judged good at a place: what its kind reads
+record ReadsAs (d : Dialect) (kind : Kind) (b : List ℕ) (p : Place) (v : Value) : Type 0 where
+  typed : Typed
+  good : judged d kind b ≡ T.good typed
+  is : valueAt p typed ≡ v
+
+reads-typed : {d : Dialect} {b : List ℕ} {kind : Kind} (p : Place) {v : Value} (j : Judged) → judged d kind b ≡ j → judgementAt p (judged d kind b) ≡ J.Good v → ReadsAs d kind b p v
+reads-typed p (T.good t) e r = let w = sym (ap (judgementAt p) e) ∙ r in record { typed = t; good = e; is = cc }
+reads-typed p T.brokenText e r = let w = sym (ap (judgementAt p) e) ∙ r in let z : _≡_ {A = ℕ} 0 1 = cc in absurd (omega arith)
+reads-typed p T.brokenKind e r = let w = sym (ap (judgementAt p) e) ∙ r in let z : _≡_ {A = ℕ} 0 1 = cc in absurd (omega arith)
+
+-- its code
+value-code : (p : Place) (t : Typed) → valueCode (valueAt p t) ≡ codeOf t
+value-code p (T.flag b) = refl
+value-code p (T.maskLength n) = refl
+value-code p (T.word w) = refl
+value-code p (T.address a) = refl
+value-code p (T.addresses l) = refl
+value-code p (T.entries l) = refl
+value-code p (T.ipv4 s) = refl
+value-code p (T.bytes b) = refl
+
+-- a text stands at its place
+module _ (p : Place) where
+  mapped-placed : {A : Type 0} (c : A → Typed) (o : Option A) {t : Typed} → mapped c o ≡ some t → ((a : A) → textPlace (valueAt p (c a)) ≡ p) → textPlace (valueAt p t) ≡ p
+  mapped-placed c none {t} e f = absurd (Option·none-ne-some t e)
+  mapped-placed c (some a) {t} e f = subst (λ (u : Typed). textPlace (valueAt p u) ≡ p) (Option·some-injective (c a) t e) (f a)
+
+  typed-placed : (d : Dialect) (k : Kind) (b : List ℕ) {t : Typed} → isText k ≡ true → typed d k b ≡ some t → textPlace (valueAt p t) ≡ p
+  unfolding typed
+  typed-placed d K.Flag b w e = absurd (true≢false (sym w))
+  typed-placed d (K.Named l) b w e = absurd (true≢false (sym w))
+  typed-placed d K.Netmask b w e = absurd (true≢false (sym w))
+  typed-placed d K.Address b w e = mapped-placed T.address (A.address b) e (λ a. refl)
+  typed-placed d K.Ipv4 b w e = mapped-placed T.ipv4 (Kinds.ipv4 b) e (λ a. refl)
+  typed-placed d (K.Addresses s) b w e = mapped-placed T.addresses (A.addresses s b) e (λ a. refl)
+  typed-placed d K.Entries b w e = mapped-placed T.entries (Kinds.entries b) e (λ a. refl)
+  typed-placed d K.Mac b w e = mapped-placed T.bytes (Kinds.mac b) e (λ a. refl)
+  typed-placed d K.Key b w e = mapped-placed T.bytes (Kinds.key b) e (λ a. refl)
+  typed-placed d K.Ssid b w e = mapped-placed T.bytes (Kinds.ssid b) e (λ a. refl)
+  typed-placed d K.Passphrase b w e = mapped-placed T.bytes (Kinds.passphrase d b) e (λ a. refl)
+  typed-placed d (K.Text low high) b w e = mapped-placed T.bytes (Kinds.string d low high b) e (λ a. refl)
+
+  text-placed : (d : Dialect) (k : Kind) (b : List ℕ) {t : Typed} → judged d k b ≡ T.good t → isText k ≡ true → {v : Value} → valueAt p t ≡ v → textPlace v ≡ p
+  text-placed d k b e w q = sym (ap textPlace q) ∙ typed-placed d k b w (good-typed d k b e)
+
+-- the place of a text lies in the file, and that of no text as well
+place-inside : {d : Dialect} {file : List ℕ} {gs : List Section} {s : ℕ} {l : List ℕ} {i : ℕ} {v : Value} → GoodSetting d file gs s l i v → Inside (length file) (textPlace v)
+place-inside {d} {file} u = let t = reads-typed (u .place) (judged d (u .new .kind) (partAt file (u .place))) refl (u .new .reads) in subst (λ (w : Value). Inside (length file) (textPlace w)) (t .is) (go (t .typed))
   where
-    go : (t : Typed) → judgementAt p (T.good t) ≡ J.Good v → valueCode v ≡ codeOf t
-    go t w = let z : valueAt p t ≡ v = cc in subst (λ (u : Value). valueCode u ≡ codeOf t) z (same-code t)
-      where
-        same-code : (t : Typed) → valueCode (valueAt p t) ≡ codeOf t
-        same-code (T.flag b) = refl
-        same-code (T.maskLength n) = refl
-        same-code (T.word w) = refl
-        same-code (T.address a) = refl
-        same-code (T.addresses l) = refl
-        same-code (T.entries l) = refl
-        same-code (T.ipv4 s) = refl
-        same-code (T.bytes b) = refl
-coded p T.brokenText e q r = let w = sym (ap (judgementAt p) e) ∙ r in let z : _≡_ {A = ℕ} 0 1 = cc in absurd (omega arith)
-coded p T.brokenKind e q r = let w = sym (ap (judgementAt p) e) ∙ r in let z : _≡_ {A = ℕ} 0 1 = cc in absurd (omega arith)
+    go : (t : Typed) → Inside (length file) (textPlace (valueAt (u .place) t))
+    go (T.flag b) = record { low = omega arith; high = omega arith }
+    go (T.maskLength n) = record { low = omega arith; high = omega arith }
+    go (T.word w) = record { low = omega arith; high = omega arith }
+    go (T.address a) = u .inside
+    go (T.addresses l) = u .inside
+    go (T.entries l) = u .inside
+    go (T.ipv4 s) = u .inside
+    go (T.bytes b) = u .inside
 
 module _ {d : Dialect} {file : List ℕ} {st : State} {x : List ℕ} {s : ℕ} {l : List ℕ} {f : Line} (says : LineSays d file x (st .current) s l f) where
   line-is : {gs : List Section} → Holds d file st x gs → LineIs d file gs s l f
@@ -117,43 +163,55 @@ module _ {d : Dialect} {file : List ℕ} {st : State} {x : List ℕ} {s : ℕ} {
       go L.Blank a b c gs h u = rw u (refl, h)
       go L.Comment a b c gs h u = rw u (refl, h)
       go (L.Header p) a b c gs h u = absurd (miss (0 ∷ 1 ∷ 3 ∷ 4 ∷ []) 2 tt a)
-      go (L.Setting i p v) a b c gs h u = absurd (miss (0 ∷ 1 ∷ 2 ∷ 4 ∷ []) 3 tt c)
+      go (L.Setting i v) a b c gs h u = absurd (miss (0 ∷ 1 ∷ 2 ∷ 4 ∷ []) 3 tt c)
       go (L.Refused r) a b c gs h u = absurd (miss (0 ∷ 1 ∷ 2 ∷ 3 ∷ []) 4 tt b)
 
   -- ---- a setting
 
-  module _ {i : ℕ} {p : Place} {v : Value} (q : f ≡ L.Setting i p v) where
-    good : {gs : List Section} → Holds d file st x gs → GoodSetting d file gs s l i p v
+  module _ {i : ℕ} {v : Value} (q : f ≡ L.Setting i v) where
+    good : {gs : List Section} → Holds d file st x gs → GoodSetting d file gs s l i v
     good {gs} h = subst (LineIs d file gs s l) q (line-is h)
 
-    pub value-inside : Known d file st x → Inside (length file) p
-    value-inside k = good (k .holds) .inside
+    pub value-inside : Known d file st x → Inside (length file) (textPlace v)
+    value-inside k = place-inside (good (k .holds))
 
     pub slot-few : Known d file st x → i < nameBase
     slot-few k = let u = good (k .holds) .new in omega (arith, u .is, current-row k .row (u .group) (u .row) (k .holds .current ∙ u .in-force), keys-few (u .group) (good (k .holds) .key))
 
     module _ {n : ℕ} (first : 0 < n) {r : State} (e : r ≡ record { current = st .current; services = st .services; settings = st .settings + 1 }) where
-      module _ {gs : List Section} (h : Holds d file st x gs) (u : GoodSetting d file gs s l i p v) where
+      module _ {gs : List Section} (h : Holds d file st x gs) (u : GoodSetting d file gs s l i v) where
         abbrev entry : Entry
-        entry = record { key = u .key; value = partAt file p; line = n; start = s + valueStart d l }
+        entry = record { key = u .key; value = partAt file (u .place); line = n; start = s + valueStart d l }
 
         abbrev here : Slot
-        here = record { start = p .start; end = p .end; line = n; code = valueCode v }
+        here = record { start = textPlace v .start; end = textPlace v .end; line = n; code = valueCode v }
 
         stands : (g : Group) → kindOf g (u .key) ≡ some (u .new .kind) → Stands d (kindOf g (u .key)) file here entry
-        stands g q = record { low = u .inside .low; high = u .inside .high; value = refl; start = u .starts; line = refl; some = first; code = coded p (judged d (u .new .kind) (partAt file p)) refl q (u .new .reads) }
+        stands g q =
+            let i = place-inside u in
+            let t = reads-typed (u .place) (judged d (u .new .kind) (partAt file (u .place))) refl (u .new .reads) in
+            let at : OfText (kindOf g (u .key)) → textPlace v ≡ u .place = λ w. text-placed (u .place) d (u .new .kind) (partAt file (u .place)) (t .good) (subst OfText q w) (t .is) in
+            record {
+              low = i .low;
+              high = i .high;
+              value = λ w. ap (partAt file) (at w);
+              start = λ w. ap (λ (p : Place). p .start) (at w) ∙ u .starts;
+              line = refl;
+              some = first;
+              code = record { kind = u .new .kind; of-kind = q; typed = t .typed; good = t .good; is = subst (λ (w : Value). valueCode w ≡ codeOf (t .typed)) (t .is) (value-code (u .place) (t .typed)) };
+            }
 
         held : (t : Head gs (u .new .group) (u .new .row)) → Holds d file r (stored i here x) (withEntry entry gs)
         unfolding fault
         held t =
             let a = t .section in
             let kind : kindOf (a .group) (u .key) ≡ some (u .new .kind) = ap (λ (g : Group). kindOf g (u .key)) (t .group) ∙ u .new .of-kind in
-            let free : given (u .key) (a .entries) ≡ false = not-given d (u .key) (partAt file p) (kindOf (a .group) (u .key)) (a .entries) kind (sym (ap (λ (t : List Section). fault d t (setting (u .key) (partAt file p))) (t .is)) ∙ ap (fault d gs) (sym (u .is)) ∙ u .good) in
+            let free : given (u .key) (a .entries) ≡ false = not-given d (u .key) (partAt file (u .place)) (kindOf (a .group) (u .key)) (a .entries) kind (sym (ap (λ (t : List Section). fault d t (setting (u .key) (partAt file (u .place)))) (t .is)) ∙ ap (fault d gs) (sym (u .is)) ∙ u .good) in
             let at : i ≡ baseAt (rowAfter a (t .rest)) + place (u .key) (keyNames (a .group)) = u .new .is ∙ ap₂ (λ (b : ℕ) (g : Group). b + place (u .key) (keyNames g)) (sym (t .row)) (sym (t .group)) in
             subst (λ (t : List Section). Holds d file r (stored i here x) (withEntry entry t)) (sym (t .is))
             (subst (λ (j : ℕ). Holds d file r (stored j here x) (withEntry entry (a ∷ t .rest))) (sym at)
             (holds-setting (subst (λ (t : List Section). Holds d file st x t) (t .is) h) (u .key) (λ z. u .new .listed (ap (λ (g : Group). place (u .key) (keyNames g)) (sym (t .group)) ∙ z)) here refl (stands (a .group) kind) free e))
 
-      pub step-setting : {y : List ℕ} → y ≡ stored i (record { start = p .start; end = p .end; line = n; code = valueCode v }) x → Steps d file st x n s (valueStart d l) (lineOf d l) y (Goes r)
+      pub step-setting : {y : List ℕ} → y ≡ stored i (record { start = textPlace v .start; end = textPlace v .end; line = n; code = valueCode v }) x → Steps d file st x n s (valueStart d l) (lineOf d l) y (Goes r)
       unfolding after
       step-setting z = record { says = λ gs h. let u = good h in (u .good, rw (z, u .is) (held h u (head gs (h .current) (h .current ∙ u .new .in-force)))) }

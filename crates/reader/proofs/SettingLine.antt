@@ -136,8 +136,8 @@ module _ (d : Dialect) (file x : List ℕ) (c : Current) (key value : Place) whe
         pub setting-kind : j ≡ J.BrokenKind → SettingSays d file x c key value (Refused ValueKind)
         setting-kind v = record { says = λ gs e rows. judging gs e rows ∙ ap valueFault (kind-broken value (judged d kind (partAt file value)) (sym s ∙ v)) }
 
-        pub setting-good : {v : Value} → j ≡ J.Good v → SettingSays d file x c key value (Setting (b + n) value v)
+        pub setting-good : {v : Value} → j ≡ J.Good v → SettingSays d file x c key value (Setting (b + n) v)
         setting-good v =
             record {
-              says = λ gs e rows. (judging gs e rows ∙ value-good value (judged d kind (partAt file value)) (sym s ∙ v), record { group = g; row = b; in-force = sym e ∙ q; listed = placed; is = omega (arith, known .0); kind = kind; of-kind = known .1; reads = sym s ∙ v }, refl);
+              says = λ gs e rows. (judging gs e rows ∙ value-good value (judged d kind (partAt file value)) (sym s ∙ v), record { group = g; row = b; in-force = sym e ∙ q; listed = placed; is = omega (arith, known .0); kind = kind; of-kind = known .1; reads = sym s ∙ v });
             }

@@ -17,7 +17,7 @@ use Rattle.rules.specs.Faults.{Entry, Section, serves, services}
 use Rattle.rules.specs.Asking.{firstOr, serviceAt, readAs, lineIn, startIn}
 use Rattle.reader.specs.Store.{lastRow, rowLength, Slot}
 use Rattle.reader.specs.History.{rowOf, base, rowAfter, latest, numbered}
-use Rattle.reader.specs.Holds.{Kept, Row, Table}
+use Rattle.reader.specs.Holds.{OfText, Kept, Row, Table}
 use Rattle.rules.specs.GoodEntries.{serves-service}
 use Rattle.rules.specs.declared.Group.{Group}
 use Rattle.rules.specs.declared.Group.the-variants.{Settings, Security, Ipv4, Ipv6, Global, Service}
@@ -26,17 +26,17 @@ use Rattle.reader.proofs.Backwards.{services-reverse}
 
 module _ (d : Dialect) (k : Option Kind) (file : List ℕ) (s : Slot) where
   -- a kind that reads nothing from no bytes
-  pub kept-read : {A : Type 0} (f : List ℕ → Option A) → f [] ≡ none → (o : Option Entry) → Kept d k file s o → f (part (s .start) (s .end) file) ≡ readAs f o
-  kept-read f e none q = rw (ap (λ (t : Slot). t .start) q, ap (λ (t : Slot). t .end) q, part-none file 0) e
-  kept-read f e (some x) h = ap f (h .value)
+  pub kept-read : {A : Type 0} (f : List ℕ → Option A) → f [] ≡ none → OfText k → (o : Option Entry) → Kept d k file s o → f (part (s .start) (s .end) file) ≡ readAs f o
+  kept-read f e t none q = rw (ap (λ (u : Slot). u .start) q, ap (λ (u : Slot). u .end) q, part-none file 0) e
+  kept-read f e t (some x) h = ap f (h .value t)
 
   pub kept-line : (o : Option Entry) → Kept d k file s o → s .line ≡ lineIn o
   kept-line none q = ap (λ (t : Slot). t .line) q
   kept-line (some x) h = h .line
 
-  pub kept-start : (o : Option Entry) → Kept d k file s o → s .start ≡ startIn o
-  kept-start none q = ap (λ (t : Slot). t .start) q
-  kept-start (some x) h = h .start
+  pub kept-start : OfText k → (o : Option Entry) → Kept d k file s o → s .start ≡ startIn o
+  kept-start t none q = ap (λ (u : Slot). u .start) q
+  kept-start t (some x) h = h .start t
 
 -- ---- a service by its number, the groups in file order and the latest first
 

@@ -11,6 +11,7 @@ use Rattle.text.specs.declared.Dialect.{Dialect}
 use Rattle.kinds.specs.Typed as T
 use Rattle.kinds.specs.Typed.{Typed, judged, good}
 use Rattle.kinds.specs.declared.Kind.{Kind}
+use Rattle.kinds.specs.declared.Kind.the-variants as K
 use Rattle.rules.specs.Tables.{groupOf, kindOf}
 use Rattle.rules.specs.Lookups.{keyNames}
 use Rattle.rules.specs.Faults.{Entry, Section, nameGiven, services}
@@ -46,12 +47,31 @@ pub record Coded (d : Dialect) (k : Option Kind) (v : List ℕ) (c : ℕ) : Type
   pub good : judged d kind v ≡ good typed
   pub is : c ≡ codeOf typed
 
--- a slot says where a setting's value stands, and what it is
+-- a text is kept by its place; a yes/no, a word and a mask are all that their code says
+abbrev pub isText : Kind → Bool
+isText K.Flag = false
+isText (K.Named w) = false
+isText K.Netmask = false
+isText K.Address = true
+isText K.Ipv4 = true
+isText (K.Addresses s) = true
+isText K.Entries = true
+isText K.Mac = true
+isText K.Key = true
+isText K.Ssid = true
+isText K.Passphrase = true
+isText (K.Text low high) = true
+
+abbrev pub OfText : Option Kind → Type 0
+OfText none = ⊥
+OfText (some k) = isText k ≡ true
+
+-- a slot says where a setting's value stands, if it is a text, and what it is
 pub record Stands (d : Dialect) (k : Option Kind) (file : List ℕ) (s : Slot) (x : Entry) : Type 0 where
   pub low : s .start ≤ s .end
   pub high : s .end ≤ length file
-  pub value : part (s .start) (s .end) file ≡ x .value
-  pub start : s .start ≡ x .start
+  pub value : OfText k → part (s .start) (s .end) file ≡ x .value
+  pub start : OfText k → s .start ≡ x .start
   pub line : s .line ≡ x .line
   pub some : 0 < s .line
   pub code : Coded d k (x .value) (s .code)

@@ -43,7 +43,7 @@ abbrev pub SettingIs : Dialect → List ℕ → List Section → Place → Place
 SettingIs d file gs key value Blank = ⊥
 SettingIs d file gs key value Comment = ⊥
 SettingIs d file gs key value (Header p) = ⊥
-SettingIs d file gs key value (Setting i p v) = (fault d gs (setting (partAt file key) (partAt file value)) ≡ none) × NewSetting d gs (partAt file key) (partAt file value) i value v × (p ≡ value)
+SettingIs d file gs key value (Setting i v) = (fault d gs (setting (partAt file key) (partAt file value)) ≡ none) × NewSetting d gs (partAt file key) (partAt file value) i value v
 SettingIs d file gs key value (Refused r) = fault d gs (setting (partAt file key) (partAt file value)) ≡ some r
 
 -- the code of a value
@@ -52,6 +52,13 @@ valueCode (X.Flag b) = flagCode b
 valueCode (X.Mask n) = n
 valueCode (X.Word w) = wordNumber w
 valueCode (X.Text p) = 0
+
+-- the place of a text, which a value of any other kind has not
+abbrev pub textPlace : Value → Place
+textPlace (X.Flag b) = record { start = 0; end = 0 }
+textPlace (X.Mask n) = record { start = 0; end = 0 }
+textPlace (X.Word w) = record { start = 0; end = 0 }
+textPlace (X.Text p) = p
 
 -- the row of the group in force lies in the table
 pub record CurrentRow (x : List ℕ) (c : Current) : Type 0 where

@@ -28,20 +28,21 @@ use Rattle.reader.specs.declared.Stepped.the-variants.{Goes, Stops}
 
 -- ---- what the line l is, which starts at s in the file
 
--- a good setting: its value stands at p, where its key's slot i will say that it does
-pub record GoodSetting (d : Dialect) (file : List ℕ) (gs : List Section) (s : ℕ) (l : List ℕ) (i : ℕ) (p : Place) (v : Value) : Type 0 where
+-- a good setting: its value, which stands at a place of the file, is v, and i is its key's slot
+pub record GoodSetting (d : Dialect) (file : List ℕ) (gs : List Section) (s : ℕ) (l : List ℕ) (i : ℕ) (v : Value) : Type 0 where
   pub key : List ℕ
-  pub is : lineOf d l ≡ setting key (partAt file p)
+  pub place : Place
+  pub is : lineOf d l ≡ setting key (partAt file place)
   pub good : fault d gs (lineOf d l) ≡ none
-  pub new : NewSetting d gs key (partAt file p) i p v
-  pub inside : Inside (length file) p
-  pub starts : p .start ≡ s + valueStart d l
+  pub new : NewSetting d gs key (partAt file place) i place v
+  pub inside : Inside (length file) place
+  pub starts : place .start ≡ s + valueStart d l
 
 abbrev pub LineIs : Dialect → List ℕ → List Section → ℕ → List ℕ → Line → Type 0
 LineIs d file gs s l Blank = lineOf d l ≡ blank
 LineIs d file gs s l Comment = lineOf d l ≡ comment
 LineIs d file gs s l (Header p) = (lineOf d l ≡ Lines.header (partAt file p)) × Inside (length file) p
-LineIs d file gs s l (Setting i p v) = GoodSetting d file gs s l i p v
+LineIs d file gs s l (Setting i v) = GoodSetting d file gs s l i v
 LineIs d file gs s l (Refused r) = fault d gs (lineOf d l) ≡ some r
 
 pub record LineSays (d : Dialect) (file x : List ℕ) (c : Current) (s : ℕ) (l : List ℕ) (r : Line) : Type 0 where

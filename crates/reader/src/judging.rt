@@ -71,7 +71,7 @@ pub fn setting_line(
     match judgement {
         Judgement::BrokenText => Line::Refused(Refusal::ValueText),
         Judgement::BrokenKind => Line::Refused(Refusal::ValueKind),
-        Judgement::Good(v) => Line::Setting(i, value, v),
+        Judgement::Good(v) => Line::Setting(i, v),
     }
 }
 

@@ -103,13 +103,13 @@ pub struct State {
     pub settings: usize,
 }
 
-// What a line is after those before it: passed over, a header by its name, a setting by its slot in the table of places,
-// where its value stands and what it is, or refused.
+// What a line is after those before it: passed over, a header by its name, a setting by its slot in the table of places and
+// what its value is, or refused.
 pub enum Line {
     Blank,
     Comment,
     Header(Place),
-    Setting(usize, Place, Value),
+    Setting(usize, Value),
     Refused(Refusal),
 }
 

@@ -6,7 +6,7 @@ ghost use Rattle.text.specs.Parts.{part};
 ghost use Rattle.lines.specs.Lines.{lineOf, valueStart};
 ghost use Rattle.reader.specs.Store.{fileLimit};
 ghost use Rattle.reader.specs.Holds.{flagCode};
-ghost use Rattle.reader.specs.Says.{valueCode};
+ghost use Rattle.reader.specs.Says.{valueCode, textPlace};
 ghost use Rattle.reader.specs.Steps.{Known, Steps};
 use crate::Line;
 use crate::Places;
@@ -18,9 +18,12 @@ use crate::services::word_number;
 use crate::store::put_slot;
 use kinds::Value;
 use text::Dialect;
+use text::Place;
+
+const NOWHERE: Place = Place { start: 0, end: 0 };
 
 // The code under which the table of places keeps what a value is.
-fn code_of(v: Value) -> u16
+fn value_code(v: Value) -> u16
     ensures { λ r. ⌜ r ≡ valueCode v ⌝ }
 {
     match v {
@@ -40,7 +43,19 @@ fn flag_code(b: bool) -> u16
     1
 }
 
-// The step over the line from start to end: blank and comment lines are passed over, a setting's place is stored.
+// Where a text stands; of any other value the code says all.
+fn text_place(v: Value) -> Place
+    ensures { λ r. ⌜ r ≡ textPlace v ⌝ }
+{
+    match v {
+        Value::Flag(b) => NOWHERE,
+        Value::Mask(n) => NOWHERE,
+        Value::Word(w) => NOWHERE,
+        Value::Text(p) => p,
+    }
+}
+
+// The step over the line from start to end: blank and comment lines are passed over, what a setting's value is, is stored.
 pub fn step(
     d: Dialect,
     file: &[u8],
@@ -65,10 +80,11 @@ pub fn step(
     if let Line::Refused(r) = l {
         return Stepped::Stops(r);
     }
-    let Line::Setting(i, value, v) = l else {
+    let Line::Setting(i, v) = l else {
         return Stepped::Goes(st);
     };
-    put_slot(x, i, value.start, value.end, line, code_of(v));
+    let text = text_place(v);
+    put_slot(x, i, text.start, text.end, line, value_code(v));
     let mut next = st;
     next.settings = st.settings + 1;
     Stepped::Goes(next)

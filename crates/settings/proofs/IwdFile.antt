@@ -26,10 +26,9 @@ use Rattle.reader.specs.Holds.{Row}
 use Rattle.reader.specs.Closing.{keySlot, bytesOf, KeyIn}
 use Rattle.reader.specs.declared.KeyName.the-variants as N
 use Rattle.reader.proofs.RowRule.{row-key}
-use Rattle.reader.proofs.FileFault.{group-row}
-use Rattle.rules.specs.ListedValues.{groupName}
 use Rattle.pass.specs.Pass.{Found, Reads}
 use Rattle.pass.proofs.Walking.{empty-row}
+use Rattle.pass.proofs.Asking.{found-group}
 use Rattle.settings.specs.Values.{choiceBy}
 use Rattle.settings.specs.Settings.{generalOf, securityOf, ipv4Of, iwdSettings}
 use Rattle.settings.specs.Rows.{RowOf, Typed}
@@ -52,13 +51,9 @@ module _ {file x : List ℕ} where
         is = λ es h. rw (p .is (es (word "Settings")) (h .general), q .is (es (word "Security")) (h .security), r .is (es (word "IPv4")) (h .ipv4), s ∙ flag-by Iwd file (keySlot x (base G.Ipv6 0) N.Enabled) (entryOf (word "Enabled") (es (word "IPv6"))) (row-key N.Enabled (h .ipv6)));
       }
 
-module _ {file : List ℕ} {y : List ℕ} (f : Found Iwd file y) where
-  of-group : (g : Group) → groupOf Iwd (groupName g) ≡ some g → serves g ≡ false → Row Iwd file y (base g 0) g (entriesIn (groupName g) (sectionsOf Iwd file))
-  of-group g q v = subst (λ (gs : List Section). Row Iwd file y (base g 0) g (entriesIn (groupName g) gs)) (f .all) (group-row (f .kept) g q v)
-
-  pub found-rows : FourRows file y (λ n. entriesIn n (sectionsOf Iwd file))
-  unfolding groupOf
-  found-rows = record { general = of-group G.Settings refl refl; security = of-group G.Security refl refl; ipv4 = of-group G.Ipv4 refl refl; ipv6 = of-group G.Ipv6 refl refl }
+pub found-rows : {file y : List ℕ} → Found Iwd file y → FourRows file y (λ n. entriesIn n (sectionsOf Iwd file))
+unfolding groupOf
+found-rows f = record { general = found-group f G.Settings refl refl; security = found-group f G.Security refl refl; ipv4 = found-group f G.Ipv4 refl refl; ipv6 = found-group f G.Ipv6 refl refl }
 
 none-rows : (file : List ℕ) → FourRows file (replicate tableLength 0) (λ n. [])
 none-rows file =

@@ -1,7 +1,6 @@
 -- What a row keeps, read by kind: one law for each function over a row.
 use Prim.Native.Nat.{ℕ, suc, _+_, _≤_, _<_}
 use native.Mathlib.Omega.{arith}
-use native.Mathlib.Nat.{le-refl}
 use mathlib.Core.Path.{_≡_, refl, ap, ap₂, sym, _∙_}
 use mathlib.Core.Bool.{Bool, true, false}
 use mathlib.Core.List.{List, []}
@@ -38,11 +37,11 @@ use Rattle.rules.specs.declared.Group.the-variants as G
 use Rattle.reader.specs.Store.{Slot}
 use Rattle.reader.specs.History.{base}
 use Rattle.reader.specs.Keys.{groupOf, wordOf as nameOf, kindOf}
-use Rattle.reader.specs.Holds.{flagCode, Coded, Kept, Row}
+use Rattle.reader.specs.Holds.{flagCode, isText, Coded, Kept, Row}
 use Rattle.reader.specs.Closing.{InTable, keySlot, bytesOf, KeyIn}
 use Rattle.reader.specs.declared.KeyName.{KeyName}
 use Rattle.reader.specs.declared.KeyName.the-variants as N
-use Rattle.reader.proofs.RowRule.{row-key, CodedBy, coded-word, coded-flag, coded-mask}
+use Rattle.reader.proofs.RowRule.{row-key, row-in, CodedBy, coded-word, coded-flag, coded-mask}
 use Rattle.reader.proofs.Values.{kept-read, kept-line, kept-start}
 use Rattle.settings.specs.Values.{choice, chosen, choiceBy, chosenBy, lengthOr0}
 use Rattle.settings.specs.Settings.{generalOf, securityOf, ipv4Of, networkSettingsOf, addressSettingsOf}
@@ -84,21 +83,29 @@ ssid-none = refl
 -- ---- a key of a row
 
 pub key-in : {d : Dialect} {file x : List ℕ} {b : ℕ} (k : KeyName) → RowOf d file x b (groupOf k) → KeyIn file x b k
-key-in {d} {file} {x} {b} k h = go (entryOf (nameOf k) (h .settings)) (row-key k (h .row))
-  where
-    go : (o : Option Entry) → Kept d (some (kindOf k)) file (keySlot x b k) o → KeyIn file x b k
-    go none q = record { table = h .table; low = rw (ap (λ (s : Slot). s .start) q, ap (λ (s : Slot). s .end) q) (le-refl 0); high = rw (ap (λ (s : Slot). s .end) q) (omega arith) }
-    go (some e) q = record { table = h .table; low = q .low; high = q .high }
+key-in k h = row-in k (h .row) (h .table)
+
+-- of a key whose values are texts; once the key is named, this comes to the statement itself
+abbrev When : Bool → Type 0 → Type 0
+When true A = A
+When false A = Unit
+
+when : (b : Bool) {A : Type 0} → (b ≡ true → A) → When b A
+when true f = f refl
+when false f = tt
+
+abbrev pub IfText : KeyName → Type 0 → Type 0
+IfText k A = When (isText (kindOf k)) A
 
 module _ {d : Dialect} {file x : List ℕ} {b : ℕ} (k : KeyName) {es : List Entry} (h : Row d file x b (groupOf k) es) where
-  pub row-read : {A : Type 0} (f : List ℕ → Option A) → f [] ≡ none → f (bytesOf file x b k) ≡ readAs f (entryOf (nameOf k) es)
-  row-read f q = kept-read d (some (kindOf k)) file (keySlot x b k) f q (entryOf (nameOf k) es) (row-key k h)
+  pub row-read : {A : Type 0} (f : List ℕ → Option A) → f [] ≡ none → IfText k (f (bytesOf file x b k) ≡ readAs f (entryOf (nameOf k) es))
+  row-read f q = when (isText (kindOf k)) (λ t. kept-read d (some (kindOf k)) file (keySlot x b k) f q t (entryOf (nameOf k) es) (row-key k h))
 
   pub row-line : keySlot x b k .line ≡ lineIn (entryOf (nameOf k) es)
   row-line = kept-line d (some (kindOf k)) file (keySlot x b k) (entryOf (nameOf k) es) (row-key k h)
 
-  pub row-start : keySlot x b k .start ≡ startIn (entryOf (nameOf k) es)
-  row-start = kept-start d (some (kindOf k)) file (keySlot x b k) (entryOf (nameOf k) es) (row-key k h)
+  pub row-start : IfText k (keySlot x b k .start ≡ startIn (entryOf (nameOf k) es))
+  row-start = when (isText (kindOf k)) (λ t. kept-start d (some (kindOf k)) file (keySlot x b k) t (entryOf (nameOf k) es) (row-key k h))
 
 -- ---- a yes/no and a word by their codes
 

@@ -20,10 +20,10 @@ use Rattle.reader.specs.History.{base}
 use Rattle.reader.specs.Holds.{Row}
 use Rattle.reader.specs.Closing.{bytesOf, KeyIn}
 use Rattle.reader.specs.declared.KeyName.the-variants as N
-use Rattle.reader.proofs.Values.{numbered-service, numbered-row, base-few}
+use Rattle.reader.proofs.Values.{base-few}
 use Rattle.pass.specs.Pass.{Found, Reads}
 use Rattle.pass.proofs.Walking.{empty-row}
-use Rattle.pass.proofs.Asking.{service-found, service-answer, service-few}
+use Rattle.pass.proofs.Asking.{found-service, service-found, service-answer, service-few}
 use Rattle.settings.specs.Settings.{networkSettingsOf, addressSettingsOf, serviceSettings}
 use Rattle.settings.specs.Rows.{RowOf, Typed}
 use Rattle.settings.specs.Asked.{serviceAnswerOf, serviceAnswered, serviceServersAfter}
@@ -51,7 +51,7 @@ none-answer {file} t r l = rw (t .is [] (none-row file))
 -- after a reading
 module _ {file : List ℕ} {y : List ℕ} (f : Found ConnMan file y) (w : ℕ) (few : (1 ≤ w) × (w ≤ 8)) where
   pub service-row : Row ConnMan file y (base G.Service w) G.Service (serviceAt w (sectionsOf ConnMan file))
-  service-row = subst (λ (es : List Entry). Row ConnMan file y (base G.Service w) G.Service es) (numbered-service w (f .groups) ∙ ap (serviceAt w) (f .all)) (numbered-row (f .kept) w few)
+  service-row = found-service f w few
 
   pub service-kept : RowOf ConnMan file y (base G.Service w) G.Service
   service-kept = record { table = record { long = f .kept .long; row = base-few G.Service w (few .1) }; settings = serviceAt w (sectionsOf ConnMan file); row = service-row }
