@@ -1,10 +1,11 @@
--- The rules over an iwd file, by its rows in the table of places.
+-- The row of a group that stands once, and the rules over an iwd file by its rows in the table of places.
 use Prim.Native.Nat.{ℕ, _+_}
 use native.Mathlib.Omega.{arith}
 use mathlib.Core.Path.{_≡_, refl, sym, _∙_, subst}
 use mathlib.Core.Bool.{false, true≢false}
 use mathlib.Core.List.{List, reverse}
 use mathlib.Core.Option.{some}
+use Rattle.text.specs.declared.Dialect.{Dialect}
 use Rattle.text.specs.declared.Dialect.the-variants.{Iwd}
 use Rattle.names.specs.declared.Suffix.{Suffix}
 use Rattle.rules.specs.Tables.{groupOf}
@@ -22,21 +23,21 @@ use Rattle.rules.specs.ListedValues.{groupName}
 use Rattle.reader.proofs.PlainHeading.{entries-latest}
 use Rattle.reader.proofs.Backwards.{entries-reverse}
 
-module _ {file : List ℕ} {x : List ℕ} {gs : List Section} (t : Table Iwd file x gs) where
-  -- the row of a group that stands once
-  pub group-row : (g : Group) → groupOf Iwd (groupName g) ≡ some g → serves g ≡ false → Row Iwd file x (base g 0) g (entriesIn (groupName g) (reverse gs))
-  group-row g q v =
-      subst (λ (es : List Entry). Row Iwd file x (base g 0) g es) (sym (entries-reverse (groupName g) Iwd gs (t .rows .well) ∙ entries-latest Iwd (groupName g) g q v gs (t .rows .well) refl))
-      (subst (λ (h : Group). Row Iwd file x (base g 0) h (latest (rowOf g 0) gs)) (group-at g 0 (λ e. absurd (true≢false (sym e ∙ v)))) (t .rows .each (rowOf g 0) (own-row Iwd (groupName g) q 0 (omega arith))))
+-- the row of a group that stands once
+pub group-row : {d : Dialect} {file x : List ℕ} {gs : List Section} → Table d file x gs → (g : Group) → groupOf d (groupName g) ≡ some g → serves g ≡ false → Row d file x (base g 0) g (entriesIn (groupName g) (reverse gs))
+group-row {d} {file} {x} {gs} t g q v =
+    subst (λ (es : List Entry). Row d file x (base g 0) g es) (sym (entries-reverse (groupName g) d gs (t .rows .well) ∙ entries-latest d (groupName g) g q v gs (t .rows .well) refl))
+    (subst (λ (h : Group). Row d file x (base g 0) h (latest (rowOf g 0) gs)) (group-at g 0 (λ e. absurd (true≢false (sym e ∙ v)))) (t .rows .each (rowOf g 0) (own-row d (groupName g) q 0 (omega arith))))
 
+module _ {file : List ℕ} {x : List ℕ} {gs : List Section} (t : Table Iwd file x gs) where
   pub file-fault : (s : Suffix) → faultAt 0 (slotsFile s x) ≡ fileFault s (reverse gs)
   unfolding slotsFile fileFault groupOf
   file-fault s =
       rw (
-        taken-given N.IwdPassphrase (group-row Security refl refl),
-        taken-given N.PreSharedKey (group-row Security refl refl),
-        taken-given N.Address (group-row Ipv4 refl refl),
-        taken-given N.Gateway (group-row Ipv4 refl refl),
-        taken-given N.Broadcast (group-row Ipv4 refl refl),
-        taken-given N.Netmask (group-row Ipv4 refl refl),
+        taken-given N.IwdPassphrase (group-row t Security refl refl),
+        taken-given N.PreSharedKey (group-row t Security refl refl),
+        taken-given N.Address (group-row t Ipv4 refl refl),
+        taken-given N.Gateway (group-row t Ipv4 refl refl),
+        taken-given N.Broadcast (group-row t Ipv4 refl refl),
+        taken-given N.Netmask (group-row t Ipv4 refl refl),
       )

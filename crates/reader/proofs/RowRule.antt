@@ -1,6 +1,7 @@
 -- The rules over a service, by the row that holds its settings.
 use Prim.Native.Nat.{ℕ, _+_, _<_}
 use native.Mathlib.Omega.{arith}
+use native.Mathlib.Nat.{le-refl}
 use mathlib.Core.Path.{_≡_, refl, ap, sym, _∙_, subst}
 use mathlib.Core.Bool.{Bool, true, false, cond}
 use mathlib.Core.List.{List}
@@ -26,7 +27,7 @@ use Rattle.rules.specs.Groups.{entryOf, isWord, wordNumber, wordIn, serviceFaul
 use Rattle.reader.specs.Store.{Slot, slot}
 use Rattle.reader.specs.Keys.{placeOf, groupOf, wordOf as nameOf, kindOf, key-placed, key-kind, key-few}
 use Rattle.reader.specs.Holds.{flagCode, codeOf, Coded, Kept, Row}
-use Rattle.reader.specs.Closing.{isTaken, slotIs, slotsRule}
+use Rattle.reader.specs.Closing.{InTable, KeyIn, keySlot, isTaken, slotIs, slotsRule}
 use Rattle.reader.specs.declared.KeyName.{KeyName}
 use Rattle.reader.specs.declared.KeyName.the-variants as N
 use Rattle.reader.proofs.Rows.{given-entry, kept-given}
@@ -40,6 +41,14 @@ module _ {d : Dialect} {file x : List ℕ} {b : ℕ} (k : KeyName) {es : List En
   -- a slot of a row is taken where its key is given
   pub taken-given : isTaken x b k ≡ given (nameOf k) es
   taken-given = sym (kept-given d (some (kindOf k)) file (slot (b + placeOf k) x) (entryOf (nameOf k) es) row-key refl) ∙ sym (given-entry (nameOf k) es)
+
+  -- what a row keeps of a key lies in the file
+  pub row-in : InTable x b → KeyIn file x b k
+  row-in t = go (entryOf (nameOf k) es) row-key
+    where
+      go : (o : Option Entry) → Kept d (some (kindOf k)) file (keySlot x b k) o → KeyIn file x b k
+      go none q = record { table = t; low = rw (ap (λ (s : Slot). s .start) q, ap (λ (s : Slot). s .end) q) (le-refl 0); high = rw (ap (λ (s : Slot). s .end) q) (omega arith) }
+      go (some e) q = record { table = t; low = q .low; high = q .high }
 
 -- ---- a word by its code
 

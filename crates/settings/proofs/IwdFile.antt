@@ -1,17 +1,15 @@
 -- The settings of an iwd file: its rows, and one law for each answer.
-use Prim.Native.Nat.{ℕ, suc, _+_, _≤_, _<_}
+use Prim.Native.Nat.{ℕ, _≤_}
 use native.Mathlib.Omega.{arith}
-use mathlib.Core.Path.{_≡_, refl, ap, sym, _∙_, subst}
-use mathlib.Core.Bool.{false}
-use mathlib.Core.List.{List, [], reverse}
-use mathlib.Core.Option.{Option, none, some}
-use lib.ListN.{length, replicate, length-replicate}
+use mathlib.Core.Path.{_≡_, refl, ap, sym, _∙_}
+use mathlib.Core.List.{List, []}
+use lib.ListN.{replicate, length-replicate}
 use Rattle.text.specs.Words.{word}
 use Rattle.text.specs.declared.Dialect.the-variants.{Iwd}
 use Rattle.addresses.specs.Addresses.{addresses, rows}
 use Rattle.addresses.specs.declared.Separator.the-variants.{Spaces}
 use Rattle.rules.specs.Tables.{groupOf, keysOf}
-use Rattle.rules.specs.Faults.{Entry, Section, serves}
+use Rattle.rules.specs.Faults.{Entry}
 use Rattle.rules.specs.Groups.{entryOf, entriesIn}
 use Rattle.rules.specs.Reading.{sectionsOf, reading}
 use Rattle.rules.specs.Asking.{asked}
@@ -21,17 +19,15 @@ use Rattle.rules.specs.declared.Answer.the-variants.{Good, Refused}
 use Rattle.rules.specs.declared.Reading.{Reading}
 use Rattle.rules.specs.declared.Reading.the-variants as R
 use Rattle.rules.specs.declared.Refusal.{Refusal}
-use Rattle.reader.specs.History.{base}
 use Rattle.reader.specs.Holds.{Row}
 use Rattle.reader.specs.Closing.{keySlot, bytesOf, KeyIn}
 use Rattle.reader.specs.declared.KeyName.the-variants as N
 use Rattle.reader.proofs.RowRule.{row-key}
-use Rattle.reader.proofs.FileFault.{group-row}
-use Rattle.rules.specs.ListedValues.{groupName}
 use Rattle.pass.specs.Pass.{Found, Reads}
 use Rattle.pass.proofs.Walking.{empty-row}
+use Rattle.pass.proofs.Asking.{found-group}
 use Rattle.settings.specs.Values.{choiceBy}
-use Rattle.settings.specs.Settings.{generalOf, securityOf, ipv4Of, iwdSettings}
+use Rattle.settings.specs.Settings.{generalOf, securityOf, ipv4Of}
 use Rattle.settings.specs.Rows.{RowOf, Typed}
 use Rattle.settings.specs.Asked.{FourRows, IwdRows, IwdTyped, iwdAnswered, iwdServersAfter}
 use Rattle.settings.specs.declared.Choice.{Choice}
@@ -51,13 +47,9 @@ module _ {file x : List ℕ} where
         is = λ es h. rw (p .is (es (word "Settings")) (h .general), q .is (es (word "Security")) (h .security), r .is (es (word "IPv4")) (h .ipv4), s ∙ flag-by Iwd file (keySlot x 75 N.Enabled) (entryOf (word "Enabled") (es (word "IPv6"))) (row-key N.Enabled (h .ipv6)));
       }
 
-module _ {file : List ℕ} {y : List ℕ} (f : Found Iwd file y) where
-  of-group : (g : Group) → groupOf Iwd (groupName g) ≡ some g → serves g ≡ false → Row Iwd file y (base g 0) g (entriesIn (groupName g) (sectionsOf Iwd file))
-  of-group g q v = subst (λ (gs : List Section). Row Iwd file y (base g 0) g (entriesIn (groupName g) gs)) (f .all) (group-row (f .kept) g q v)
-
-  pub found-rows : FourRows file y (λ n. entriesIn n (sectionsOf Iwd file))
-  unfolding groupOf
-  found-rows = record { general = of-group G.Settings refl refl; security = of-group G.Security refl refl; ipv4 = of-group G.Ipv4 refl refl; ipv6 = of-group G.Ipv6 refl refl }
+pub found-rows : {file y : List ℕ} → Found Iwd file y → FourRows file y (λ n. entriesIn n (sectionsOf Iwd file))
+unfolding groupOf
+found-rows f = record { general = found-group f G.Settings refl refl; security = found-group f G.Security refl refl; ipv4 = found-group f G.Ipv4 refl refl; ipv6 = found-group f G.Ipv6 refl refl }
 
 none-rows : (file : List ℕ) → FourRows file (replicate 976 0) (λ n. [])
 none-rows file =

@@ -1,13 +1,11 @@
 -- What a row keeps, read by kind: one law for each function over a row.
-use Prim.Native.Nat.{ℕ, suc, _+_, _≤_, _<_}
-use native.Mathlib.Omega.{arith}
-use native.Mathlib.Nat.{le-refl}
-use mathlib.Core.Path.{_≡_, refl, ap, ap₂, sym, _∙_}
+use Prim.Native.Nat.{ℕ}
+use mathlib.Core.Path.{_≡_, refl, ap, ap₂, sym, _∙_, subst}
 use mathlib.Core.Bool.{Bool, true, false}
 use mathlib.Core.List.{List, []}
 use mathlib.Core.Option.{Option, none, some}
 use lib.ListN.{length}
-use Rattle.text.specs.Options.{plain}
+use Rattle.text.specs.Options.{plain, andThen}
 use Rattle.text.specs.Words.{word}
 use Rattle.text.specs.declared.Dialect.{Dialect}
 use Rattle.text.specs.declared.Dialect.the-variants.{Iwd, ConnMan}
@@ -17,6 +15,7 @@ use Rattle.addresses.specs.declared.Separator.{Separator}
 use Rattle.addresses.specs.declared.Separator.the-variants.{Spaces, Comma}
 use Rattle.kinds.specs.Kinds.{flag, wordOf, ipv4, entries, mac, key, ssid}
 use Rattle.kinds.specs.Answers.{ipv4Answer, entriesAnswer, macAnswer, keyAnswer, ssidAnswer}
+use Rattle.kinds.specs.declared.Kind.{Kind}
 use Rattle.kinds.specs.declared.Kind.the-variants.{Flag, Named}
 use Rattle.kinds.specs.declared.Word.{Word}
 use Rattle.kinds.specs.declared.Word.the-variants.{Wifi, Ethernet, Off, Auto, Disabled, Enabled, Preferred, Psk, Ieee8021x, None, Wep}
@@ -29,17 +28,16 @@ use Rattle.kinds.specs.declared.Mac.{Mac}
 use Rattle.kinds.specs.declared.Ssid.{Ssid}
 use Rattle.rules.specs.Tables.{keysOf}
 use Rattle.rules.specs.Faults.{Entry}
-use Rattle.rules.specs.Groups.{entryOf, wordNumber}
+use Rattle.rules.specs.Groups.{entryOf, isWord, wordNumber}
 use Rattle.rules.specs.Asking.{readAs, lineIn, startIn}
-use Rattle.rules.specs.declared.Group.{Group}
 use Rattle.rules.specs.declared.Group.the-variants as G
 use Rattle.reader.specs.Store.{Slot}
 use Rattle.reader.specs.Keys.{groupOf, wordOf as nameOf, kindOf}
 use Rattle.reader.specs.Holds.{flagCode, Kept, Row}
-use Rattle.reader.specs.Closing.{InTable, keySlot, bytesOf, KeyIn}
+use Rattle.reader.specs.Closing.{keySlot, bytesOf, KeyIn, slotIs}
 use Rattle.reader.specs.declared.KeyName.{KeyName}
 use Rattle.reader.specs.declared.KeyName.the-variants as N
-use Rattle.reader.proofs.RowRule.{row-key, coded-word, coded-flag}
+use Rattle.reader.proofs.RowRule.{row-key, row-in, kept-word, coded-word, coded-flag}
 use Rattle.reader.proofs.Values.{kept-read, kept-line, kept-start}
 use Rattle.settings.specs.Values.{choice, chosen, choiceBy, chosenBy, lengthOr0}
 use Rattle.settings.specs.Settings.{generalOf, securityOf, ipv4Of, networkSettingsOf, addressSettingsOf}
@@ -85,11 +83,7 @@ ssid-none = refl
 -- ---- a key of a row
 
 pub key-in : {d : Dialect} {file x : List ℕ} {b : ℕ} (k : KeyName) → RowOf d file x b (groupOf k) → KeyIn file x b k
-key-in {d} {file} {x} {b} k h = go (entryOf (nameOf k) (h .settings)) (row-key k (h .row))
-  where
-    go : (o : Option Entry) → Kept d (some (kindOf k)) file (keySlot x b k) o → KeyIn file x b k
-    go none q = record { table = h .table; low = rw (ap (λ (s : Slot). s .start) q, ap (λ (s : Slot). s .end) q) (le-refl 0); high = rw (ap (λ (s : Slot). s .end) q) (omega arith) }
-    go (some e) q = record { table = h .table; low = q .low; high = q .high }
+key-in k h = row-in k (h .row) (h .table)
 
 module _ {d : Dialect} {file x : List ℕ} {b : ℕ} (k : KeyName) {es : List Entry} (h : Row d file x b (groupOf k) es) where
   pub row-read : {A : Type 0} (f : List ℕ → Option A) → f [] ≡ none → f (bytesOf file x b k) ≡ readAs f (entryOf (nameOf k) es)
@@ -129,6 +123,18 @@ word-by d l file s (some e) h = let w = coded-word d l (e .value) (h .code) in a
 pub flag-by : (d : Dialect) (file : List ℕ) (s : Slot) (o : Option Entry) → Kept d (some Flag) file s o → choiceBy (s .code) ≡ choice (readAs (flag d) o)
 flag-by d file s none q = rw (ap (λ (t : Slot). t .code) q)
 flag-by d file s (some e) h = let w = coded-flag d (e .value) (h .code) in ap choiceBy (w .code) ∙ flag-back (w .yes) ∙ sym (ap choice (w .is))
+
+-- the same of a key of a row
+module _ {d : Dialect} {file x : List ℕ} {b : ℕ} (k : KeyName) {es : List Entry} (h : Row d file x b (groupOf k) es) where
+  pub row-word : (l : WordList) → kindOf k ≡ Named l → (w : Word) → slotIs x b k w ≡ isWord w (readAs (wordOf l) (entryOf (nameOf k) es))
+  row-word l e w = kept-word d l file (keySlot x b k) (entryOf (nameOf k) es) (subst (λ (i : Kind). Kept d (some i) file (keySlot x b k) (entryOf (nameOf k) es)) e (row-key k h)) w ∙ ap (isWord w) (then-read (entryOf (nameOf k) es))
+    where
+      then-read : (o : Option Entry) → andThen o (λ e. wordOf l (e .value)) ≡ readAs (wordOf l) o
+      then-read none = refl
+      then-read (some e) = refl
+
+  pub row-flag : kindOf k ≡ Flag → choiceBy (keySlot x b k .code) ≡ choice (readAs (flag d) (entryOf (nameOf k) es))
+  row-flag e = flag-by d file (keySlot x b k) (entryOf (nameOf k) es) (subst (λ (i : Kind). Kept d (some i) file (keySlot x b k) (entryOf (nameOf k) es)) e (row-key k h))
 
 -- ---- the functions
 

@@ -1,14 +1,13 @@
 -- The settings of a service: its row, and one law for each answer.
 use Prim.Native.Nat.{ℕ, _≤_}
 use native.Mathlib.Omega.{arith}
-use mathlib.Core.Path.{_≡_, refl, ap, _∙_, subst}
+use mathlib.Core.Path.{_≡_, ap, _∙_}
 use mathlib.Core.List.{List, []}
 use lib.ListN.{replicate, length-replicate}
 use Rattle.text.specs.declared.Dialect.the-variants.{ConnMan}
 use Rattle.addresses.specs.Addresses.{addresses, rows}
 use Rattle.addresses.specs.declared.Separator.the-variants.{Comma}
 use Rattle.rules.specs.Tables.{keysOf}
-use Rattle.rules.specs.Faults.{Entry}
 use Rattle.rules.specs.Reading.{sectionsOf}
 use Rattle.rules.specs.Asking.{serviceAt, askedOf}
 use Rattle.rules.specs.declared.Group.the-variants as G
@@ -20,10 +19,10 @@ use Rattle.reader.specs.History.{base}
 use Rattle.reader.specs.Holds.{Row}
 use Rattle.reader.specs.Closing.{bytesOf, KeyIn}
 use Rattle.reader.specs.declared.KeyName.the-variants as N
-use Rattle.reader.proofs.Values.{numbered-service, numbered-row, base-few}
+use Rattle.reader.proofs.Values.{base-few}
 use Rattle.pass.specs.Pass.{Found, Reads}
 use Rattle.pass.proofs.Walking.{empty-row}
-use Rattle.pass.proofs.Asking.{service-found, service-answer, service-few}
+use Rattle.pass.proofs.Asking.{found-service, service-found, service-answer, service-few}
 use Rattle.settings.specs.Settings.{networkSettingsOf, addressSettingsOf, serviceSettings}
 use Rattle.settings.specs.Rows.{RowOf, Typed}
 use Rattle.settings.specs.Asked.{serviceAnswerOf, serviceAnswered, serviceServersAfter}
@@ -50,7 +49,7 @@ none-answer {file} t r l = rw (t .is [] (none-row file))
 -- after a reading
 module _ {file : List ℕ} {y : List ℕ} (f : Found ConnMan file y) (w : ℕ) (few : (1 ≤ w) × (w ≤ 8)) where
   pub service-row : Row ConnMan file y (base G.Service w) G.Service (serviceAt w (sectionsOf ConnMan file))
-  service-row = subst (λ (es : List Entry). Row ConnMan file y (base G.Service w) G.Service es) (numbered-service w (f .groups) ∙ ap (serviceAt w) (f .all)) (numbered-row (f .kept) w few)
+  service-row = found-service f w few
 
   pub service-kept : RowOf ConnMan file y (base G.Service w) G.Service
   service-kept = record { table = record { long = f .kept .long; row = base-few G.Service w (few .1) }; settings = serviceAt w (sectionsOf ConnMan file); row = service-row }
@@ -70,7 +69,7 @@ module _ {name file : List ℕ} (w : ℕ) {y : List ℕ} {q : Reading} (h : Read
     row-few = service-few h w s e .1
 
     module _ {r : ℕ} (at : r ≡ base G.Service w) where
-      found-row : Row ConnMan file y r G.Service (serviceAt w (sectionsOf ConnMan file))
+      pub found-row : Row ConnMan file y r G.Service (serviceAt w (sectionsOf ConnMan file))
       found-row = rw at (service-row (service-found h w s e) w (service-few h w s e))
 
       pub found-kept : RowOf ConnMan file y r G.Service
