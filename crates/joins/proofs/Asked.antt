@@ -1,7 +1,8 @@
 -- The answers, one law for each return: what is answered of the file or of the service by its number, and what its lines say.
 use Prim.Native.Nat.{ℕ}
-use mathlib.Core.Path.{_≡_, refl, ap, sym, _∙_}
-use mathlib.Core.Bool.{Bool, true, false}
+use native.Mathlib.Omega.{arith}
+use mathlib.Core.Path.{_≡_, refl, ap, ap₂, sym, _∙_}
+use mathlib.Core.Bool.{Bool, true, false, _||_}
 use mathlib.Core.List.{List}
 use mathlib.Core.Option.{Option, none, some}
 use Rattle.text.specs.Options.{only, orElse}
@@ -14,7 +15,6 @@ use Rattle.kinds.specs.declared.Word.the-variants as W
 use Rattle.kinds.specs.declared.WordList.the-variants as L
 use Rattle.names.specs.Names.{networkOf}
 use Rattle.rules.specs.Tables.{keysOf}
-use Rattle.rules.specs.Lookups.{keyNames}
 use Rattle.rules.specs.Faults.{Entry}
 use Rattle.rules.specs.Groups.{entryOf, isWord}
 use Rattle.rules.specs.Asking.{iwdEntry, readAs, lineIn, askedOf}
@@ -26,36 +26,37 @@ use Rattle.rules.specs.declared.Reading.{Reading}
 use Rattle.rules.specs.declared.Reading.the-variants as R
 use Rattle.rules.specs.declared.Answer.{Answer}
 use Rattle.rules.specs.declared.Answer.the-variants.{Good, Refused}
-use Rattle.reader.specs.Store.{slot}
+use Rattle.reader.specs.History.{base}
 use Rattle.reader.specs.Holds.{Row}
+use Rattle.reader.specs.Closing.{bytesOf}
+use Rattle.reader.specs.declared.KeyName.the-variants as N
 use Rattle.pass.specs.Pass.{Found, Reads}
-use Rattle.pass.proofs.Asking.{service-found, service-answer}
-use Rattle.settings.specs.Values.{bytesAt}
+use Rattle.pass.proofs.Asking.{service-answer}
 use Rattle.settings.specs.Rows.{Typed}
 use Rattle.settings.proofs.IwdFile.{found-rows}
-use Rattle.settings.proofs.ServiceFile.{service-row}
-use Rattle.settings.proofs.Rowwise.{word-none, addresses-none, row-read, row-line}
+use Rattle.settings.proofs.ServiceFile.{found-row}
+use Rattle.settings.proofs.Rowwise.{addresses-none, row-read, row-line, row-word}
 use Rattle.records.specs.Record.{laid, laidServers}
 use Rattle.records.specs.declared.JoinRecord.{JoinRecord}
-use Rattle.joins.specs.Joins.{iwdJoin, networkName, foreignSecurity, noRecord, serviceJoin, zeroRecord, iwdRecord, iwdRecordServers, serviceRecord, serviceRecordServers}
+use Rattle.joins.specs.Joins.{iwdJoin, networkName, foreign, noRecord, serviceJoin, zeroRecord, iwdRecord, iwdRecordServers, serviceRecord, serviceRecordServers}
 use Rattle.joins.specs.Answers.{hindranceOf, hindrance}
-use Rattle.joins.specs.Places.{IwdRows, Answers}
+use Rattle.joins.specs.Places.{IwdFileRows, slotsForeign, slotsHindrance, RowAnswered}
 use Rattle.joins.specs.declared.Hindrance.{Hindrance}
 use Rattle.joins.specs.declared.Hindrance.the-variants as H
 use Rattle.joins.specs.declared.RecordAnswer.{RecordAnswer}
 
 -- ---- the rows after a reading
 
-pub iwd-rows : {file : List ℕ} {w : ℕ} {y : List ℕ} → Found Iwd file w y → IwdRows file y
-iwd-rows f = record { long = f .kept .long; rows = found-rows f }
+pub iwd-rows : {file y : List ℕ} → Found Iwd file y → IwdFileRows file y
+iwd-rows f = record { table = record { long = f .kept .long; row = omega arith }; rows = found-rows f }
 
 -- ---- an iwd file
 
-pub iwd-servers : {file x : List ℕ} {s : List (List ℕ)} (n : List ℕ) → IwdRows file x → s ≡ rows (addresses Spaces (bytesAt file (slot 37 x))) → s ≡ laidServers (iwdJoin n (iwdEntry (sectionsOf Iwd file)))
+pub iwd-servers : {file x : List ℕ} {s : List (List ℕ)} (n : List ℕ) → IwdFileRows file x → s ≡ rows (addresses Spaces (bytesOf file x (base G.Ipv4 0) N.Dns)) → s ≡ laidServers (iwdJoin n (iwdEntry (sectionsOf Iwd file)))
 unfolding keysOf
-iwd-servers n h e = e ∙ ap rows (row-read G.Ipv4 (h .rows .ipv4) (word "DNS") 4 refl (addresses Spaces) (addresses-none Spaces))
+iwd-servers n h e = e ∙ ap rows (row-read N.Dns (h .rows .ipv4) (addresses Spaces) (addresses-none Spaces))
 
-module _ {name file : List ℕ} {w : ℕ} {y : List ℕ} {q : Reading} (h : Reads Iwd name file w y q) (old : List (List ℕ)) where
+module _ {name file y : List ℕ} {q : Reading} (h : Reads Iwd name file y q) (old : List (List ℕ)) where
   pub iwd-accepted : {n m : ℕ} → q ≡ R.Accepted n m → {r : RecordAnswer} {new : List (List ℕ)} → (r ≡ record { answer = Good; «record» = laid (iwdJoin (networkName (networkOf name)) (iwdEntry (sectionsOf Iwd file))) }) × (new ≡ laidServers (iwdJoin (networkName (networkOf name)) (iwdEntry (sectionsOf Iwd file)))) → (r ≡ iwdRecord name file) × (new ≡ iwdRecordServers name file old)
   unfolding iwdRecord iwdRecordServers
   iwd-accepted e p = rw (sym (h .is) ∙ e) p
@@ -79,31 +80,36 @@ hindrance-back : (o : Option ℕ) → hindranceIn (hindranceOf o) ≡ o
 hindrance-back none = refl
 hindrance-back (some l) = refl
 
-module _ {file x : List ℕ} {h : Hindrance} (e : h ≡ hindrance (isWord W.Ethernet (wordOf L.ServiceType (bytesAt file (slot 97 x)))) (slot 97 x .line) (foreignSecurity (wordOf L.Security (bytesAt file (slot 109 x)))) (slot 109 x .line)) where
-  no-record : {g : Hindrance} → h ≡ g → (es : List Entry) → Row file x 96 (keyNames G.Service) es → noRecord (λ k. entryOf k es) ≡ hindranceIn g
+-- Security, by the words that the row keeps
+pub row-foreign : {file x : List ℕ} {b : ℕ} {es : List Entry} → Row ConnMan file x b G.Service es → slotsForeign x b ≡ foreign (λ k. entryOf k es)
+unfolding keysOf
+row-foreign h = ap₂ (λ (a b : Bool). a || b) (row-word N.Security h L.Security refl W.Wep) (row-word N.Security h L.Security refl W.Ieee8021x)
+
+module _ {file x : List ℕ} {b : ℕ} {h : Hindrance} (e : h ≡ slotsHindrance x b) where
+  no-record : {g : Hindrance} → h ≡ g → (es : List Entry) → Row ConnMan file x b G.Service es → noRecord (λ k. entryOf k es) ≡ hindranceIn g
   unfolding keysOf
   no-record q es w =
-      rw (← q, e, row-read G.Service w (word "Type") 0 refl (wordOf L.ServiceType) (word-none L.ServiceType), row-read G.Service w (word "Security") 12 refl (wordOf L.Security) (word-none L.Security), row-line G.Service w (word "Type") 0 refl, row-line G.Service w (word "Security") 12 refl)
-      (sym (ap hindranceIn (hindered (isWord W.Ethernet (readAs (wordOf L.ServiceType) (entryOf (word "Type") es))) (lineIn (entryOf (word "Type") es)) (foreignSecurity (readAs (wordOf L.Security) (entryOf (word "Security") es))) (lineIn (entryOf (word "Security") es))) ∙ hindrance-back (noRecord (λ k. entryOf k es))))
+      rw (← q, e, row-word N.Type w L.ServiceType refl W.Ethernet, row-foreign w, row-line N.Type w, row-line N.Security w)
+      (sym (ap hindranceIn (hindered (isWord W.Ethernet (readAs (wordOf L.ServiceType) (entryOf (word "Type") es))) (lineIn (entryOf (word "Type") es)) (foreign (λ k. entryOf k es)) (lineIn (entryOf (word "Security") es))) ∙ hindrance-back (noRecord (λ k. entryOf k es))))
 
-  pub found-hindered : (old : List (List ℕ)) {l : ℕ} → h ≡ H.At l → {r : RecordAnswer} → r ≡ record { answer = Refused NoPlace l; «record» = zeroRecord } → Answers file x old old r
+  pub found-hindered : (old : List (List ℕ)) {l : ℕ} → h ≡ H.At l → {r : RecordAnswer} → r ≡ record { answer = Refused NoPlace l; «record» = zeroRecord } → RowAnswered file x b old old r
   found-hindered old q p = record { is = λ es w. rw (no-record q es w) p; servers = λ es w. rw (no-record q es w) }
 
-  pub found-joined : (old : List (List ℕ)) → h ≡ H.Nothing → {j : JoinRecord} → Typed file x 96 G.Service (λ at. laid (serviceJoin at)) j → {s : List (List ℕ)} → s ≡ rows (addresses Comma (bytesAt file (slot 102 x))) → {r : RecordAnswer} → r ≡ record { answer = Good; «record» = j } → Answers file x old s r
+  pub found-joined : (old : List (List ℕ)) → h ≡ H.Nothing → {j : JoinRecord} → Typed ConnMan file x b G.Service (λ at. laid (serviceJoin at)) j → {s : List (List ℕ)} → s ≡ rows (addresses Comma (bytesOf file x b N.Nameservers)) → {r : RecordAnswer} → r ≡ record { answer = Good; «record» = j } → RowAnswered file x b old s r
   unfolding keysOf
   found-joined old q t {s} p {r} a =
       record {
         is = λ es w. rw (no-record q es w) (a ∙ ap (λ (j : JoinRecord). record { answer = Good; «record» = j }) (t .is es w));
-        servers = λ es w. rw (no-record q es w) (p ∙ ap rows (row-read G.Service w (word "Nameservers") 5 refl (addresses Comma) (addresses-none Comma)));
+        servers = λ es w. rw (no-record q es w) (p ∙ ap rows (row-read N.Nameservers w (addresses Comma) (addresses-none Comma)));
       }
 
 -- ---- a service by its number
 
-module _ {name file : List ℕ} {w : ℕ} {y : List ℕ} {q : Reading} (h : Reads ConnMan name file w y q) {a : Answer} (s : a ≡ askedOf w q) (old : List (List ℕ)) where
-  pub service-good : a ≡ Good → {r : RecordAnswer} {new : List (List ℕ)} → Answers file y old new r → (r ≡ serviceRecord name file w) × (new ≡ serviceRecordServers name file w old)
+module _ {name file : List ℕ} (w : ℕ) {y : List ℕ} {q : Reading} (h : Reads ConnMan name file y q) {a : Answer} (s : a ≡ askedOf w q) (old : List (List ℕ)) where
+  pub service-good : (e : a ≡ Good) {b : ℕ} → b ≡ base G.Service w → {r : RecordAnswer} {new : List (List ℕ)} → RowAnswered file y b old new r → (r ≡ serviceRecord name file w) × (new ≡ serviceRecordServers name file w old)
   unfolding serviceRecord serviceRecordServers
-  service-good e p = let k = service-row (service-found h s e) in rw (service-answer h s e) (p .is _ k, p .servers _ k)
+  service-good e at p = let k = found-row w h s e at in rw (service-answer h w s e) (p .is _ k, p .servers _ k)
 
   pub service-refused : {f : Refusal} {l : ℕ} → a ≡ Refused f l → {r : RecordAnswer} → r ≡ record { answer = Refused f l; «record» = zeroRecord } → (r ≡ serviceRecord name file w) × (old ≡ serviceRecordServers name file w old)
   unfolding serviceRecord serviceRecordServers
-  service-refused e p = rw (service-answer h s e) (p, refl)
+  service-refused e p = rw (service-answer h w s e) (p, refl)

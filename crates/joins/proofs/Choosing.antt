@@ -1,31 +1,32 @@
 -- The parts of a record by what was read of each setting, absent or not.
 use Prim.Native.Nat.{ℕ, zero, suc, _≤_}
 use native.Mathlib.Omega.{arith}
-use mathlib.Core.Path.{_≡_, refl, ap₂, sym, _∙_}
+use mathlib.Core.Path.{_≡_, refl, ap, ap₂, _∙_}
 use mathlib.Core.Bool.{Bool, true, false}
 use mathlib.Core.List.{List}
 use mathlib.Core.Option.{Option, none, some}
 use Rattle.addresses.specs.Addresses.{addressAnswer, address, netmask}
 use Rattle.addresses.specs.declared.Address.{Address}
-use Rattle.kinds.specs.Answers.{keyAnswer, namedWord}
+use Rattle.text.specs.declared.Dialect.{Dialect}
+use Rattle.kinds.specs.Kinds.{flag}
+use Rattle.kinds.specs.Answers.{keyAnswer}
+use Rattle.kinds.specs.declared.Kind.the-variants.{Flag}
 use Rattle.kinds.specs.declared.Ipv4.{Ipv4}
 use Rattle.kinds.specs.declared.Key.{Key}
-use Rattle.kinds.specs.declared.Word.{Word}
-use Rattle.kinds.specs.declared.Word.the-variants as W
-use Rattle.rules.specs.Groups.{isWord, wordNumber}
-use Rattle.reader.proofs.RowRule.{number-word}
-use Rattle.reader.specs.Closing.{numberIs}
-use Rattle.settings.specs.Values.{choice, lengthOr0}
-use Rattle.settings.specs.declared.Choice.{Choice}
-use Rattle.settings.specs.declared.Choice.the-variants as C
-use Rattle.records.specs.declared.Ipv6.{Ipv6}
-use Rattle.records.specs.declared.Ipv6.the-variants as Ipv6
-use Rattle.joins.specs.Joins.{secretFrom, lengthOr24, staticOrDhcp, wordIpv6, foreignSecurity}
+use Rattle.rules.specs.Faults.{Entry}
+use Rattle.rules.specs.Groups.{entryOf}
+use Rattle.rules.specs.Asking.{readAs}
+use Rattle.reader.specs.Keys.{groupOf, wordOf as nameOf, kindOf}
+use Rattle.reader.specs.Holds.{Row}
+use Rattle.reader.specs.Closing.{keySlot}
+use Rattle.reader.specs.declared.KeyName.{KeyName}
+use Rattle.settings.specs.Values.{choice, choiceBy, lengthOr0}
+use Rattle.settings.proofs.Rowwise.{row-flag}
+use Rattle.joins.specs.Joins.{secretFrom, lengthOr24, staticOrDhcp}
 use Rattle.kinds.specs.Values.{netmask-good}
-use Rattle.joins.specs.Answers.{phraseAnswer, loginAnswer, loginOf, or24, numbersAnswer, numbersOf, hindrance}
+use Rattle.joins.specs.Answers.{phraseAnswer, loginAnswer, loginOf, or24, numbersAnswer, numbersOf, choiceIn}
 use Rattle.joins.specs.declared.Phrase.{Phrase}
 use Rattle.joins.specs.declared.Login.{Login}
-use Rattle.joins.specs.declared.Hindrance.the-variants as H
 
 -- ---- the credential
 
@@ -58,38 +59,11 @@ numbers-is s t u p q e f = f ∙ rw (p, q, e) (numbers-chosen (address s) (netma
 
 -- ---- a yes/no
 
-abbrev choiceIn : Choice → Option Bool
-choiceIn C.Absent = none
-choiceIn C.No = some false
-choiceIn C.Yes = some true
-
 choice-back : (o : Option Bool) → choiceIn (choice o) ≡ o
 choice-back none = refl
 choice-back (some true) = refl
 choice-back (some false) = refl
 
-pub choice-told : (o : Option Bool) {r s : Choice} → r ≡ choice o → r ≡ s → o ≡ choiceIn s
-choice-told o e q = rw (← q, e) (sym (choice-back o))
-
--- ---- words
-
-pub ipv6-off : (o : Option Word) {b : Bool} → b ≡ numberIs 3 (namedWord o) → b ≡ true → Ipv6.Off ≡ wordIpv6 o
-ipv6-off o e q = rw (sym (number-word W.Off o) ∙ sym e ∙ q)
-
-pub ipv6-auto : (o : Option Word) {b : Bool} → b ≡ numberIs 3 (namedWord o) → b ≡ false → Ipv6.Auto ≡ wordIpv6 o
-ipv6-auto o e q = rw (sym (number-word W.Off o) ∙ sym e ∙ q)
-
--- ---- what has no record
-
-module _ (o q : Option Word) (l m : ℕ) where
-  pub hindered-type : {a : Bool} → a ≡ numberIs 2 (namedWord o) → a ≡ true → {n : ℕ} → n ≡ l → H.At n ≡ hindrance (isWord W.Ethernet o) l (foreignSecurity q) m
-  hindered-type e h f = rw (sym (number-word W.Ethernet o) ∙ sym e ∙ h, f)
-
-  pub hindered-wep : {a b : Bool} → a ≡ numberIs 2 (namedWord o) → a ≡ false → b ≡ numberIs 11 (namedWord q) → b ≡ true → {n : ℕ} → n ≡ m → H.At n ≡ hindrance (isWord W.Ethernet o) l (foreignSecurity q) m
-  hindered-wep e h f g k = rw (sym (number-word W.Ethernet o) ∙ sym e ∙ h, sym (number-word W.Wep q) ∙ sym f ∙ g, k)
-
-  pub hindered-8021x : {a b c : Bool} → a ≡ numberIs 2 (namedWord o) → a ≡ false → b ≡ numberIs 11 (namedWord q) → b ≡ false → c ≡ numberIs 9 (namedWord q) → c ≡ true → {n : ℕ} → n ≡ m → H.At n ≡ hindrance (isWord W.Ethernet o) l (foreignSecurity q) m
-  hindered-8021x e h f g i j k = rw (sym (number-word W.Ethernet o) ∙ sym e ∙ h, sym (number-word W.Wep q) ∙ sym f ∙ g, sym (number-word W.Ieee8021x q) ∙ sym i ∙ j, k)
-
-  pub unhindered : {a b c : Bool} → a ≡ numberIs 2 (namedWord o) → a ≡ false → b ≡ numberIs 11 (namedWord q) → b ≡ false → c ≡ numberIs 9 (namedWord q) → c ≡ false → H.Nothing ≡ hindrance (isWord W.Ethernet o) l (foreignSecurity q) m
-  unhindered e h f g i j = rw (sym (number-word W.Ethernet o) ∙ sym e ∙ h, sym (number-word W.Wep q) ∙ sym f ∙ g, sym (number-word W.Ieee8021x q) ∙ sym i ∙ j)
+-- the yes/no that a row keeps
+pub row-choice : {d : Dialect} {file x : List ℕ} {b : ℕ} (k : KeyName) {es : List Entry} → Row d file x b (groupOf k) es → kindOf k ≡ Flag → choiceIn (choiceBy (keySlot x b k .code)) ≡ readAs (flag d) (entryOf (nameOf k) es)
+row-choice k h e = ap choiceIn (row-flag k h e) ∙ choice-back _

@@ -13,6 +13,8 @@ use Rattle.kinds.specs.declared.Ipv4.{Ipv4}
 use Rattle.kinds.specs.declared.Key.{Key}
 use Rattle.kinds.specs.declared.Ssid.{Ssid}
 use Rattle.kinds.specs.declared.Method.the-variants.{Dhcp, Static}
+use Rattle.settings.specs.declared.Choice.{Choice}
+use Rattle.settings.specs.declared.Choice.the-variants as Choice
 use Rattle.records.specs.Record.{Secret, credentialOf, passphraseOf, keyOf, methodOf, addressOf, lengthOf, hasGateway, gatewayOf}
 use Rattle.records.specs.declared.Credential.the-variants as C
 use Rattle.joins.specs.declared.Phrase.{Phrase}
@@ -50,6 +52,12 @@ abbrev pub numbersOf : Address → ℕ → Address → Ipv4
 numbersOf a n g =
     cond (a .ok) (record { ok = true; method = Static; address = a .bytes; length = or24 n; «has_gateway» = g .ok; gateway = g .bytes })
     (record { ok = true; method = Dhcp; address = noAddress; length = 0; «has_gateway» = false; gateway = noAddress })
+
+-- a yes/no by what was read of it
+abbrev pub choiceIn : Choice → Option Bool
+choiceIn Choice.Absent = none
+choiceIn Choice.No = some false
+choiceIn Choice.Yes = some true
 
 -- a name by what was read of an SSID and a Name
 abbrev pub nameOf : Ssid → Ssid → Ssid

@@ -1,30 +1,49 @@
 -- What the table of places must say before a record is read from it.
 use Prim.Native.Nat.{ℕ}
 use mathlib.Core.Path.{_≡_}
-use mathlib.Core.Bool.{Bool}
+use mathlib.Core.Bool.{Bool, cond, _||_}
 use mathlib.Core.List.{List}
 use mathlib.Core.Option.{Option}
-use lib.ListN.{length}
-use Rattle.text.specs.declared.Dialect.the-variants.{Iwd}
+use Rattle.text.specs.declared.Dialect.the-variants.{Iwd, ConnMan}
 use Rattle.kinds.specs.declared.Ipv4.{Ipv4}
-use Rattle.rules.specs.Lookups.{keyNames}
+use Rattle.kinds.specs.declared.Word.the-variants as W
 use Rattle.rules.specs.Faults.{Entry}
 use Rattle.rules.specs.Groups.{entryOf, entriesIn}
 use Rattle.rules.specs.Reading.{sectionsOf}
 use Rattle.rules.specs.declared.Group.the-variants as G
+use Rattle.reader.specs.History.{base}
 use Rattle.reader.specs.Holds.{Row}
+use Rattle.reader.specs.Closing.{InTable, keySlot, slotIs}
+use Rattle.reader.specs.declared.KeyName.the-variants as N
 use Rattle.settings.specs.Asked.{FourRows}
 use Rattle.records.specs.declared.Ipv6.{Ipv6}
+use Rattle.records.specs.declared.Ipv6.the-variants as Ipv6
 use Rattle.records.specs.declared.JoinRecord.{JoinRecord}
 use Rattle.joins.specs.Joins.{Joined, orNoPlace, noRecord, serviceJoin, recordAnswer, serversAfter}
+use Rattle.joins.specs.Answers.{hindrance}
 use Rattle.joins.specs.declared.Login.{Login}
 use Rattle.joins.specs.declared.Domain.{Domain}
+use Rattle.joins.specs.declared.Hindrance.{Hindrance}
 use Rattle.joins.specs.declared.RecordAnswer.{RecordAnswer}
 
--- the rows of iwd's groups keep the settings of the file
-pub record IwdRows (file x : List ℕ) : Type 0 where
-  pub long : length x ≡ 384
+-- the rows of iwd's groups, which lie in the table to the last, keep the settings of the file
+pub record IwdFileRows (file x : List ℕ) : Type 0 where
+  pub table : InTable x (base G.Ipv6 0)
   pub rows : FourRows file x (λ n. entriesIn n (sectionsOf Iwd file))
+
+-- ---- a service, by the words that the row from b on keeps
+
+abbrev pub slotIpv6 : List ℕ → ℕ → Ipv6
+slotIpv6 x b = cond (slotIs x b N.Ipv6 W.Off) Ipv6.Off Ipv6.Auto
+
+abbrev pub slotsForeign : List ℕ → ℕ → Bool
+slotsForeign x b = slotIs x b N.Security W.Wep || slotIs x b N.Security W.Ieee8021x
+
+abbrev pub slotsHindrance : List ℕ → ℕ → Hindrance
+slotsHindrance x b =
+    hindrance (slotIs x b N.Type W.Ethernet) (keySlot x b N.Type .line) (slotsForeign x b) (keySlot x b N.Security .line)
+
+-- ---- a record
 
 -- a record from its parts
 abbrev pub assembled : ℕ → List ℕ → Login → Bool → Ipv4 → ℕ → Domain → Ipv6 → JoinRecord
@@ -48,10 +67,11 @@ assembled n name login hidden numbers servers domain ipv6 =
       ipv6 = ipv6;
     }
 
--- what is answered of the service whose settings the row from 96 on keeps: the answer, and the lent servers after it
+-- what is answered of a service: the answer, and the lent servers after it
 abbrev pub ofService : (List ℕ → Option Entry) → Joined
 ofService at = orNoPlace (noRecord at) (serviceJoin at)
 
-pub record Answers (file x : List ℕ) (old new : List (List ℕ)) (r : RecordAnswer) : Type 0 where
-  pub is : (es : List Entry) → Row file x 96 (keyNames G.Service) es → r ≡ recordAnswer (ofService (λ k. entryOf k es))
-  pub servers : (es : List Entry) → Row file x 96 (keyNames G.Service) es → new ≡ serversAfter (ofService (λ k. entryOf k es)) old
+-- the same of the service whose settings the row from b on keeps
+pub record RowAnswered (file x : List ℕ) (b : ℕ) (old new : List (List ℕ)) (r : RecordAnswer) : Type 0 where
+  pub is : (es : List Entry) → Row ConnMan file x b G.Service es → r ≡ recordAnswer (ofService (λ k. entryOf k es))
+  pub servers : (es : List Entry) → Row ConnMan file x b G.Service es → new ≡ serversAfter (ofService (λ k. entryOf k es)) old

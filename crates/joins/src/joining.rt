@@ -3,20 +3,22 @@ ghost use mathlib.Core.Path.{_≡_};
 ghost use lib.ListN.{length};
 ghost use Rattle.text.specs.Options.{plain};
 ghost use Rattle.addresses.specs.Addresses.{addresses};
-ghost use Rattle.reader.specs.Store.{slot};
-ghost use Rattle.settings.specs.Values.{bytesAt};
+ghost use Rattle.reader.specs.History.{base};
+ghost use Rattle.reader.specs.Closing.{bytesOf};
 ghost use Rattle.names.specs.Names.{networkOf};
 ghost use Rattle.rules.specs.Asking.{iwdEntry};
 ghost use Rattle.rules.specs.Reading.{sectionsOf};
 ghost use Rattle.settings.specs.Rows.{RowOf, Typed};
 ghost use Rattle.records.specs.Record.{laid};
 ghost use Rattle.joins.specs.Joins.{iwdJoin, networkName, serviceJoin};
-ghost use Rattle.joins.specs.Places.{IwdRows, assembled};
+ghost use Rattle.joins.specs.Places.{IwdFileRows, assembled};
 use crate::Domain;
 use crate::Login;
 use crate::parts;
 use addresses::Separator;
 use kinds::Ipv4;
+use reader::KeyName;
+use reader::judging::base_of;
 use records::Ipv6;
 use records::JoinRecord;
 use rules::Group;
@@ -64,17 +66,18 @@ fn assemble(
 }
 
 // The record of an accepted iwd file, which has count name servers.
-pub fn iwd_join(name: &[u8], file: &[u8], x: &[u16; 384], count: usize) -> JoinRecord
-    requires rows { ⌜ IwdRows (now file) (now x) ⌝ }
-    requires counted { ⌜ count ≡ length (plain (addresses Separator.Spaces (bytesAt (now file) (slot 37 (now x))))) ⌝ }
+pub fn iwd_join(name: &[u8], file: &[u8], x: &[u16; 976], count: usize) -> JoinRecord
+    requires rows { ⌜ IwdFileRows (now file) (now x) ⌝ }
+    requires counted { ⌜ count ≡ length (plain (addresses Separator.Spaces (bytesOf (now file) (now x) (base Group.Ipv4 0) KeyName.Dns))) ⌝ }
     ensures { λ r. ⌜ r ≡ laid (iwdJoin (networkName (networkOf (now (name .entry)))) (iwdEntry (sectionsOf Dialect.Iwd (now (file .entry))))) ⌝ }
 {
     let network = names::read_iwd_name(name);
-    let login = parts::iwd_login(file, x);
-    let hidden = parts::hidden_at(Dialect::Iwd, file, x, 2);
-    let numbers = parts::iwd_numbers(file, x);
-    let domain = parts::domain_at(Dialect::Iwd, file, x, 38);
-    let ipv6 = parts::iwd_ipv6(file, x);
+    let login = parts::iwd_login(file, x, base_of(Group::Security, 0));
+    let hidden = parts::hidden_at(x, base_of(Group::Settings, 0), KeyName::IwdHidden);
+    let row = base_of(Group::Ipv4, 0);
+    let numbers = parts::iwd_numbers(file, x, row);
+    let domain = parts::domain_at(Dialect::Iwd, file, x, row, KeyName::DomainName);
+    let ipv6 = parts::iwd_ipv6(x, base_of(Group::Ipv6, 0));
     let bytes = network.bytes;
     assemble(
         network.length,
@@ -88,18 +91,18 @@ pub fn iwd_join(name: &[u8], file: &[u8], x: &[u16; 384], count: usize) -> JoinR
     )
 }
 
-// The record of the service asked for, which has one, and count name servers.
-pub fn service_join(file: &[u8], x: &[u16; 384], count: usize) -> JoinRecord
-    requires row { ⌜ RowOf (now file) (now x) 96 Group.Service ⌝ }
-    requires counted { ⌜ count ≡ length (plain (addresses Separator.Comma (bytesAt (now file) (slot 102 (now x))))) ⌝ }
-    ensures { λ r. ⌜ Typed (now (file .entry)) (now (x .entry)) 96 Group.Service (λ at. laid (serviceJoin at)) r ⌝ }
+// The record of a service that has one, by its row, with count name servers.
+pub fn service_join(file: &[u8], x: &[u16; 976], row: usize, count: usize) -> JoinRecord
+    requires kept { ⌜ RowOf Dialect.ConnMan (now file) (now x) row Group.Service ⌝ }
+    requires counted { ⌜ count ≡ length (plain (addresses Separator.Comma (bytesOf (now file) (now x) row KeyName.Nameservers))) ⌝ }
+    ensures { λ r. ⌜ Typed Dialect.ConnMan (now (file .entry)) (now (x .entry)) row Group.Service (λ at. laid (serviceJoin at)) r ⌝ }
 {
-    let name = parts::service_name(file, x);
-    let login = parts::service_login(file, x);
-    let hidden = parts::hidden_at(Dialect::ConnMan, file, x, 110);
-    let numbers = values::ipv4_at(file, x, 98);
-    let domain = parts::domain_at(Dialect::ConnMan, file, x, 105);
-    let ipv6 = parts::service_ipv6(file, x);
+    let name = parts::service_name(file, x, row);
+    let login = parts::service_login(file, x, row);
+    let hidden = parts::hidden_at(x, row, KeyName::Hidden);
+    let numbers = values::ipv4_at(file, x, row, KeyName::Ipv4);
+    let domain = parts::domain_at(Dialect::ConnMan, file, x, row, KeyName::Domain);
+    let ipv6 = parts::service_ipv6(x, row);
     let bytes = name.bytes;
     assemble(
         name.length,

@@ -13,9 +13,11 @@ ghost use Rattle.rules.specs.Reading.{sectionsOf};
 ghost use Rattle.settings.specs.Rows.{RowOf};
 ghost use Rattle.records.specs.Record.{laid, laidServers};
 ghost use Rattle.joins.specs.Joins.{iwdJoin, networkName, zeroRecord, iwdRecord, iwdRecordServers, serviceRecord, serviceRecordServers};
-ghost use Rattle.joins.specs.Places.{IwdRows, Answers};
+ghost use Rattle.joins.specs.Places.{IwdFileRows, RowAnswered};
 use addresses::Separator;
 use kinds::Method;
+use reader::KeyName;
+use reader::judging::base_of;
 use records::Credential;
 use records::Ipv6;
 use records::JoinRecord;
@@ -103,12 +105,19 @@ fn answered(found: JoinRecord) -> RecordAnswer
 }
 
 // The record of an accepted iwd file.
-fn iwd_found(name: &[u8], file: &[u8], x: &[u16; 384], servers: &mut [[u8; 4]; 4]) -> RecordAnswer
-    requires { ⌜ IwdRows (now file) (now x) ⌝ }
+fn iwd_found(name: &[u8], file: &[u8], x: &[u16; 976], servers: &mut [[u8; 4]; 4]) -> RecordAnswer
+    requires { ⌜ IwdFileRows (now file) (now x) ⌝ }
     ensures { λ r. ⌜ (r ≡ record { answer = Answer.Good; «record» = laid (iwdJoin (networkName (networkOf (now (name .entry)))) (iwdEntry (sectionsOf Dialect.Iwd (now (file .entry))))) })
         × (now (servers .exit) ≡ laidServers (iwdJoin (networkName (networkOf (now (name .entry)))) (iwdEntry (sectionsOf Dialect.Iwd (now (file .entry)))))) ⌝ }
 {
-    let count = values::list_at(servers, Separator::Spaces, file, x, 37);
+    let count = values::list_at(
+        servers,
+        Separator::Spaces,
+        file,
+        x,
+        base_of(Group::Ipv4, 0),
+        KeyName::Dns,
+    );
     let record = joining::iwd_join(name, file, x, count);
     answered(record)
 }
@@ -118,25 +127,37 @@ pub fn iwd_record(name: &[u8], file: &[u8], servers: &mut [[u8; 4]; 4]) -> Recor
     ensures { λ r. ⌜ (r ≡ iwdRecord (now (name .entry)) (now (file .entry)))
         × (now (servers .exit) ≡ iwdRecordServers (now (name .entry)) (now (file .entry)) (now (servers .entry))) ⌝ }
 {
-    let mut x = [0; 384];
-    let reading = pass::read(Dialect::Iwd, name, file, &mut x, 0);
+    let mut x = [0; 976];
+    let reading = pass::read(Dialect::Iwd, name, file, &mut x);
     match reading {
         Reading::Accepted(_, _) => iwd_found(name, file, &x, servers),
         Reading::Refused(refusal, line) => refused(refusal, line),
     }
 }
 
-// The record of a service that there is, or the line for which it has none.
-fn service_found(file: &[u8], x: &[u16; 384], servers: &mut [[u8; 4]; 4]) -> RecordAnswer
-    requires { ⌜ RowOf (now file) (now x) 96 Group.Service ⌝ }
-    ensures { λ r. ⌜ Answers (now (file .entry)) (now (x .entry)) (now (servers .entry)) (now (servers .exit)) r ⌝ }
+// The record of a service that there is, by its row, or the line for which it has none.
+fn service_found(
+    file: &[u8],
+    x: &[u16; 976],
+    row: usize,
+    servers: &mut [[u8; 4]; 4],
+) -> RecordAnswer
+    requires { ⌜ RowOf Dialect.ConnMan (now file) (now x) row Group.Service ⌝ }
+    ensures { λ r. ⌜ RowAnswered (now (file .entry)) (now (x .entry)) row (now (servers .entry)) (now (servers .exit)) r ⌝ }
 {
-    let hindrance = parts::hindrance_at(file, x);
+    let hindrance = parts::hindrance_at(x, row);
     match hindrance {
         Hindrance::At(line) => refused(Refusal::NoPlace, line),
         Hindrance::Nothing => {
-            let count = values::list_at(servers, Separator::Comma, file, x, 102);
-            let record = joining::service_join(file, x, count);
+            let count = values::list_at(
+                servers,
+                Separator::Comma,
+                file,
+                x,
+                row,
+                KeyName::Nameservers,
+            );
+            let record = joining::service_join(file, x, row, count);
             answered(record)
         }
     }
@@ -152,11 +173,14 @@ pub fn service_record(
     ensures { λ r. ⌜ (r ≡ serviceRecord (now (name .entry)) (now (file .entry)) service)
         × (now (servers .exit) ≡ serviceRecordServers (now (name .entry)) (now (file .entry)) service (now (servers .entry))) ⌝ }
 {
-    let mut x = [0; 384];
-    let reading = pass::read(Dialect::ConnMan, name, file, &mut x, service);
+    let mut x = [0; 976];
+    let reading = pass::read(Dialect::ConnMan, name, file, &mut x);
     let answer = asking::asked_of(service, reading);
     match answer {
-        Answer::Good => service_found(file, &x, servers),
+        Answer::Good => {
+            let row = base_of(Group::Service, service);
+            service_found(file, &x, row, servers)
+        }
         Answer::Refused(refusal, line) => refused(refusal, line),
     }
 }

@@ -4,14 +4,14 @@ ghost use mathlib.Core.Option.{none};
 ghost use Prim.Native.Nat.{_<_};
 ghost use Rattle.escapes.specs.Strings.{stringOf, sizeOf};
 ghost use Rattle.addresses.specs.Addresses.{address, netmask};
-ghost use Rattle.kinds.specs.Kinds.{flag, wordOf, key, ssid, string, passphrase};
-ghost use Rattle.kinds.specs.Answers.{namedWord, ssidAnswer};
-ghost use Rattle.rules.specs.Groups.{isWord};
-ghost use Rattle.reader.specs.Store.{slot};
-ghost use Rattle.reader.specs.Closing.{SlotIn, numberIs};
-ghost use Rattle.settings.specs.Values.{bytesAt};
-ghost use Rattle.joins.specs.Joins.{secretFrom, staticOrDhcp, orFalse, enabledIpv6, wordIpv6, foreignSecurity};
-ghost use Rattle.joins.specs.Answers.{phraseAnswer, domainAnswer, loginAnswer, loginOf, numbersOf, numbersAnswer, nameOf, hindrance, or24};
+ghost use Rattle.kinds.specs.Kinds.{key, ssid, string, passphrase};
+ghost use Rattle.kinds.specs.Answers.{ssidAnswer};
+ghost use Rattle.reader.specs.Closing.{InTable, KeyIn, keySlot, bytesOf};
+ghost use Rattle.settings.specs.Values.{choiceBy};
+ghost use Rattle.settings.specs.Rows.{RowOf};
+ghost use Rattle.joins.specs.Joins.{secretFrom, staticOrDhcp, orFalse, enabledIpv6};
+ghost use Rattle.joins.specs.Answers.{phraseAnswer, domainAnswer, loginAnswer, loginOf, numbersOf, numbersAnswer, nameOf, choiceIn, or24};
+ghost use Rattle.joins.specs.Places.{slotIpv6, slotsForeign, slotsHindrance};
 use crate::Domain;
 use crate::Hindrance;
 use crate::Login;
@@ -23,11 +23,14 @@ use kinds::Key;
 use kinds::Method;
 use kinds::Ssid;
 use kinds::Word;
-use kinds::WordList;
+use reader::KeyName;
+use reader::services::either;
 use reader::services::is_word;
-use reader::store::value_at;
+use reader::services::line_of;
+use reader::services::value_of;
 use records::Credential;
 use records::Ipv6;
+use rules::Group;
 use settings::Choice;
 use settings::values;
 use text::Dialect;
@@ -161,21 +164,26 @@ fn login_of(phrase: Phrase, psk: Key) -> Login
     }
 }
 
-pub fn iwd_login(file: &[u8], x: &[u16; 384]) -> Login
-    requires phrase { ⌜ SlotIn (now file) (now x) 17 ⌝ }
-    requires psk { ⌜ SlotIn (now file) (now x) 18 ⌝ }
-    ensures { λ r. ⌜ r ≡ loginAnswer (secretFrom (passphrase Dialect.Iwd (bytesAt (now (file .entry)) (slot 17 (now (x .entry))))) (key (bytesAt (now (file .entry)) (slot 18 (now (x .entry)))))) ⌝ }
+// The credential of an iwd file, by the row of its Security.
+pub fn iwd_login(file: &[u8], x: &[u16; 976], row: usize) -> Login
+    requires { ⌜ RowOf Dialect.Iwd (now file) (now x) row Group.Security ⌝ }
+    ensures { λ r. ⌜ r ≡ loginAnswer (secretFrom (passphrase Dialect.Iwd (bytesOf (now (file .entry)) (now (x .entry)) row KeyName.IwdPassphrase))
+        (key (bytesOf (now (file .entry)) (now (x .entry)) row KeyName.PreSharedKey))) ⌝ }
 {
-    let phrase = read_phrase(Dialect::Iwd, value_at(file, x, 17));
-    let psk = values::key_at(file, x, 18);
+    let phrase = read_phrase(Dialect::Iwd, value_of(file, x, row, KeyName::IwdPassphrase));
+    let psk = values::key_at(file, x, row, KeyName::PreSharedKey);
     login_of(phrase, psk)
 }
 
-pub fn service_login(file: &[u8], x: &[u16; 384]) -> Login
-    requires { ⌜ SlotIn (now file) (now x) 108 ⌝ }
-    ensures { λ r. ⌜ r ≡ loginAnswer (secretFrom (passphrase Dialect.ConnMan (bytesAt (now (file .entry)) (slot 108 (now (x .entry))))) none) ⌝ }
+// The credential of a service, by its row.
+pub fn service_login(file: &[u8], x: &[u16; 976], row: usize) -> Login
+    requires { ⌜ RowOf Dialect.ConnMan (now file) (now x) row Group.Service ⌝ }
+    ensures { λ r. ⌜ r ≡ loginAnswer (secretFrom (passphrase Dialect.ConnMan (bytesOf (now (file .entry)) (now (x .entry)) row KeyName.Passphrase)) none) ⌝ }
 {
-    let phrase = read_phrase(Dialect::ConnMan, value_at(file, x, 108));
+    let phrase = read_phrase(
+        Dialect::ConnMan,
+        value_of(file, x, row, KeyName::Passphrase),
+    );
     login_of(
         phrase,
         Key {
@@ -185,20 +193,20 @@ pub fn service_login(file: &[u8], x: &[u16; 384]) -> Login
     )
 }
 
-// The domain at a slot.
-pub fn domain_at(d: Dialect, file: &[u8], x: &[u16; 384], i: usize) -> Domain
-    requires { ⌜ SlotIn (now file) (now x) i ⌝ }
-    ensures { λ r. ⌜ r ≡ domainAnswer (string d 1 253 (bytesAt (now (file .entry)) (slot i (now (x .entry))))) ⌝ }
+// The domain that a key of a row gives.
+pub fn domain_at(d: Dialect, file: &[u8], x: &[u16; 976], row: usize, k: KeyName) -> Domain
+    requires { ⌜ KeyIn (now file) (now x) row k ⌝ }
+    ensures { λ r. ⌜ r ≡ domainAnswer (string d 1 253 (bytesOf (now (file .entry)) (now (x .entry)) row k)) ⌝ }
 {
-    read_domain(d, value_at(file, x, i))
+    read_domain(d, value_of(file, x, row, k))
 }
 
-// Whether the network is hidden, which it is not where nothing is said.
-pub fn hidden_at(d: Dialect, file: &[u8], x: &[u16; 384], i: usize) -> bool
-    requires { ⌜ SlotIn (now file) (now x) i ⌝ }
-    ensures { λ r. ⌜ r ≡ orFalse (flag d (bytesAt (now (file .entry)) (slot i (now (x .entry))))) ⌝ }
+// Whether a key of a row says that the network is hidden, which it is not where nothing is said.
+pub fn hidden_at(x: &[u16; 976], row: usize, k: KeyName) -> bool
+    requires { ⌜ InTable (now x) row ⌝ }
+    ensures { λ r. ⌜ r ≡ orFalse (choiceIn (choiceBy (keySlot (now (x .entry)) row k .code))) ⌝ }
 {
-    let c = values::choice_at(d, file, x, i);
+    let c = values::choice_at(x, row, k);
     match c {
         Choice::Absent => false,
         Choice::No => false,
@@ -241,23 +249,25 @@ fn numbers_of(a: Address, n: u8, g: Address) -> Ipv4
     }
 }
 
-pub fn iwd_numbers(file: &[u8], x: &[u16; 384]) -> Ipv4
-    requires address { ⌜ SlotIn (now file) (now x) 33 ⌝ }
-    requires gateway { ⌜ SlotIn (now file) (now x) 34 ⌝ }
-    requires mask { ⌜ SlotIn (now file) (now x) 36 ⌝ }
-    ensures { λ r. ⌜ r ≡ numbersAnswer (staticOrDhcp (address (bytesAt (now (file .entry)) (slot 33 (now (x .entry))))) (netmask (bytesAt (now (file .entry)) (slot 36 (now (x .entry))))) (address (bytesAt (now (file .entry)) (slot 34 (now (x .entry)))))) ⌝ }
+// The numbers of an iwd file, by the row of its IPv4.
+pub fn iwd_numbers(file: &[u8], x: &[u16; 976], row: usize) -> Ipv4
+    requires { ⌜ RowOf Dialect.Iwd (now file) (now x) row Group.Ipv4 ⌝ }
+    ensures { λ r. ⌜ r ≡ numbersAnswer (staticOrDhcp (address (bytesOf (now (file .entry)) (now (x .entry)) row KeyName.Address))
+        (netmask (bytesOf (now (file .entry)) (now (x .entry)) row KeyName.Netmask))
+        (address (bytesOf (now (file .entry)) (now (x .entry)) row KeyName.Gateway))) ⌝ }
 {
-    let a = values::address_at(file, x, 33);
-    let g = values::address_at(file, x, 34);
-    let n = values::netmask_at(file, x, 36);
+    let a = values::address_at(file, x, row, KeyName::Address);
+    let g = values::address_at(file, x, row, KeyName::Gateway);
+    let n = values::netmask_at(file, x, row, KeyName::Netmask);
     numbers_of(a, n, g)
 }
 
-pub fn iwd_ipv6(file: &[u8], x: &[u16; 384]) -> Ipv6
-    requires { ⌜ SlotIn (now file) (now x) 49 ⌝ }
-    ensures { λ r. ⌜ r ≡ enabledIpv6 (flag Dialect.Iwd (bytesAt (now (file .entry)) (slot 49 (now (x .entry))))) ⌝ }
+// IPv6 of an iwd file, by the row of its IPv6.
+pub fn iwd_ipv6(x: &[u16; 976], row: usize) -> Ipv6
+    requires { ⌜ InTable (now x) row ⌝ }
+    ensures { λ r. ⌜ r ≡ enabledIpv6 (choiceIn (choiceBy (keySlot (now (x .entry)) row KeyName.Enabled .code))) ⌝ }
 {
-    let c = values::choice_at(Dialect::Iwd, file, x, 49);
+    let c = values::choice_at(x, row, KeyName::Enabled);
     match c {
         Choice::Absent => Ipv6::Auto,
         Choice::No => Ipv6::Off,
@@ -265,19 +275,12 @@ pub fn iwd_ipv6(file: &[u8], x: &[u16; 384]) -> Ipv6
     }
 }
 
-// Whether the word at a slot is the one with this number.
-pub fn word_is(list: WordList, file: &[u8], x: &[u16; 384], i: usize, k: u8) -> bool
-    requires { ⌜ SlotIn (now file) (now x) i ⌝ }
-    ensures { λ r. ⌜ r ≡ numberIs k (namedWord (wordOf list (bytesAt (now (file .entry)) (slot i (now (x .entry)))))) ⌝ }
+// IPv6 of a service, by its row.
+pub fn service_ipv6(x: &[u16; 976], row: usize) -> Ipv6
+    requires { ⌜ InTable (now x) row ⌝ }
+    ensures { λ r. ⌜ r ≡ slotIpv6 (now (x .entry)) row ⌝ }
 {
-    is_word(kinds::words::read_word(list, value_at(file, x, i)), k)
-}
-
-pub fn service_ipv6(file: &[u8], x: &[u16; 384]) -> Ipv6
-    requires { ⌜ SlotIn (now file) (now x) 99 ⌝ }
-    ensures { λ r. ⌜ r ≡ wordIpv6 (wordOf WordList.Ipv6Method (bytesAt (now (file .entry)) (slot 99 (now (x .entry))))) ⌝ }
-{
-    if word_is(WordList::Ipv6Method, file, x, 99, 3) {
+    if is_word(x, row, KeyName::Ipv6, Word::Off) {
         return Ipv6::Off;
     }
     Ipv6::Auto
@@ -293,31 +296,38 @@ fn name_of(ssid: Ssid, name: Ssid) -> Ssid
     name
 }
 
-// The name of a service's network: its SSID, or else its Name.
-pub fn service_name(file: &[u8], x: &[u16; 384]) -> Ssid
-    requires name { ⌜ SlotIn (now file) (now x) 106 ⌝ }
-    requires ssid { ⌜ SlotIn (now file) (now x) 107 ⌝ }
-    ensures { λ r. ⌜ r ≡ nameOf (ssidAnswer (ssid (bytesAt (now (file .entry)) (slot 107 (now (x .entry)))))) (ssidAnswer (string Dialect.ConnMan 1 32 (bytesAt (now (file .entry)) (slot 106 (now (x .entry)))))) ⌝ }
+// The name of a service's network, by its row: its SSID, or else its Name.
+pub fn service_name(file: &[u8], x: &[u16; 976], row: usize) -> Ssid
+    requires { ⌜ RowOf Dialect.ConnMan (now file) (now x) row Group.Service ⌝ }
+    ensures { λ r. ⌜ r ≡ nameOf (ssidAnswer (ssid (bytesOf (now (file .entry)) (now (x .entry)) row KeyName.Ssid)))
+        (ssidAnswer (string Dialect.ConnMan 1 32 (bytesOf (now (file .entry)) (now (x .entry)) row KeyName.Name))) ⌝ }
 {
-    let ssid = values::ssid_at(file, x, 107);
-    let name = read_name(value_at(file, x, 106));
+    let ssid = values::ssid_at(file, x, row, KeyName::Ssid);
+    let name = read_name(value_of(file, x, row, KeyName::Name));
     name_of(ssid, name)
 }
 
-// The line for which a service has no record: ethernet, or Security wep or ieee8021x.
-pub fn hindrance_at(file: &[u8], x: &[u16; 384]) -> Hindrance
-    requires kind { ⌜ SlotIn (now file) (now x) 97 ⌝ }
-    requires security { ⌜ SlotIn (now file) (now x) 109 ⌝ }
-    ensures { λ r. ⌜ r ≡ hindrance (isWord Word.Ethernet (wordOf WordList.ServiceType (bytesAt (now (file .entry)) (slot 97 (now (x .entry)))))) (slot 97 (now (x .entry)) .line) (foreignSecurity (wordOf WordList.Security (bytesAt (now (file .entry)) (slot 109 (now (x .entry)))))) (slot 109 (now (x .entry)) .line) ⌝ }
+// Whether a service's Security is wep or ieee8021x.
+pub fn is_foreign(x: &[u16; 976], row: usize) -> bool
+    requires { ⌜ InTable (now x) row ⌝ }
+    ensures { λ r. ⌜ r ≡ slotsForeign (now (x .entry)) row ⌝ }
 {
-    if word_is(WordList::ServiceType, file, x, 97, 2) {
-        return Hindrance::At(values::line_at(x, 97));
+    either(
+        is_word(x, row, KeyName::Security, Word::Wep),
+        is_word(x, row, KeyName::Security, Word::Ieee8021x),
+    )
+}
+
+// The line for which a service has no record: ethernet, or Security wep or ieee8021x.
+pub fn hindrance_at(x: &[u16; 976], row: usize) -> Hindrance
+    requires { ⌜ InTable (now x) row ⌝ }
+    ensures { λ r. ⌜ r ≡ slotsHindrance (now (x .entry)) row ⌝ }
+{
+    if is_word(x, row, KeyName::Type, Word::Ethernet) {
+        return Hindrance::At(line_of(x, row, KeyName::Type));
     }
-    if word_is(WordList::Security, file, x, 109, 11) {
-        return Hindrance::At(values::line_at(x, 109));
-    }
-    if word_is(WordList::Security, file, x, 109, 9) {
-        return Hindrance::At(values::line_at(x, 109));
+    if is_foreign(x, row) {
+        return Hindrance::At(line_of(x, row, KeyName::Security));
     }
     Hindrance::Nothing
 }

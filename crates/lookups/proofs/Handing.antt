@@ -1,57 +1,86 @@
--- The place that a slot gives is that of the setting that it keeps; what is handed back there; and the answers, by the reading.
-use Prim.Native.Nat.{ℕ, _+_, _≤_, _<_}
+-- The place that a row gives of a key is that of the setting that it keeps; what is handed back there; and the answers, by the reading.
+use Prim.Native.Nat.{ℕ, _+_, _≤_}
 use native.Mathlib.Omega.{arith}
-use mathlib.Core.Path.{_≡_, refl, ap, sym, _∙_, subst}
+use mathlib.Core.Path.{_≡_, refl, ap, _∙_, subst}
 use mathlib.Core.List.{List}
 use mathlib.Core.Option.{Option, none, some}
 use lib.ListN.{length}
 use Rattle.text.specs.Parts.{part}
 use Rattle.text.specs.Laws.{part-none, part-long}
 use Rattle.text.specs.declared.Dialect.{Dialect}
+use Rattle.text.specs.declared.Dialect.the-variants.{ConnMan}
+use Rattle.kinds.specs.declared.Kind.{Kind}
+use Rattle.rules.specs.Tables as T
 use Rattle.rules.specs.Faults.{Entry}
-use Rattle.rules.specs.Reading.{reading}
-use Rattle.rules.specs.Asking.{asked, askedOf}
-use Rattle.rules.specs.declared.Reading.{Reading}
+use Rattle.rules.specs.Groups.{entryOf, entriesIn}
+use Rattle.rules.specs.Reading.{sectionsOf, reading}
+use Rattle.rules.specs.Asking.{serviceAt, asked, askedOf}
+use Rattle.rules.specs.ListedValues.{groupName}
+use Rattle.rules.specs.GivenValues.{named-group}
 use Rattle.rules.specs.declared.Answer.{Answer}
 use Rattle.rules.specs.declared.Answer.the-variants.{Good, Refused}
-use Rattle.reader.specs.Store.{Slot, slot}
-use Rattle.reader.specs.Holds.{Kept}
-use Rattle.pass.specs.Pass.{Found, Reads}
-use Rattle.pass.proofs.Asking.{file-found, service-found}
-use Rattle.lookups.specs.Lookups.{Lookup, lookupOf, stretch, valueIn, placeOf, Placed, Hands, HandsPlace}
-use Rattle.lookups.specs.Keeping.{Keeps, KeepsSome, slotPlace, PlacedKept}
+use Rattle.rules.specs.declared.Group.{Group}
+use Rattle.rules.specs.declared.Group.the-variants.{Service}
+use Rattle.rules.specs.declared.Reading.{Reading}
+use Rattle.reader.specs.Store.{Slot}
+use Rattle.reader.specs.Keys.{groupOf, wordOf, kindOf}
+use Rattle.reader.specs.History.{base}
+use Rattle.reader.specs.Holds.{Kept, Row}
+use Rattle.reader.specs.Closing.{KeyIn, keySlot}
+use Rattle.reader.specs.declared.KeyName.{KeyName}
+use Rattle.reader.proofs.RowRule.{row-key, row-in}
+use Rattle.reader.proofs.Values.{base-few}
+use Rattle.pass.specs.Pass.{Reads}
+use Rattle.pass.proofs.Asking.{found-group, found-service, file-found, service-found, service-few}
+use Rattle.lookups.specs.Lookups.{Lookup, lookupOf, groupLookup, serviceLookup, stretch, settingValue, lookupPlace, ValuePlace, Hands, HandsPlace}
+use Rattle.lookups.specs.ByKey.{StandsOnce, slotPlace, answeredPlace}
 use Rattle.lookups.specs.declared.TextPlace.{TextPlace}
 
 -- ---- the place that a slot gives
 
--- the table has the slot
-pub keeps-slot : {d : Dialect} {file : List ℕ} {w i : ℕ} {y : List ℕ} → KeepsSome d file w i → Found d file w y → (length y ≡ 384) × (i < 128)
-keeps-slot k f = (f .kept .long, k .keeps .few)
+kept-placed : (d : Dialect) (t : Option Kind) (file : List ℕ) (s : Slot) (o : Option Entry) → Kept d t file s o → ValuePlace file (lookupOf Good o) (slotPlace file s)
+kept-placed d t file s none q =
+    let p : slotPlace file s ≡ record { number = 0; line = 0; start = 0; end = 0 } = ap (slotPlace file) q ∙ ap (λ (v : List ℕ). record { number = 0; line = 0; start = 0; end = length v }) (part-none file 0) in
+    rw p (record { is = refl; within = omega arith; value-is = part-none file 0 })
+kept-placed d t file s (some e) h =
+    let n : s .start + length (part (s .start) (s .end) file) ≡ s .end = omega (arith, part-long file (s .start) (s .end) (h .low) (h .high), h .low) in
+    record { is = rw (h .value, h .line, h .start) refl; within = rw n (h .high); value-is = rw n (h .value) }
 
-kept-placed : (file : List ℕ) (s : Slot) (o : Option Entry) → Kept file s o → Placed file (lookupOf Good o) (slotPlace Good s)
-kept-placed file s none q =
-    record {
-      is = ap (λ (t : Slot). slotPlace Good t) q;
-      within = rw (ap (λ (t : Slot). t .end) q) (omega arith);
-      value-is = rw (ap (λ (t : Slot). t .start) q, ap (λ (t : Slot). t .end) q) (part-none file 0);
-    }
-kept-placed file s (some e) h =
-    let n : s .end ≡ e .start + length (e .value) = omega (arith, part-long file (s .start) (s .end) (h .low) (h .high), ap length (h .value), h .low, h .start) in
-    record { is = rw (h .line, h .start, n) refl; within = h .high; value-is = h .value }
+-- the answer where the row keeps the settings es
+answer-placed : {d : Dialect} {file y : List ℕ} {b : ℕ} (k : KeyName) {es : List Entry} (a : Answer) → (a ≡ Good → Row d file y b (groupOf k) es) → {p : TextPlace} → p ≡ answeredPlace a (slotPlace file (keySlot y b k)) → ValuePlace file (lookupOf a (entryOf (wordOf k) es)) p
+answer-placed {d} {file} {y} {b} k {es} Good row e = rw e (kept-placed d (some (kindOf k)) file (keySlot y b k) (entryOf (wordOf k) es) (row-key k (row refl)))
+answer-placed {file = file} k (Refused r l) row e = rw e (record { is = refl; within = omega arith; value-is = part-none file 0 })
 
-placed-kept : {d : Dialect} {file : List ℕ} {w i : ℕ} {y : List ℕ} (a : Answer) → (a ≡ Good → Found d file w y) → {p : TextPlace} → p ≡ slotPlace a (slot i y) → PlacedKept d file w i a p
-placed-kept {file = file} {i = i} {y = y} Good f e = record { says = λ o k. subst (λ (q : TextPlace). Placed file (lookupOf Good o) q) (sym e) (kept-placed file (slot i y) o (k .kept y (f refl))) }
-placed-kept {file = file} (Refused c m) f e =
-    record {
-      says = λ o k. subst (λ (q : TextPlace). Placed file (lookupOf (Refused c m) o) q) (sym e) (record { is = refl; within = omega arith; value-is = part-none file 0 });
-    }
+-- ---- the answer of a file
+
+module _ {d : Dialect} {name file y : List ℕ} {r : Reading} (h : Reads d name file y r) {g : Group} {k : KeyName} (s : StandsOnce d g k) {a : Answer} (e : a ≡ asked r) where
+  group-key-row : a ≡ Good → Row d file y (base g 0) (groupOf k) (entriesIn (groupName g) (sectionsOf d file))
+  group-key-row q = rw (s .group) (found-group (file-found h e q) g (subst (λ (b : Dialect). T.groupOf b (groupName g) ≡ some g) (s .dialect) (named-group g (s .once))) (s .once))
+
+  pub group-in : a ≡ Good → (0 ≤ 8) × KeyIn file y (base g 0) k
+  group-in q = (omega arith, row-in k (group-key-row q) (record { long = file-found h e q .kept .long; row = base-few g 0 (omega arith) }))
+
+  pub group-placed : {p : TextPlace} → p ≡ answeredPlace a (slotPlace file (keySlot y (base g 0) k)) → ValuePlace file (groupLookup d (groupName g) (wordOf k) name file) p
+  group-placed {p} q = subst (λ (b : Answer). ValuePlace file (lookupOf b (entryOf (wordOf k) (entriesIn (groupName g) (sectionsOf d file)))) p) (e ∙ ap asked (h .is)) (answer-placed k a group-key-row q)
+
+-- ---- the answer of a service of it
+
+module _ {name file y : List ℕ} {r : Reading} (h : Reads ConnMan name file y r) (w : ℕ) (k : KeyName) (s : groupOf k ≡ Service) {a : Answer} (e : a ≡ askedOf w r) where
+  service-key-row : a ≡ Good → Row ConnMan file y (base Service w) (groupOf k) (serviceAt w (sectionsOf ConnMan file))
+  service-key-row q = rw s (found-service (service-found h w e q) w (service-few h w e q))
+
+  pub service-in : a ≡ Good → (w ≤ 8) × KeyIn file y (base Service w) k
+  service-in q = let l = service-few h w e q .1 in (l, row-in k (service-key-row q) (record { long = service-found h w e q .kept .long; row = base-few Service w l }))
+
+  pub service-placed : {p : TextPlace} → p ≡ answeredPlace a (slotPlace file (keySlot y (base Service w) k)) → ValuePlace file (serviceLookup w (wordOf k) name file) p
+  service-placed {p} q = subst (λ (b : Answer). ValuePlace file (lookupOf b (entryOf (wordOf k) (serviceAt w (sectionsOf ConnMan file)))) p) (e ∙ ap (askedOf w) (h .is)) (answer-placed k a service-key-row q)
 
 -- ---- the part that is handed back
 
-module _ {file : List ℕ} {k : Lookup} {p : TextPlace} (h : Placed file k p) where
-  -- a place starts before it ends
-  pub placed-low : p .start ≤ p .end
-  placed-low = rw (h .is) (omega arith)
+module _ {file : List ℕ} {k : Lookup} {p : TextPlace} (h : ValuePlace file k p) where
+  -- a place starts before it ends, and lies in the file
+  pub placed-in : (p .start ≤ p .end) × (p .end ≤ length file)
+  placed-in = (rw (h .is) (omega arith), h .within)
 
   pub placed-hands : {n l : ℕ} {r : List ℕ} → HandsPlace file p n l r → Hands file k n l r
   placed-hands g =
@@ -62,15 +91,6 @@ module _ {file : List ℕ} {k : Lookup} {p : TextPlace} (h : Placed file k p) wh
         value-is = g .part-is ∙ h .value-is;
       }
     where
-      stretched : (o : Option Entry) → p ≡ placeOf (record { answer = k .answer; setting = o }) → part (p .start) (p .end) file ≡ valueIn o → part (p .start) (p .end) file ≡ stretch file o
+      stretched : (o : Option Entry) → p ≡ lookupPlace (record { answer = k .answer; setting = o }) → part (p .start) (p .end) file ≡ settingValue o → part (p .start) (p .end) file ≡ stretch file o
       stretched none e v = v
       stretched (some x) e v = ap (λ (q : TextPlace). part (q .start) (q .end) file) e
-
--- ---- the answer of a file, and of a service of it
-
-module _ {d : Dialect} {name file : List ℕ} {w : ℕ} {y : List ℕ} {r : Reading} (h : Reads d name file w y r) {a : Answer} {i : ℕ} {p : TextPlace} (k : p ≡ slotPlace a (slot i y)) where
-  pub file-placed : a ≡ asked r → PlacedKept d file w i (asked (reading d name file)) p
-  file-placed e = subst (λ (b : Answer). PlacedKept d file w i b p) (e ∙ ap asked (h .is)) (placed-kept a (file-found h e) k)
-
-  pub service-placed : a ≡ askedOf w r → PlacedKept d file w i (askedOf w (reading d name file)) p
-  service-placed e = subst (λ (b : Answer). PlacedKept d file w i b p) (e ∙ ap (askedOf w) (h .is)) (placed-kept a (service-found h e) k)

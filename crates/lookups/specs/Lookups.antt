@@ -57,32 +57,32 @@ stretch file none = []
 stretch file (some e) = part (e .start) (e .start + length (e .value)) file
 
 -- "its value .., still escaped"
-abbrev pub valueIn : Option Entry → List ℕ
-valueIn none = []
-valueIn (some e) = e .value
+abbrev pub settingValue : Option Entry → List ℕ
+settingValue none = []
+settingValue (some e) = e .value
 
 -- where the value stands, from its start to its end; 0 and 0 where it is absent
-abbrev pub placeOf : Lookup → TextPlace
-placeOf k =
+abbrev pub lookupPlace : Lookup → TextPlace
+lookupPlace k =
     record {
       number = answerNumber (k .answer);
       line = lookupLine (k .answer) (k .setting);
       start = startIn (k .setting);
-      end = startIn (k .setting) + length (valueIn (k .setting));
+      end = startIn (k .setting) + length (settingValue (k .setting));
     }
 
 -- a lookup's place: it lies in the file, and its value stands there
-pub record Placed (file : List ℕ) (k : Lookup) (p : TextPlace) : Type 0 where
-  pub is : p ≡ placeOf k
+pub record ValuePlace (file : List ℕ) (k : Lookup) (p : TextPlace) : Type 0 where
+  pub is : p ≡ lookupPlace k
   pub within : p .end ≤ length file
-  pub value-is : part (p .start) (p .end) file ≡ valueIn (k .setting)
+  pub value-is : part (p .start) (p .end) file ≡ settingValue (k .setting)
 
 -- the number, the line and the part of the file that a lookup hands back
 pub record Hands (file : List ℕ) (k : Lookup) (number line : ℕ) (r : List ℕ) : Type 0 where
   pub number-is : number ≡ answerNumber (k .answer)
   pub line-is : line ≡ lookupLine (k .answer) (k .setting)
   pub stretch-is : r ≡ stretch file (k .setting)
-  pub value-is : r ≡ valueIn (k .setting)
+  pub value-is : r ≡ settingValue (k .setting)
 
 -- the same of a place
 pub record HandsPlace (file : List ℕ) (p : TextPlace) (number line : ℕ) (r : List ℕ) : Type 0 where

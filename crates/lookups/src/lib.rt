@@ -10,7 +10,13 @@ ghost use Prim.Native.Nat.{_≤_};
 ghost use lib.ListN.{length};
 ghost use Rattle.text.specs.Parts.{part};
 ghost use Rattle.text.specs.Words.{word};
-ghost use Rattle.lookups.specs.Lookups.{iwdLookup, globalLookup, serviceLookup, Hands, HandsPlace};
+ghost use Rattle.rules.specs.ListedValues.{groupName};
+ghost use Rattle.reader.specs.Keys.{groupOf, wordOf};
+ghost use Rattle.lookups.specs.Lookups.{groupLookup, iwdLookup, globalLookup, serviceLookup, Hands, HandsPlace};
+ghost use Rattle.lookups.specs.ByKey.{StandsOnce};
+use reader::KeyName;
+use rules::Group;
+use text::Dialect;
 
 // Where the value of a string setting stands in the file, document 01's number, and the line of the refusal or of the setting.
 pub struct TextPlace {
@@ -32,6 +38,42 @@ fn hand<'a>(file: &'a [u8], p: TextPlace, number: &mut u8, line: &mut usize) -> 
     &file[start..end]
 }
 
+// The value of a key of a group that stands once.
+fn group_text<'a>(
+    d: Dialect,
+    name: &[u8],
+    file: &'a [u8],
+    g: Group,
+    k: KeyName,
+    number: &mut u8,
+    line: &mut usize,
+) -> &'a [u8]
+    requires { ⌜ StandsOnce d g k ⌝ }
+    ensures { λ r. ⌜ Hands (now (file .entry)) (groupLookup d (groupName g) (wordOf k) (now (name .entry)) (now (file .entry))) (now (number .exit)) (now (line .exit)) (now r) ⌝ }
+{
+    hand(file, places::group_place(d, name, file, g, k), number, line)
+}
+
+// The value of a key of a service, by its number, from 1.
+fn service_text<'a>(
+    name: &[u8],
+    file: &'a [u8],
+    service: usize,
+    k: KeyName,
+    number: &mut u8,
+    line: &mut usize,
+) -> &'a [u8]
+    requires { ⌜ groupOf k ≡ Group.Service ⌝ }
+    ensures { λ r. ⌜ Hands (now (file .entry)) (serviceLookup service (wordOf k) (now (name .entry)) (now (file .entry))) (now (number .exit)) (now (line .exit)) (now r) ⌝ }
+{
+    hand(
+        file,
+        places::service_place(name, file, service, k),
+        number,
+        line,
+    )
+}
+
 // Passphrase of an iwd file.
 pub fn iwd_passphrase<'a>(
     name: &[u8],
@@ -41,7 +83,15 @@ pub fn iwd_passphrase<'a>(
 ) -> &'a [u8]
     ensures { λ r. ⌜ Hands (now (file .entry)) (iwdLookup (word "Security") (word "Passphrase") (now (name .entry)) (now (file .entry))) (now (number .exit)) (now (line .exit)) (now r) ⌝ }
 {
-    hand(file, places::iwd_passphrase(name, file), number, line)
+    group_text(
+        Dialect::Iwd,
+        name,
+        file,
+        Group::Security,
+        KeyName::IwdPassphrase,
+        number,
+        line,
+    )
 }
 
 // DomainName of an iwd file.
@@ -53,14 +103,30 @@ pub fn iwd_domain_name<'a>(
 ) -> &'a [u8]
     ensures { λ r. ⌜ Hands (now (file .entry)) (iwdLookup (word "IPv4") (word "DomainName") (now (name .entry)) (now (file .entry))) (now (number .exit)) (now (line .exit)) (now r) ⌝ }
 {
-    hand(file, places::iwd_domain_name(name, file), number, line)
+    group_text(
+        Dialect::Iwd,
+        name,
+        file,
+        Group::Ipv4,
+        KeyName::DomainName,
+        number,
+        line,
+    )
 }
 
 // Name of `global` of a ConnMan file.
 pub fn global_name<'a>(name: &[u8], file: &'a [u8], number: &mut u8, line: &mut usize) -> &'a [u8]
     ensures { λ r. ⌜ Hands (now (file .entry)) (globalLookup (word "Name") (now (name .entry)) (now (file .entry))) (now (number .exit)) (now (line .exit)) (now r) ⌝ }
 {
-    hand(file, places::global_name(name, file), number, line)
+    group_text(
+        Dialect::ConnMan,
+        name,
+        file,
+        Group::Global,
+        KeyName::GlobalName,
+        number,
+        line,
+    )
 }
 
 // Description of `global` of a ConnMan file.
@@ -72,7 +138,15 @@ pub fn global_description<'a>(
 ) -> &'a [u8]
     ensures { λ r. ⌜ Hands (now (file .entry)) (globalLookup (word "Description") (now (name .entry)) (now (file .entry))) (now (number .exit)) (now (line .exit)) (now r) ⌝ }
 {
-    hand(file, places::global_description(name, file), number, line)
+    group_text(
+        Dialect::ConnMan,
+        name,
+        file,
+        Group::Global,
+        KeyName::Description,
+        number,
+        line,
+    )
 }
 
 // Name of a service of a ConnMan file, by its number, from 1.
@@ -85,12 +159,7 @@ pub fn service_name<'a>(
 ) -> &'a [u8]
     ensures { λ r. ⌜ Hands (now (file .entry)) (serviceLookup service (word "Name") (now (name .entry)) (now (file .entry))) (now (number .exit)) (now (line .exit)) (now r) ⌝ }
 {
-    hand(
-        file,
-        places::service_name(name, file, service),
-        number,
-        line,
-    )
+    service_text(name, file, service, KeyName::Name, number, line)
 }
 
 // Passphrase of a service of a ConnMan file, by its number, from 1.
@@ -103,12 +172,7 @@ pub fn service_passphrase<'a>(
 ) -> &'a [u8]
     ensures { λ r. ⌜ Hands (now (file .entry)) (serviceLookup service (word "Passphrase") (now (name .entry)) (now (file .entry))) (now (number .exit)) (now (line .exit)) (now r) ⌝ }
 {
-    hand(
-        file,
-        places::service_passphrase(name, file, service),
-        number,
-        line,
-    )
+    service_text(name, file, service, KeyName::Passphrase, number, line)
 }
 
 // Domain of a service of a ConnMan file, by its number, from 1.
@@ -121,10 +185,5 @@ pub fn service_domain<'a>(
 ) -> &'a [u8]
     ensures { λ r. ⌜ Hands (now (file .entry)) (serviceLookup service (word "Domain") (now (name .entry)) (now (file .entry))) (now (number .exit)) (now (line .exit)) (now r) ⌝ }
 {
-    hand(
-        file,
-        places::service_domain(name, file, service),
-        number,
-        line,
-    )
+    service_text(name, file, service, KeyName::Domain, number, line)
 }

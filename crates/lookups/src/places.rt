@@ -1,34 +1,55 @@
 // The string lookups by place: where the value of a string setting stands in the lent file.
 //
-// None of the public functions has a `requires`. A refusal gives its number and line and the place from 0 to 0; a setting
+// None of the seven lookups has a `requires`. A refusal gives its number and line and the place from 0 to 0; a setting
 // that is absent gives zeros.
 ghost use mathlib.Core.Path.{_≡_};
-ghost use Prim.Native.Nat.{_<_};
-ghost use lib.ListN.{length};
+ghost use Prim.Native.Nat.{_≤_};
 ghost use Rattle.text.specs.Words.{word};
-ghost use Rattle.rules.specs.Reading.{reading};
-ghost use Rattle.rules.specs.Asking.{asked, askedOf};
-ghost use Rattle.reader.specs.Store.{slot as slotAt};
-ghost use Rattle.lookups.specs.Lookups.{iwdLookup, globalLookup, serviceLookup, Placed};
-ghost use Rattle.lookups.specs.Keeping.{KeepsSome, slotPlace, PlacedKept};
+ghost use Rattle.rules.specs.ListedValues.{groupName};
+ghost use Rattle.reader.specs.Keys.{groupOf, wordOf};
+ghost use Rattle.reader.specs.History.{base};
+ghost use Rattle.reader.specs.Closing.{KeyIn, keySlot};
+ghost use Rattle.lookups.specs.Lookups.{groupLookup, iwdLookup, globalLookup, serviceLookup, ValuePlace};
+ghost use Rattle.lookups.specs.ByKey.{StandsOnce, slotPlace, answeredPlace};
 use crate::TextPlace;
-use reader::store::wide;
+use reader::KeyName;
+use reader::judging::base_of;
+use reader::services::line_of;
+use reader::services::start_of;
+use reader::services::value_of;
 use rules::Answer;
+use rules::Group;
 use rules::asking;
 use text::Dialect;
 
-// The place that a slot of the table of places keeps, or the refusal.
-fn place_at(x: &[u16; 384], slot: usize, answer: Answer) -> TextPlace
-    requires { ⌜ (answer ≡ Answer.Good → (length (now x) ≡ 384) × (slot < 128)) ⌝ }
-    ensures { λ r. ⌜ r ≡ slotPlace answer (slotAt slot (now (x .entry))) ⌝ }
+// Where the value of a key stands, in the row that starts at a slot.
+fn key_place(file: &[u8], x: &[u16; 976], row: usize, k: KeyName) -> TextPlace
+    requires { ⌜ KeyIn (now file) (now x) row k ⌝ }
+    ensures { λ r. ⌜ r ≡ slotPlace (now (file .entry)) (keySlot (now (x .entry)) row k) ⌝ }
+{
+    let start = start_of(x, row, k);
+    TextPlace {
+        number: 0,
+        line: line_of(x, row, k),
+        start,
+        end: start + value_of(file, x, row, k).len(),
+    }
+}
+
+// The same in the row of a group, or of service n, after a good answer; else the refusal.
+fn answered_place(
+    answer: Answer,
+    file: &[u8],
+    x: &[u16; 976],
+    g: Group,
+    n: usize,
+    k: KeyName,
+) -> TextPlace
+    requires { ⌜ (answer ≡ Answer.Good → (n ≤ 8) × KeyIn (now file) (now x) (base g n) k) ⌝ }
+    ensures { λ r. ⌜ r ≡ answeredPlace answer (slotPlace (now (file .entry)) (keySlot (now (x .entry)) (base g n) k)) ⌝ }
 {
     match answer {
-        Answer::Good => TextPlace {
-            number: 0,
-            line: wide(x[256 + slot]),
-            start: wide(x[slot]),
-            end: wide(x[128 + slot]),
-        },
+        Answer::Good => key_place(file, x, base_of(g, n), k),
         Answer::Refused(refusal, at) => TextPlace {
             number: rules::numbers::number_of(refusal),
             line: at,
@@ -38,76 +59,91 @@ fn place_at(x: &[u16; 384], slot: usize, answer: Answer) -> TextPlace
     }
 }
 
-// The place at the slot of a key of a group with a name.
-fn group_place(d: Dialect, name: &[u8], file: &[u8], slot: usize) -> TextPlace
-    requires { ⌜ KeepsSome d (now file) 0 slot ⌝ }
-    ensures { λ r. ⌜ PlacedKept d (now (file .entry)) 0 slot (asked (reading d (now (name .entry)) (now (file .entry)))) r ⌝ }
+// The place of a key of a group that stands once.
+pub fn group_place(d: Dialect, name: &[u8], file: &[u8], g: Group, k: KeyName) -> TextPlace
+    requires { ⌜ StandsOnce d g k ⌝ }
+    ensures { λ r. ⌜ ValuePlace (now (file .entry)) (groupLookup d (groupName g) (wordOf k) (now (name .entry)) (now (file .entry))) r ⌝ }
 {
-    let mut places = [0; 384];
-    let read = pass::read(d, name, file, &mut places, 0);
+    let mut places = [0; 976];
+    let read = pass::read(d, name, file, &mut places);
     let answer = asking::asked(read);
-    place_at(&places, slot, answer)
+    answered_place(answer, file, &places, g, 0, k)
 }
 
-// The place at the slot of a key of a service.
-fn service_place(name: &[u8], file: &[u8], slot: usize, service: usize) -> TextPlace
-    requires { ⌜ KeepsSome Dialect.ConnMan (now file) service slot ⌝ }
-    ensures { λ r. ⌜ PlacedKept Dialect.ConnMan (now (file .entry)) service slot (askedOf service (reading Dialect.ConnMan (now (name .entry)) (now (file .entry)))) r ⌝ }
+// The place of a key of a service, by its number, from 1.
+pub fn service_place(name: &[u8], file: &[u8], service: usize, k: KeyName) -> TextPlace
+    requires { ⌜ groupOf k ≡ Group.Service ⌝ }
+    ensures { λ r. ⌜ ValuePlace (now (file .entry)) (serviceLookup service (wordOf k) (now (name .entry)) (now (file .entry))) r ⌝ }
 {
-    let mut places = [0; 384];
-    let read = pass::read(Dialect::ConnMan, name, file, &mut places, service);
+    let mut places = [0; 976];
+    let read = pass::read(Dialect::ConnMan, name, file, &mut places);
     let answer = asking::asked_of(service, read);
-    place_at(&places, slot, answer)
+    answered_place(answer, file, &places, Group::Service, service, k)
 }
-
-// The slots below: a key's is as far behind its group's row as its place among the group's keys. The row of Security starts
-// at 16, of IPv4 at 32, of `global` at 64, and of the service that was asked for at 96.
 
 // Passphrase of an iwd file.
 pub fn iwd_passphrase(name: &[u8], file: &[u8]) -> TextPlace
-    ensures { λ r. ⌜ Placed (now (file .entry)) (iwdLookup (word "Security") (word "Passphrase") (now (name .entry)) (now (file .entry))) r ⌝ }
+    ensures { λ r. ⌜ ValuePlace (now (file .entry)) (iwdLookup (word "Security") (word "Passphrase") (now (name .entry)) (now (file .entry))) r ⌝ }
 {
-    group_place(Dialect::Iwd, name, file, 17)
+    group_place(
+        Dialect::Iwd,
+        name,
+        file,
+        Group::Security,
+        KeyName::IwdPassphrase,
+    )
 }
 
 // DomainName of an iwd file.
 pub fn iwd_domain_name(name: &[u8], file: &[u8]) -> TextPlace
-    ensures { λ r. ⌜ Placed (now (file .entry)) (iwdLookup (word "IPv4") (word "DomainName") (now (name .entry)) (now (file .entry))) r ⌝ }
+    ensures { λ r. ⌜ ValuePlace (now (file .entry)) (iwdLookup (word "IPv4") (word "DomainName") (now (name .entry)) (now (file .entry))) r ⌝ }
 {
-    group_place(Dialect::Iwd, name, file, 38)
+    group_place(Dialect::Iwd, name, file, Group::Ipv4, KeyName::DomainName)
 }
 
 // Name of `global` of a ConnMan file.
 pub fn global_name(name: &[u8], file: &[u8]) -> TextPlace
-    ensures { λ r. ⌜ Placed (now (file .entry)) (globalLookup (word "Name") (now (name .entry)) (now (file .entry))) r ⌝ }
+    ensures { λ r. ⌜ ValuePlace (now (file .entry)) (globalLookup (word "Name") (now (name .entry)) (now (file .entry))) r ⌝ }
 {
-    group_place(Dialect::ConnMan, name, file, 65)
+    group_place(
+        Dialect::ConnMan,
+        name,
+        file,
+        Group::Global,
+        KeyName::GlobalName,
+    )
 }
 
 // Description of `global` of a ConnMan file.
 pub fn global_description(name: &[u8], file: &[u8]) -> TextPlace
-    ensures { λ r. ⌜ Placed (now (file .entry)) (globalLookup (word "Description") (now (name .entry)) (now (file .entry))) r ⌝ }
+    ensures { λ r. ⌜ ValuePlace (now (file .entry)) (globalLookup (word "Description") (now (name .entry)) (now (file .entry))) r ⌝ }
 {
-    group_place(Dialect::ConnMan, name, file, 66)
+    group_place(
+        Dialect::ConnMan,
+        name,
+        file,
+        Group::Global,
+        KeyName::Description,
+    )
 }
 
 // Name of a service of a ConnMan file, by its number, from 1.
 pub fn service_name(name: &[u8], file: &[u8], service: usize) -> TextPlace
-    ensures { λ r. ⌜ Placed (now (file .entry)) (serviceLookup service (word "Name") (now (name .entry)) (now (file .entry))) r ⌝ }
+    ensures { λ r. ⌜ ValuePlace (now (file .entry)) (serviceLookup service (word "Name") (now (name .entry)) (now (file .entry))) r ⌝ }
 {
-    service_place(name, file, 106, service)
+    service_place(name, file, service, KeyName::Name)
 }
 
 // Passphrase of a service of a ConnMan file, by its number, from 1.
 pub fn service_passphrase(name: &[u8], file: &[u8], service: usize) -> TextPlace
-    ensures { λ r. ⌜ Placed (now (file .entry)) (serviceLookup service (word "Passphrase") (now (name .entry)) (now (file .entry))) r ⌝ }
+    ensures { λ r. ⌜ ValuePlace (now (file .entry)) (serviceLookup service (word "Passphrase") (now (name .entry)) (now (file .entry))) r ⌝ }
 {
-    service_place(name, file, 108, service)
+    service_place(name, file, service, KeyName::Passphrase)
 }
 
 // Domain of a service of a ConnMan file, by its number, from 1.
 pub fn service_domain(name: &[u8], file: &[u8], service: usize) -> TextPlace
-    ensures { λ r. ⌜ Placed (now (file .entry)) (serviceLookup service (word "Domain") (now (name .entry)) (now (file .entry))) r ⌝ }
+    ensures { λ r. ⌜ ValuePlace (now (file .entry)) (serviceLookup service (word "Domain") (now (name .entry)) (now (file .entry))) r ⌝ }
 {
-    service_place(name, file, 105, service)
+    service_place(name, file, service, KeyName::Domain)
 }

@@ -1,14 +1,19 @@
 -- What the code says of a line that has no place in iwd, 0 standing for none, and of the buffers, by the row of a service.
 use Prim.Native.Nat.{ℕ, zero, suc}
 use mathlib.Core.Path.{_≡_}
+use mathlib.Core.Bool.{Bool, true, false, cond}
 use mathlib.Core.List.{List}
 use mathlib.Core.Option.{Option, none, some}
+use Rattle.text.specs.declared.Dialect.the-variants.{ConnMan}
+use Rattle.kinds.specs.declared.Method.{Method}
+use Rattle.kinds.specs.declared.Method.the-variants as M
 use Rattle.rules.specs.Faults.{Entry}
 use Rattle.rules.specs.Groups.{entryOf}
-use Rattle.rules.specs.Lookups.{keyNames}
 use Rattle.rules.specs.declared.Group.the-variants.{Service}
-use Rattle.reader.specs.Store.{slot}
 use Rattle.reader.specs.Holds.{Row}
+use Rattle.reader.specs.Closing.{keySlot}
+use Rattle.reader.specs.declared.KeyName.{KeyName}
+use Rattle.reader.specs.declared.KeyName.the-variants as N
 use Rattle.writer.specs.Writing.{Writes}
 use Rattle.writer.specs.declared.Written.{Written}
 use Rattle.mover.specs.Moves.{least, movingOf}
@@ -16,27 +21,44 @@ use Rattle.mover.specs.Moves.{least, movingOf}
 -- ---- lines
 
 -- the line that a number says; lines count from 1
-abbrev pub lineOf : ℕ → Option ℕ
-lineOf zero = none
-lineOf (suc n) = some (suc n)
+abbrev pub lineSaid : ℕ → Option ℕ
+lineSaid zero = none
+lineSaid (suc n) = some (suc n)
 
 -- the earlier of two lines that may be absent
-abbrev pub first : Option ℕ → Option ℕ → Option ℕ
-first none o = o
-first (some l) o = some (least l o)
+abbrev pub earlierOf : Option ℕ → Option ℕ → Option ℕ
+earlierOf none o = o
+earlierOf (some l) o = some (least l o)
 
 pub record Earlier (a b r : ℕ) : Type 0 where
-  pub is : lineOf r ≡ first (lineOf a) (lineOf b)
+  pub is : lineSaid r ≡ earlierOf (lineSaid a) (lineSaid b)
 
--- the earliest at the slots of MAC, IPv6.Privacy, SearchDomains and Timeservers
-pub record GivenLine (x : List ℕ) (r : ℕ) : Type 0 where
-  pub is : lineOf r ≡ first (lineOf (slot 101 x .line)) (first (lineOf (slot 100 x .line)) (first (lineOf (slot 103 x .line)) (lineOf (slot 104 x .line))))
+-- ---- the row from b on
 
--- the line of the service whose settings the row from 96 on keeps
-pub record LineIs (file x : List ℕ) (f : (List ℕ → Option Entry) → Option ℕ) (r : ℕ) : Type 0 where
-  pub is : (es : List Entry) → Row file x 96 (keyNames Service) es → lineOf r ≡ f (λ k. entryOf k es)
+-- the line of a key, where a test of its value holds
+abbrev pub slotLineIf : Bool → List ℕ → ℕ → KeyName → ℕ
+slotLineIf t x b k = cond t (keySlot x b k .line) 0
 
--- ---- the move of that service: the answer a, and the buffers x and y, which held n and f
+-- whether IPv4 has no place, by the method and the gateway that are read
+abbrev pub unrouted : Method → Bool → Bool
+unrouted m true = false
+unrouted M.Dhcp false = false
+unrouted M.Off false = true
+unrouted M.Static false = true
 
-pub record MovesBy (file t n f x y : List ℕ) (a : Written) : Type 0 where
-  pub is : (es : List Entry) → Row file t 96 (keyNames Service) es → Writes (movingOf (λ k. entryOf k es) n f) n f x y a
+-- the line of a key that is given
+abbrev pub slotLine : List ℕ → ℕ → KeyName → Option ℕ
+slotLine x b k = lineSaid (keySlot x b k .line)
+
+-- the earliest of MAC, IPv6.Privacy, SearchDomains and Timeservers
+pub record GivenLine (x : List ℕ) (b r : ℕ) : Type 0 where
+  pub is : lineSaid r ≡ earlierOf (slotLine x b N.Mac) (earlierOf (slotLine x b N.Privacy)
+      (earlierOf (slotLine x b N.SearchDomains) (slotLine x b N.Timeservers)))
+
+-- the line of the service whose settings the row keeps
+pub record RowLine (file x : List ℕ) (b : ℕ) (f : (List ℕ → Option Entry) → Option ℕ) (r : ℕ) : Type 0 where
+  pub is : (es : List Entry) → Row ConnMan file x b Service es → lineSaid r ≡ f (λ k. entryOf k es)
+
+-- the move of that service: the answer a, and the buffers x and y, which held n and f
+pub record MovesBy (file t : List ℕ) (b : ℕ) (n f x y : List ℕ) (a : Written) : Type 0 where
+  pub is : (es : List Entry) → Row ConnMan file t b Service es → Writes (movingOf (λ k. entryOf k es) n f) n f x y a

@@ -8,6 +8,8 @@ ghost use Rattle.settings.specs.Rows.{RowOf};
 ghost use Rattle.mover.specs.Demand.{Moves};
 ghost use Rattle.mover.specs.Places.{MovesBy};
 use addresses::Separator;
+use reader::KeyName;
+use reader::judging::base_of;
 use rules::Answer;
 use rules::Group;
 use rules::Refusal;
@@ -16,18 +18,31 @@ use settings::values;
 use text::Dialect;
 use writer::Written;
 
-// The move of a service that there is.
-fn move_found(file: &[u8], x: &[u16; 384], name_out: &mut [u8], file_out: &mut [u8]) -> Written
-    requires { ⌜ RowOf (now file) (now x) 96 Group.Service ⌝ }
-    ensures { λ a. ⌜ MovesBy (now (file .entry)) (now (x .entry)) (now («name_out» .entry)) (now («file_out» .entry)) (now («name_out» .exit)) (now («file_out» .exit)) a ⌝ }
+// The move of a service that there is, by its row.
+fn move_found(
+    file: &[u8],
+    x: &[u16; 976],
+    row: usize,
+    name_out: &mut [u8],
+    file_out: &mut [u8],
+) -> Written
+    requires { ⌜ RowOf Dialect.ConnMan (now file) (now x) row Group.Service ⌝ }
+    ensures { λ a. ⌜ MovesBy (now (file .entry)) (now (x .entry)) row (now («name_out» .entry)) (now («file_out» .entry)) (now («name_out» .exit)) (now («file_out» .exit)) a ⌝ }
 {
-    let line = unplaced::unplaced_line(file, x);
+    let line = unplaced::unplaced_line(file, x, row);
     if 0 < line {
         return writer::refused(Refusal::NoPlace, line);
     }
     let mut servers = [[0u8; 4]; 4];
-    let count = values::list_at(&mut servers, Separator::Comma, file, x, 102);
-    let record = joins::joining::service_join(file, x, count);
+    let count = values::list_at(
+        &mut servers,
+        Separator::Comma,
+        file,
+        x,
+        row,
+        KeyName::Nameservers,
+    );
+    let record = joins::joining::service_join(file, x, row, count);
     writer::write_placed(record, servers, name_out, file_out)
 }
 
@@ -42,11 +57,14 @@ pub fn move_service(
 ) -> Written
     ensures { λ a. ⌜ Moves (now (name .entry)) (now (file .entry)) service (now («name_out» .entry)) (now («file_out» .entry)) (now («name_out» .exit)) (now («file_out» .exit)) a ⌝ }
 {
-    let mut x = [0; 384];
-    let reading = pass::read(Dialect::ConnMan, name, file, &mut x, service);
+    let mut x = [0; 976];
+    let reading = pass::read(Dialect::ConnMan, name, file, &mut x);
     let answer = asking::asked_of(service, reading);
     match answer {
-        Answer::Good => move_found(file, &x, name_out, file_out),
+        Answer::Good => {
+            let row = base_of(Group::Service, service);
+            move_found(file, &x, row, name_out, file_out)
+        }
         Answer::Refused(refusal, line) => writer::refused(refusal, line),
     }
 }

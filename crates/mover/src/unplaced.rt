@@ -1,19 +1,20 @@
 // The lines of a service that iwd has no place for, by the row of the table of places that keeps its settings: each answer is
 // a line, or 0 where there is none.
 ghost use mathlib.Core.Path.{_≡_};
-ghost use mathlib.Core.Bool.{not};
-ghost use lib.ListN.{length};
-ghost use Rattle.text.specs.Words.{word};
+ghost use Rattle.reader.specs.Closing.{InTable};
 ghost use Rattle.settings.specs.Rows.{RowOf};
-ghost use Rattle.written.specs.Written.{hasPlace};
-ghost use Rattle.joins.specs.Joins.{wired, foreign, serviceJoin};
-ghost use Rattle.mover.specs.Moves.{lineIf, unplaced, earliest};
-ghost use Rattle.mover.specs.Places.{Earlier, GivenLine, LineIs};
-use joins::parts::word_is;
+ghost use Rattle.mover.specs.Moves.{unplaced, earliest};
+ghost use Rattle.mover.specs.Places.{Earlier, GivenLine, RowLine, slotLineIf, unrouted};
+use joins::parts::is_foreign;
+use kinds::Ipv4;
 use kinds::Method;
-use kinds::WordList;
+use kinds::Word;
+use reader::KeyName;
+use reader::services::is_word;
+use reader::services::line_of;
 use rules::Group;
 use settings::values;
+use text::Dialect;
 
 // The earlier of two lines.
 fn earlier(a: usize, b: usize) -> usize
@@ -31,65 +32,53 @@ fn earlier(a: usize, b: usize) -> usize
     a
 }
 
-// Type ethernet.
-fn type_line(file: &[u8], x: &[u16; 384]) -> usize
-    requires { ⌜ RowOf (now file) (now x) 96 Group.Service ⌝ }
-    ensures { λ r. ⌜ LineIs (now (file .entry)) (now (x .entry)) (λ at. earliest (lineIf (wired at) (at (word "Type")))) r ⌝ }
+// The line of a key, where a test of its value holds.
+fn line_if(holds: bool, x: &[u16; 976], row: usize, k: KeyName) -> usize
+    requires { ⌜ InTable (now x) row ⌝ }
+    ensures { λ r. ⌜ r ≡ slotLineIf holds (now (x .entry)) row k ⌝ }
 {
-    if word_is(WordList::ServiceType, file, x, 97, 2) {
-        return values::line_at(x, 97);
-    }
-    0
-}
-
-// Security wep or ieee8021x.
-fn security_line(file: &[u8], x: &[u16; 384]) -> usize
-    requires { ⌜ RowOf (now file) (now x) 96 Group.Service ⌝ }
-    ensures { λ r. ⌜ LineIs (now (file .entry)) (now (x .entry)) (λ at. earliest (lineIf (foreign at) (at (word "Security")))) r ⌝ }
-{
-    if word_is(WordList::Security, file, x, 109, 11) {
-        return values::line_at(x, 109);
-    }
-    if word_is(WordList::Security, file, x, 109, 9) {
-        return values::line_at(x, 109);
+    if holds {
+        return line_of(x, row, k);
     }
     0
 }
 
 // IPv4 off, or static without gateway.
-fn ipv4_line(file: &[u8], x: &[u16; 384]) -> usize
-    requires { ⌜ RowOf (now file) (now x) 96 Group.Service ⌝ }
-    ensures { λ r. ⌜ LineIs (now (file .entry)) (now (x .entry)) (λ at. earliest (lineIf (not (hasPlace (serviceJoin at .ipv4))) (at (word "IPv4")))) r ⌝ }
+fn is_unrouted(numbers: Ipv4) -> bool
+    ensures { λ r. ⌜ r ≡ unrouted (numbers .method) (numbers .«has_gateway») ⌝ }
 {
-    let numbers = values::ipv4_at(file, x, 98);
     let method = numbers.method;
     if numbers.has_gateway {
-        return 0;
+        return false;
     }
     match method {
-        Method::Dhcp => 0,
-        Method::Off => values::line_at(x, 98),
-        Method::Static => values::line_at(x, 98),
+        Method::Dhcp => false,
+        Method::Off => true,
+        Method::Static => true,
     }
 }
 
 // MAC, IPv6.Privacy, SearchDomains and Timeservers, whatever they say.
-fn given_line(x: &[u16; 384]) -> usize
-    requires { ⌜ length (now x) ≡ 384 ⌝ }
-    ensures { λ r. ⌜ GivenLine (now (x .entry)) r ⌝ }
+fn given_line(x: &[u16; 976], row: usize) -> usize
+    requires { ⌜ InTable (now x) row ⌝ }
+    ensures { λ r. ⌜ GivenLine (now (x .entry)) row r ⌝ }
 {
-    let domains = earlier(values::line_at(x, 103), values::line_at(x, 104));
-    let privacy = earlier(values::line_at(x, 100), domains);
-    earlier(values::line_at(x, 101), privacy)
+    let domains = line_of(x, row, KeyName::SearchDomains);
+    let lists = earlier(domains, line_of(x, row, KeyName::Timeservers));
+    let privacy = earlier(line_of(x, row, KeyName::Privacy), lists);
+    earlier(line_of(x, row, KeyName::Mac), privacy)
 }
 
-// The earliest of them all.
-pub fn unplaced_line(file: &[u8], x: &[u16; 384]) -> usize
-    requires { ⌜ RowOf (now file) (now x) 96 Group.Service ⌝ }
-    ensures { λ r. ⌜ LineIs (now (file .entry)) (now (x .entry)) (λ at. earliest (unplaced at)) r ⌝ }
+// The earliest of them all: those given, IPv4, Security wep or ieee8021x, and Type ethernet.
+pub fn unplaced_line(file: &[u8], x: &[u16; 976], row: usize) -> usize
+    requires { ⌜ RowOf Dialect.ConnMan (now file) (now x) row Group.Service ⌝ }
+    ensures { λ r. ⌜ RowLine (now (file .entry)) (now (x .entry)) row (λ at. earliest (unplaced at)) r ⌝ }
 {
-    let given = given_line(x);
-    let numbers = earlier(ipv4_line(file, x), given);
-    let security = earlier(security_line(file, x), numbers);
-    earlier(type_line(file, x), security)
+    let given = given_line(x, row);
+    let unrouted = is_unrouted(values::ipv4_at(file, x, row, KeyName::Ipv4));
+    let numbers = earlier(line_if(unrouted, x, row, KeyName::Ipv4), given);
+    let foreign = is_foreign(x, row);
+    let security = earlier(line_if(foreign, x, row, KeyName::Security), numbers);
+    let wired = is_word(x, row, KeyName::Type, Word::Ethernet);
+    earlier(line_if(wired, x, row, KeyName::Type), security)
 }

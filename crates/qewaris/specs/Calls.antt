@@ -5,7 +5,7 @@ use Rattle.text.specs.Words.{word}
 use Rattle.text.specs.declared.Dialect.the-variants.{Iwd, ConnMan}
 use Rattle.rules.specs.Reading.{reading}
 use Rattle.settings.specs.Asked.{iwdAnswered, iwdServersAfter, serviceAnswered, serviceServersAfter}
-use Rattle.lookups.specs.Lookups.{iwdLookup, globalLookup, serviceLookup, placeOf}
+use Rattle.lookups.specs.Lookups.{iwdLookup, globalLookup, serviceLookup, lookupPlace}
 use Rattle.joins.specs.Joins as Joins
 use Rattle.joins.specs.Joins.{iwdRecordServers, serviceRecordServers}
 use Rattle.mover.specs.Moves.{moving}
@@ -31,16 +31,16 @@ abbrev pub iwdSettingsOf : List ℕ → List ℕ → CIwdSettings
 iwdSettingsOf name file = iwdSettingsAt (iwdAnswered name file) (iwdServersAfter name file noServers)
 
 abbrev pub iwdPassphrase : List ℕ → List ℕ → CText
-iwdPassphrase name file = textAt (placeOf (iwdLookup (word "Security") (word "Passphrase") name file))
+iwdPassphrase name file = textAt (lookupPlace (iwdLookup (word "Security") (word "Passphrase") name file))
 
 abbrev pub iwdDomainName : List ℕ → List ℕ → CText
-iwdDomainName name file = textAt (placeOf (iwdLookup (word "IPv4") (word "DomainName") name file))
+iwdDomainName name file = textAt (lookupPlace (iwdLookup (word "IPv4") (word "DomainName") name file))
 
 abbrev pub globalName : List ℕ → List ℕ → CText
-globalName name file = textAt (placeOf (globalLookup (word "Name") name file))
+globalName name file = textAt (lookupPlace (globalLookup (word "Name") name file))
 
 abbrev pub globalDescription : List ℕ → List ℕ → CText
-globalDescription name file = textAt (placeOf (globalLookup (word "Description") name file))
+globalDescription name file = textAt (lookupPlace (globalLookup (word "Description") name file))
 
 abbrev pub iwdRecord : List ℕ → List ℕ → CRecordAnswer
 iwdRecord name file = recordAnswerAt (Joins.iwdRecord name file) (iwdRecordServers name file noServers)
@@ -52,13 +52,13 @@ serviceSettingsOf name file w =
     serviceSettingsAt (serviceAnswered name file w) (serviceServersAfter name file w noServers)
 
 abbrev pub serviceName : List ℕ → List ℕ → ℕ → CText
-serviceName name file w = textAt (placeOf (serviceLookup w (word "Name") name file))
+serviceName name file w = textAt (lookupPlace (serviceLookup w (word "Name") name file))
 
 abbrev pub servicePassphrase : List ℕ → List ℕ → ℕ → CText
-servicePassphrase name file w = textAt (placeOf (serviceLookup w (word "Passphrase") name file))
+servicePassphrase name file w = textAt (lookupPlace (serviceLookup w (word "Passphrase") name file))
 
 abbrev pub serviceDomain : List ℕ → List ℕ → ℕ → CText
-serviceDomain name file w = textAt (placeOf (serviceLookup w (word "Domain") name file))
+serviceDomain name file w = textAt (lookupPlace (serviceLookup w (word "Domain") name file))
 
 abbrev pub serviceRecord : List ℕ → List ℕ → ℕ → CRecordAnswer
 serviceRecord name file w =

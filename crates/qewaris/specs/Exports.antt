@@ -14,7 +14,7 @@ use Rattle.text.specs.declared.Dialect.the-variants.{Iwd, ConnMan}
 use Rattle.kinds.specs.Kinds.{entries}
 use Rattle.rules.specs.AnswerRows.{Row, bare, placed, listed, ownRows}
 use Rattle.rules.specs.Asking.{readAs}
-use Rattle.lookups.specs.Lookups.{Lookup, iwdLookup, globalLookup, serviceLookup, valueIn}
+use Rattle.lookups.specs.Lookups.{Lookup, iwdLookup, globalLookup, serviceLookup, settingValue}
 use Rattle.records.specs.Record.{joined}
 use Rattle.records.specs.Formed.{formed}
 use Rattle.written.specs.Written.{hasPlace, nameText, fileText}
@@ -232,7 +232,7 @@ Exported-refusal = (c : Call) → 0 < number (answered c) → Unchanged c
 -- the place that is answered lies in the file, and the value of the setting stands there
 pub record Stands (file : List ℕ) (k : Lookup) (t : CText) : Type 0 where
   pub within : t .start + t .length ≤ length file
-  pub value : part (t .start) (t .start + t .length) file ≡ valueIn (k .setting)
+  pub value : part (t .start) (t .start + t .length) file ≡ settingValue (k .setting)
 
 pub record Strings (name file : List ℕ) (w : ℕ) : Type 0 where
   pub iwd-passphrase :

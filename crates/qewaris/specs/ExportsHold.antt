@@ -29,7 +29,7 @@ use Rattle.rules.specs.declared.Reading.the-variants as R
 use Rattle.rules.specs.declared.Refusal.{Refusal}
 use Rattle.rules.specs.declared.Refusal.the-variants as N
 use Rattle.settings.specs.Asked.{iwdAnswerOf, iwdServersOf, serviceAnswerOf, serviceServersOf}
-use Rattle.lookups.specs.Lookups.{lookupOf, placeOf}
+use Rattle.lookups.specs.Lookups.{lookupOf, lookupPlace}
 use Rattle.joins.specs.Joins as J
 use Rattle.joins.specs.Joins.{Joined, settingOf, iwdJoined, serviceJoined, recordAnswer, serversAfter, iwdRecord, iwdRecordServers, serviceRecord, serviceRecordServers}
 use Rattle.writer.specs.Writing.{Writing, writes, refuses, writing, writtenAnswer}
@@ -75,7 +75,7 @@ reading-given k rs (R.Refused r l) h = h
 
 text-given : (file : List ℕ) (rs : List Row) (a : Answer) (o : Option Entry) →
     Given (length (lines file)) (bare 0 ∷ rs) a → Holds (EntryStands file) o →
-    listed (length (lines file)) (placed 0 ∷ rs) (textAt (placeOf (lookupOf a o)) .number) (textAt (placeOf (lookupOf a o)) .line) ≡ true
+    listed (length (lines file)) (placed 0 ∷ rs) (textAt (lookupPlace (lookupOf a o)) .number) (textAt (lookupPlace (lookupOf a o)) .line) ≡ true
 text-given file rs Good none h e = rw (inside {x = 0} 0 (length (lines file)) (omega arith) (omega arith))
 text-given file rs Good (some x) h e =
     rw (inside {x = x .line} 0 (length (lines file)) (omega arith) (between-high {x = x .line} 1 (length (lines file)) (e .line)))
@@ -88,12 +88,12 @@ known-given false w h = refl
 
 module _ (name file : List ℕ) where
   group-text-given : (d : Dialect) (group key : List ℕ) →
-      listed (length (lines file)) (placed 0 ∷ ownRows d) (textAt (placeOf (lookupOf (asked (reading d name file)) (iwdEntry (sectionsOf d file) group key))) .number) (textAt (placeOf (lookupOf (asked (reading d name file)) (iwdEntry (sectionsOf d file) group key))) .line) ≡ true
+      listed (length (lines file)) (placed 0 ∷ ownRows d) (textAt (lookupPlace (lookupOf (asked (reading d name file)) (iwdEntry (sectionsOf d file) group key))) .number) (textAt (lookupPlace (lookupOf (asked (reading d name file)) (iwdEntry (sectionsOf d file) group key))) .line) ≡ true
   group-text-given d group key =
       text-given file (ownRows d) (asked (reading d name file)) (iwdEntry (sectionsOf d file) group key) (asked-given d name file) (group-stands d file group key)
 
   service-text-given : (w : ℕ) (key : List ℕ) →
-      listed (length (lines file)) (placed 0 ∷ serviceRefusals) (textAt (placeOf (lookupOf (askedOf w (reading ConnMan name file)) (settingOf w file key))) .number) (textAt (placeOf (lookupOf (askedOf w (reading ConnMan name file)) (settingOf w file key))) .line) ≡ true
+      listed (length (lines file)) (placed 0 ∷ serviceRefusals) (textAt (lookupPlace (lookupOf (askedOf w (reading ConnMan name file)) (settingOf w file key))) .number) (textAt (lookupPlace (lookupOf (askedOf w (reading ConnMan name file)) (settingOf w file key))) .line) ≡ true
   service-text-given w key =
       text-given file serviceRefusals (askedOf w (reading ConnMan name file)) (settingOf w file key) (asked-service-given name file w) (service-stands ConnMan file w key)
 
@@ -124,8 +124,8 @@ reading-zeros : (r : Reading) → 0 < readingAt r .number → reads (readingAt r
 reading-zeros (R.Accepted n m) h = absurd (omega arith)
 reading-zeros (R.Refused r l) h = refl
 
-text-zeros : (a : Answer) (o : Option Entry) → 0 < textAt (placeOf (lookupOf a o)) .number →
-    says (textAt (placeOf (lookupOf a o))) ≡ zeroed (says (textAt (placeOf (lookupOf a o))))
+text-zeros : (a : Answer) (o : Option Entry) → 0 < textAt (lookupPlace (lookupOf a o)) .number →
+    says (textAt (lookupPlace (lookupOf a o))) ≡ zeroed (says (textAt (lookupPlace (lookupOf a o))))
 text-zeros Good o h = absurd (omega arith)
 text-zeros (Refused r l) o h = refl
 

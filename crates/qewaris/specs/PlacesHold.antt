@@ -29,7 +29,7 @@ use Rattle.rules.specs.Numbers.{numberOf, answerNumber}
 use Rattle.rules.specs.declared.Answer.{Answer}
 use Rattle.rules.specs.declared.Answer.the-variants.{Good, Refused}
 use Rattle.settings.specs.Asked.{serviceAnswerOf, serviceServersOf}
-use Rattle.lookups.specs.Lookups.{lookupOf, placeOf}
+use Rattle.lookups.specs.Lookups.{lookupOf, lookupPlace}
 use Rattle.joins.specs.Joins.{settingOf}
 use Rattle.boundary.specs.Answers.{textAt}
 use Rattle.boundary.specs.Records.{noServers}
@@ -41,7 +41,7 @@ use Rattle.qewaris.specs.ExportsHold.{number-some}
 -- ---- strings
 
 string-stands : (file : List ℕ) (a : Answer) (o : Option Entry) → Holds (EntryStands file) o →
-    Stands file (lookupOf a o) (textAt (placeOf (lookupOf a o)))
+    Stands file (lookupOf a o) (textAt (lookupPlace (lookupOf a o)))
 string-stands file Good none h = record { within = omega arith; value = refl }
 string-stands file Good (some e) h =
     let q : e .start + length (e .value) - e .start ≡ length (e .value) = omega arith in
@@ -49,12 +49,12 @@ string-stands file Good (some e) h =
 string-stands file (Refused r l) o h = record { within = omega arith; value = refl }
 
 group-string : (d : Dialect) (name file group key : List ℕ) →
-    Stands file (lookupOf (asked (reading d name file)) (iwdEntry (sectionsOf d file) group key)) (textAt (placeOf (lookupOf (asked (reading d name file)) (iwdEntry (sectionsOf d file) group key))))
+    Stands file (lookupOf (asked (reading d name file)) (iwdEntry (sectionsOf d file) group key)) (textAt (lookupPlace (lookupOf (asked (reading d name file)) (iwdEntry (sectionsOf d file) group key))))
 group-string d name file group key =
     string-stands file (asked (reading d name file)) (iwdEntry (sectionsOf d file) group key) (group-stands d file group key)
 
 service-string : (name file : List ℕ) (w : ℕ) (key : List ℕ) →
-    Stands file (lookupOf (askedOf w (reading ConnMan name file)) (settingOf w file key)) (textAt (placeOf (lookupOf (askedOf w (reading ConnMan name file)) (settingOf w file key))))
+    Stands file (lookupOf (askedOf w (reading ConnMan name file)) (settingOf w file key)) (textAt (lookupPlace (lookupOf (askedOf w (reading ConnMan name file)) (settingOf w file key))))
 service-string name file w key =
     string-stands file (askedOf w (reading ConnMan name file)) (settingOf w file key) (service-stands ConnMan file w key)
 

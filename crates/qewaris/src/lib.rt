@@ -23,8 +23,8 @@ use text::Dialect;
 pub fn check(d: Dialect, name: &[u8], file: &[u8]) -> Reading
     ensures { λ r. ⌜ Checks d (now (name .entry)) (now (file .entry)) r ⌝ }
 {
-    let mut places = [0; 384];
-    pass::read(d, name, file, &mut places, 0)
+    let mut places = [0; 976];
+    pass::read(d, name, file, &mut places)
 }
 
 // Whether a join record and its name servers are well formed.

@@ -1,17 +1,15 @@
 -- The settings of an iwd file: its rows, and one law for each answer.
-use Prim.Native.Nat.{ℕ, suc, _+_, _≤_, _<_}
+use Prim.Native.Nat.{ℕ, _≤_}
 use native.Mathlib.Omega.{arith}
-use mathlib.Core.Path.{_≡_, refl, ap, sym, _∙_, subst}
-use mathlib.Core.Bool.{false}
-use mathlib.Core.List.{List, [], reverse}
-use mathlib.Core.Option.{Option, none, some}
-use lib.ListN.{length, replicate, length-replicate}
+use mathlib.Core.Path.{_≡_, refl, ap, sym, _∙_}
+use mathlib.Core.List.{List, []}
+use lib.ListN.{replicate, length-replicate}
 use Rattle.text.specs.Words.{word}
 use Rattle.text.specs.declared.Dialect.the-variants.{Iwd}
 use Rattle.addresses.specs.Addresses.{addresses, rows}
 use Rattle.addresses.specs.declared.Separator.the-variants.{Spaces}
 use Rattle.rules.specs.Tables.{groupOf, keysOf}
-use Rattle.rules.specs.Faults.{Entry, Section, serves}
+use Rattle.rules.specs.Faults.{Entry}
 use Rattle.rules.specs.Groups.{entryOf, entriesIn}
 use Rattle.rules.specs.Reading.{sectionsOf, reading}
 use Rattle.rules.specs.Asking.{asked}
@@ -21,7 +19,6 @@ use Rattle.rules.specs.declared.Answer.the-variants.{Good, Refused}
 use Rattle.rules.specs.declared.Reading.{Reading}
 use Rattle.rules.specs.declared.Reading.the-variants as R
 use Rattle.rules.specs.declared.Refusal.{Refusal}
-use Rattle.reader.specs.History.{base}
 use Rattle.reader.specs.Holds.{Row}
 use Rattle.reader.specs.Closing.{keySlot, bytesOf, KeyIn}
 use Rattle.reader.specs.declared.KeyName.the-variants as N
@@ -30,7 +27,7 @@ use Rattle.pass.specs.Pass.{Found, Reads}
 use Rattle.pass.proofs.Walking.{empty-row}
 use Rattle.pass.proofs.Asking.{found-group}
 use Rattle.settings.specs.Values.{choiceBy}
-use Rattle.settings.specs.Settings.{generalOf, securityOf, ipv4Of, iwdSettings}
+use Rattle.settings.specs.Settings.{generalOf, securityOf, ipv4Of}
 use Rattle.settings.specs.Rows.{RowOf, Typed}
 use Rattle.settings.specs.Asked.{FourRows, IwdRows, IwdTyped, iwdAnswered, iwdServersAfter}
 use Rattle.settings.specs.declared.Choice.{Choice}

@@ -1,12 +1,11 @@
 -- What a row keeps, read by kind: one law for each function over a row.
-use Prim.Native.Nat.{ℕ, suc, _+_, _≤_, _<_}
-use native.Mathlib.Omega.{arith}
-use mathlib.Core.Path.{_≡_, refl, ap, ap₂, sym, _∙_}
+use Prim.Native.Nat.{ℕ}
+use mathlib.Core.Path.{_≡_, refl, ap, ap₂, sym, _∙_, subst}
 use mathlib.Core.Bool.{Bool, true, false}
 use mathlib.Core.List.{List, []}
 use mathlib.Core.Option.{Option, none, some}
 use lib.ListN.{length}
-use Rattle.text.specs.Options.{plain}
+use Rattle.text.specs.Options.{plain, andThen}
 use Rattle.text.specs.Words.{word}
 use Rattle.text.specs.declared.Dialect.{Dialect}
 use Rattle.text.specs.declared.Dialect.the-variants.{Iwd, ConnMan}
@@ -30,18 +29,17 @@ use Rattle.kinds.specs.declared.Mac.{Mac}
 use Rattle.kinds.specs.declared.Ssid.{Ssid}
 use Rattle.rules.specs.Tables.{keysOf}
 use Rattle.rules.specs.Faults.{Entry}
-use Rattle.rules.specs.Groups.{entryOf, wordNumber}
+use Rattle.rules.specs.Groups.{entryOf, isWord, wordNumber}
 use Rattle.rules.specs.Asking.{readAs, lineIn, startIn}
-use Rattle.rules.specs.declared.Group.{Group}
 use Rattle.rules.specs.declared.Group.the-variants as G
 use Rattle.reader.specs.Store.{Slot}
 use Rattle.reader.specs.History.{base}
 use Rattle.reader.specs.Keys.{groupOf, wordOf as nameOf, kindOf}
 use Rattle.reader.specs.Holds.{flagCode, isText, Coded, Kept, Row}
-use Rattle.reader.specs.Closing.{InTable, keySlot, bytesOf, KeyIn}
+use Rattle.reader.specs.Closing.{keySlot, bytesOf, KeyIn, slotIs}
 use Rattle.reader.specs.declared.KeyName.{KeyName}
 use Rattle.reader.specs.declared.KeyName.the-variants as N
-use Rattle.reader.proofs.RowRule.{row-key, row-in, CodedBy, coded-word, coded-flag, coded-mask}
+use Rattle.reader.proofs.RowRule.{row-key, row-in, CodedBy, coded-word, coded-flag, coded-mask, kept-word}
 use Rattle.reader.proofs.Values.{kept-read, kept-line, kept-start}
 use Rattle.settings.specs.Values.{choice, chosen, choiceBy, chosenBy, lengthOr0}
 use Rattle.settings.specs.Settings.{generalOf, securityOf, ipv4Of, networkSettingsOf, addressSettingsOf}
@@ -148,6 +146,18 @@ mask-few d file s (some e) h = let w = coded-mask d (e .value) (h .code) in omeg
 
 pub mask-in : {d : Dialect} {file x : List ℕ} {b : ℕ} → RowOf d file x b G.Ipv4 → MaskIn x b N.Netmask
 mask-in {d} {file} {x} {b} h = record { table = h .table; small = mask-few d file (keySlot x b N.Netmask) (entryOf (word "Netmask") (h .settings)) (row-key N.Netmask (h .row)) }
+
+-- the same of a key of a row
+module _ {d : Dialect} {file x : List ℕ} {b : ℕ} (k : KeyName) {es : List Entry} (h : Row d file x b (groupOf k) es) where
+  pub row-word : (l : WordList) → kindOf k ≡ Named l → (w : Word) → slotIs x b k w ≡ isWord w (readAs (wordOf l) (entryOf (nameOf k) es))
+  row-word l e w = kept-word d l file (keySlot x b k) (entryOf (nameOf k) es) (subst (λ (i : Kind). Kept d (some i) file (keySlot x b k) (entryOf (nameOf k) es)) e (row-key k h)) w ∙ ap (isWord w) (then-read (entryOf (nameOf k) es))
+    where
+      then-read : (o : Option Entry) → andThen o (λ e. wordOf l (e .value)) ≡ readAs (wordOf l) o
+      then-read none = refl
+      then-read (some e) = refl
+
+  pub row-flag : kindOf k ≡ Flag → choiceBy (keySlot x b k .code) ≡ choice (readAs (flag d) (entryOf (nameOf k) es))
+  row-flag e = flag-by d file (keySlot x b k) (entryOf (nameOf k) es) (subst (λ (i : Kind). Kept d (some i) file (keySlot x b k) (entryOf (nameOf k) es)) e (row-key k h))
 
 -- ---- the functions
 

@@ -1,14 +1,13 @@
 -- The settings of a service: its row, and one law for each answer.
 use Prim.Native.Nat.{ℕ, _≤_}
 use native.Mathlib.Omega.{arith}
-use mathlib.Core.Path.{_≡_, refl, ap, _∙_, subst}
+use mathlib.Core.Path.{_≡_, ap, _∙_}
 use mathlib.Core.List.{List, []}
 use lib.ListN.{replicate, length-replicate}
 use Rattle.text.specs.declared.Dialect.the-variants.{ConnMan}
 use Rattle.addresses.specs.Addresses.{addresses, rows}
 use Rattle.addresses.specs.declared.Separator.the-variants.{Comma}
 use Rattle.rules.specs.Tables.{keysOf}
-use Rattle.rules.specs.Faults.{Entry}
 use Rattle.rules.specs.Reading.{sectionsOf}
 use Rattle.rules.specs.Asking.{serviceAt, askedOf}
 use Rattle.rules.specs.declared.Group.the-variants as G
@@ -71,7 +70,7 @@ module _ {name file : List ℕ} (w : ℕ) {y : List ℕ} {q : Reading} (h : Read
     row-few = service-few h w s e .1
 
     module _ {r : ℕ} (at : r ≡ base G.Service w) where
-      found-row : Row ConnMan file y r G.Service (serviceAt w (sectionsOf ConnMan file))
+      pub found-row : Row ConnMan file y r G.Service (serviceAt w (sectionsOf ConnMan file))
       found-row = rw at (service-row (service-found h w s e) w (service-few h w s e))
 
       pub found-kept : RowOf ConnMan file y r G.Service

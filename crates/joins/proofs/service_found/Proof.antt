@@ -1,24 +1,20 @@
 -- The service has a record, or it has none.
-use native.Mathlib.Omega.{arith}
-use mathlib.Core.Path.{refl}
-use Rattle.text.specs.Words.{word}
-use Rattle.rules.specs.Tables.{keysOf}
-use Rattle.settings.proofs.Rowwise.{slot-in}
+use Rattle.reader.specs.declared.KeyName.the-variants as N
+use Rattle.settings.proofs.Rowwise.{key-in}
 use Rattle.joins.proofs.Asked.{found-hindered, found-joined}
 use borrow.Author.Needs.{needs}
 use Rattle.joins.proofs.service_found.Statement.{statement}
 use Rattle.joins.proofs.service_found.Tie as tie
 
 pub service-found-spec : {M : Type 1} → statement M
-unfolding keysOf
 service-found-spec =
     tie.close
     (tie.spec
-    (λ c κs. (slot-in (c .before .pre) (word "Type") 0 refl (omega arith), slot-in (c .before .pre) (word "Security") 12 refl (omega arith)))
+    (λ c κs. c .before .pre .table)
     (λ c. search needs)
     (λ c κs. search needs)
     (λ c. search needs)
-    (λ c κs. slot-in (c .before .before .before .before .before .pre) (word "Nameservers") 5 refl (omega arith))
+    (λ c κs. key-in N.Nameservers (c .before .before .before .before .before .pre))
     (λ c κs. (c .before .before .before .before .before .before .pre, c .list-at .ensures .0))
     (λ c κs. search needs)
     (λ c. found-hindered (c .before .before .before .before .hindrance-at .ensures) (c .before .before .before .before .before .before .args .servers .now) (c .before .before .hindrance .given .1) (c .refused .ensures))

@@ -1,6 +1,5 @@
 -- There is such a service, or it is refused.
-use Rattle.pass.proofs.Asking.{service-found}
-use Rattle.settings.proofs.ServiceFile.{service-kept}
+use Rattle.settings.proofs.ServiceFile.{row-few, found-kept}
 use Rattle.joins.proofs.Asked.{service-good, service-refused}
 use borrow.Author.Needs.{needs}
 use Rattle.joins.proofs.service_record.Statement.{statement}
@@ -13,8 +12,9 @@ service-record-spec =
     (λ c κs. search needs)
     (λ c κs. search needs)
     (λ c. search needs)
-    (λ c κs. service-kept (service-found (c .before .before .before .before .before .read .ensures) (c .before .before .before .before .asked-of .ensures) (c .before .before .enum-told .given .1)))
+    (λ c κs. row-few (c .before .before .before .before .before .before .before .args .service) (c .before .before .before .read .ensures) (c .before .before .asked-of .ensures) (c .enum-told .given .1))
+    (λ c κs. found-kept (c .before .before .before .before .before .before .before .before .before .before .args .service) (c .before .before .before .before .before .before .read .ensures) (c .before .before .before .before .before .asked-of .ensures) (c .before .before .before .enum-told .given .1) (c .before .before .base-of .ensures))
     (λ c. search needs)
     (λ c κs. search needs)
-    (λ c. service-good (c .before .before .before .before .before .before .read .ensures) (c .before .before .before .before .before .asked-of .ensures) (c .before .before .before .before .before .before .before .before .before .before .args .servers .now) (c .before .before .before .enum-told .given .1) (c .service-found .ensures))
-    (λ c. service-refused (c .before .before .before .before .before .read .ensures) (c .before .before .before .before .asked-of .ensures) (c .before .before .before .before .before .before .before .before .before .args .servers .now) (c .before .before .answer .given .1) (c .refused .ensures)))
+    (λ c. service-good (c .before .before .before .before .before .before .before .before .before .before .before .args .service) (c .before .before .before .before .before .before .before .read .ensures) (c .before .before .before .before .before .before .asked-of .ensures) (c .before .before .before .before .before .before .before .before .before .before .before .args .servers .now) (c .before .before .before .before .enum-told .given .1) (c .before .before .before .base-of .ensures) (c .service-found .ensures))
+    (λ c. service-refused (c .before .before .before .before .before .before .before .before .before .args .service) (c .before .before .before .before .before .read .ensures) (c .before .before .before .before .asked-of .ensures) (c .before .before .before .before .before .before .before .before .before .args .servers .now) (c .before .before .answer .given .1) (c .refused .ensures)))

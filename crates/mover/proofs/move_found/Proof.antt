@@ -1,23 +1,19 @@
 -- The service has a line that iwd has no place for, or its record is written.
-use native.Mathlib.Omega.{arith}
-use mathlib.Core.Path.{refl}
-use Rattle.text.specs.Words.{word}
-use Rattle.rules.specs.Tables.{keysOf}
-use Rattle.settings.proofs.Rowwise.{slot-in}
+use Rattle.reader.specs.declared.KeyName.the-variants as N
+use Rattle.settings.proofs.Rowwise.{key-in}
 use Rattle.mover.proofs.Moving.{record-within, found-unplaced, found-placed}
 use borrow.Author.Needs.{needs}
 use Rattle.mover.proofs.move_found.Statement.{statement}
 use Rattle.mover.proofs.move_found.Tie as tie
 
 pub move-found-spec : {M : Type 1} → statement M
-unfolding keysOf
 move-found-spec =
     tie.close
     (tie.spec
     (λ c κs. c .before .before .before .pre)
     (λ c κs. search needs)
     (λ c. found-unplaced (c .before .before .unplaced-line .ensures) (c .before .before .before .before .before .before .args .name-out .now) (c .before .before .before .before .before .before .args .file-out .now) (c .before .if1 .taken) (c .refused .ensures))
-    (λ c κs. slot-in (c .before .before .before .before .before .before .pre) (word "Nameservers") 5 refl (omega arith))
+    (λ c κs. key-in N.Nameservers (c .before .before .before .before .before .before .pre))
     (λ c κs. (c .before .before .before .before .before .before .before .pre, c .list-at .ensures .0))
     (λ c κs. record-within (c .before .before .before .before .before .before .before .before .before .before .pre) (c .before .before .service-join .ensures))
     (λ c. search needs)

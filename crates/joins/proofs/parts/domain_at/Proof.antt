@@ -1,4 +1,4 @@
--- The value at the slot, read.
+-- The value of the key, read.
 use Prim.Native.Nat.{ℕ}
 use mathlib.Core.List.{List}
 use mathlib.Core.Path.{ap, _∙_}
@@ -14,4 +14,4 @@ domain-at-spec =
     (tie.spec
     (λ c κs. search needs)
     (λ c κs. search needs)
-    (λ c. c .read-domain .ensures ∙ ap (λ (s : List ℕ). domainAnswer (string (c .before .before .before .args .d) 1 253 s)) (c .before .value-at .ensures)))
+    (λ c. c .read-domain .ensures ∙ ap (λ (s : List ℕ). domainAnswer (string (c .before .before .before .args .d) 1 253 s)) (c .before .value-of .ensures)))

@@ -1,11 +1,12 @@
--- The passphrase and the key at their slots.
+-- The passphrase and the key of the row.
 use Prim.Native.Nat.{ℕ}
 use mathlib.Core.List.{List}
 use mathlib.Core.Path.{ap, _∙_}
 use Rattle.text.specs.declared.Dialect.the-variants.{Iwd}
 use Rattle.kinds.specs.Kinds.{key, passphrase}
-use Rattle.reader.specs.Store.{slot}
-use Rattle.settings.specs.Values.{bytesAt}
+use Rattle.reader.specs.Closing.{bytesOf}
+use Rattle.reader.specs.declared.KeyName.the-variants as N
+use Rattle.settings.proofs.Rowwise.{key-in}
 use Rattle.joins.specs.Answers.{phraseAnswer}
 use Rattle.joins.proofs.Choosing.{login-is}
 use borrow.Author.Needs.{needs}
@@ -16,8 +17,8 @@ pub iwd-login-spec : {M : Type 1} → statement M
 iwd-login-spec =
     tie.close
     (tie.spec
+    (λ c κs. key-in N.IwdPassphrase (c .before .pre))
     (λ c κs. search needs)
+    (λ c κs. key-in N.PreSharedKey (c .before .before .before .pre))
     (λ c κs. search needs)
-    (λ c κs. search needs)
-    (λ c κs. search needs)
-    (λ c. login-is (passphrase Iwd (bytesAt (c .before .before .before .before .before .args .file .now) (slot 17 (c .before .before .before .before .before .args .x .now)))) (key (bytesAt (c .before .before .before .before .before .args .file .now) (slot 18 (c .before .before .before .before .before .args .x .now)))) (c .before .before .read-phrase .ensures ∙ ap (λ (s : List ℕ). phraseAnswer (passphrase Iwd s)) (c .before .before .before .value-at .ensures)) (c .before .key-at .ensures) (c .login-of .ensures)))
+    (λ c. login-is (passphrase Iwd (bytesOf (c .before .before .before .before .before .args .file .now) (c .before .before .before .before .before .args .x .now) (c .before .before .before .before .before .args .row) N.IwdPassphrase)) (key (bytesOf (c .before .before .before .before .before .args .file .now) (c .before .before .before .before .before .args .x .now) (c .before .before .before .before .before .args .row) N.PreSharedKey)) (c .before .before .read-phrase .ensures ∙ ap (λ (s : List ℕ). phraseAnswer (passphrase Iwd s)) (c .before .before .before .value-of .ensures)) (c .before .key-at .ensures) (c .login-of .ensures)))

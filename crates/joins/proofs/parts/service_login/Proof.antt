@@ -1,12 +1,13 @@
--- The passphrase at the slot, and no key.
+-- The passphrase of the row, and no key.
 use Prim.Native.Nat.{ℕ}
 use mathlib.Core.List.{List}
 use mathlib.Core.Path.{refl, ap, _∙_}
 use mathlib.Core.Option.{none}
 use Rattle.text.specs.declared.Dialect.the-variants.{ConnMan}
 use Rattle.kinds.specs.Kinds.{passphrase}
-use Rattle.reader.specs.Store.{slot}
-use Rattle.settings.specs.Values.{bytesAt}
+use Rattle.reader.specs.Closing.{bytesOf}
+use Rattle.reader.specs.declared.KeyName.the-variants as N
+use Rattle.settings.proofs.Rowwise.{key-in}
 use Rattle.joins.specs.Answers.{phraseAnswer}
 use Rattle.joins.proofs.Choosing.{login-is}
 use borrow.Author.Needs.{needs}
@@ -17,7 +18,7 @@ pub service-login-spec : {M : Type 1} → statement M
 service-login-spec =
     tie.close
     (tie.spec
+    (λ c κs. key-in N.Passphrase (c .before .pre))
     (λ c κs. search needs)
     (λ c κs. search needs)
-    (λ c κs. search needs)
-    (λ c. login-is (passphrase ConnMan (bytesAt (c .before .before .before .before .args .file .now) (slot 108 (c .before .before .before .before .args .x .now)))) none (c .before .read-phrase .ensures ∙ ap (λ (s : List ℕ). phraseAnswer (passphrase ConnMan s)) (c .before .before .value-at .ensures)) refl (c .login-of .ensures)))
+    (λ c. login-is (passphrase ConnMan (bytesOf (c .before .before .before .before .args .file .now) (c .before .before .before .before .args .x .now) (c .before .before .before .before .args .row) N.Passphrase)) none (c .before .read-phrase .ensures ∙ ap (λ (s : List ℕ). phraseAnswer (passphrase ConnMan s)) (c .before .before .value-of .ensures)) refl (c .login-of .ensures)))

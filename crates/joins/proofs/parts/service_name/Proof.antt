@@ -5,6 +5,8 @@ use mathlib.Core.Path.{ap, ap₂, _∙_}
 use Rattle.text.specs.declared.Dialect.the-variants.{ConnMan}
 use Rattle.kinds.specs.Kinds.{string}
 use Rattle.kinds.specs.Answers.{ssidAnswer}
+use Rattle.reader.specs.declared.KeyName.the-variants as N
+use Rattle.settings.proofs.Rowwise.{key-in}
 use Rattle.joins.specs.Answers.{nameOf}
 use borrow.Author.Needs.{needs}
 use Rattle.joins.proofs.parts.service_name.Statement.{statement}
@@ -14,8 +16,8 @@ pub service-name-spec : {M : Type 1} → statement M
 service-name-spec =
     tie.close
     (tie.spec
+    (λ c κs. key-in N.Ssid (c .before .pre))
+    (λ c κs. key-in N.Name (c .before .before .pre))
     (λ c κs. search needs)
     (λ c κs. search needs)
-    (λ c κs. search needs)
-    (λ c κs. search needs)
-    (λ c. c .name-of .ensures ∙ ap₂ nameOf (c .before .before .before .ssid-at .ensures) (c .before .read-name .ensures ∙ ap (λ (s : List ℕ). ssidAnswer (string ConnMan 1 32 s)) (c .before .before .value-at .ensures))))
+    (λ c. c .name-of .ensures ∙ ap₂ nameOf (c .before .before .before .ssid-at .ensures) (c .before .read-name .ensures ∙ ap (λ (s : List ℕ). ssidAnswer (string ConnMan 1 32 s)) (c .before .before .value-of .ensures))))

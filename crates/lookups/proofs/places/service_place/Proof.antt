@@ -1,6 +1,5 @@
 -- The reading of the file, and the place that the service's answer gives.
-use Rattle.pass.proofs.Asking.{service-found}
-use Rattle.lookups.proofs.Handing.{keeps-slot, service-placed}
+use Rattle.lookups.proofs.Handing.{service-in, service-placed}
 use borrow.Author.Needs.{needs}
 use Rattle.lookups.proofs.places.service_place.Statement.{statement}
 use Rattle.lookups.proofs.places.service_place.Tie as tie
@@ -11,5 +10,5 @@ service-place-spec =
     (tie.spec
     (λ c κs. search needs)
     (λ c κs. search needs)
-    (λ c κs. λ g. keeps-slot (c .before .before .before .before .before .before .pre) (service-found (c .before .before .read .ensures) (c .before .asked-of .ensures) g))
-    (λ c. service-placed (c .before .before .before .read .ensures) (c .place-at .ensures) (c .before .before .asked-of .ensures)))
+    (λ c κs. λ g. service-in (c .before .before .read .ensures) (c .before .before .before .before .before .before .args .service) (c .before .before .before .before .before .before .args .k) (c .before .before .before .before .before .before .pre) (c .before .asked-of .ensures) g)
+    (λ c. service-placed (c .before .before .before .read .ensures) (c .before .before .before .before .before .before .before .args .service) (c .before .before .before .before .before .before .before .args .k) (c .before .before .before .before .before .before .before .pre) (c .before .before .asked-of .ensures) (c .answered-place .ensures)))

@@ -1,6 +1,5 @@
 -- One of the lines is absent, or one is the earlier.
 use Rattle.mover.proofs.Lines.{first-absent, second-absent, second-earlier, first-earlier}
-use borrow.Author.Needs.{needs}
 use Rattle.mover.proofs.unplaced.earlier.Statement.{statement}
 use Rattle.mover.proofs.unplaced.earlier.Tie as tie
 
