@@ -14,10 +14,10 @@ use Rattle.kinds.specs.declared.Word.the-variants as W
 use Rattle.kinds.specs.declared.WordList.the-variants as L
 use Rattle.names.specs.Names.{networkOf}
 use Rattle.rules.specs.Tables.{keysOf}
-use Rattle.rules.specs.Lookups.{keyNames}
-use Rattle.rules.specs.Faults.{Entry}
-use Rattle.rules.specs.Groups.{entryOf, isWord}
-use Rattle.rules.specs.Asking.{iwdEntry, readAs, lineIn, askedOf}
+use Rattle.rules.specs.KeyPlaces.{keyNames}
+use Rattle.rules.specs.Sections.{Entry, entryOf}
+use Rattle.rules.specs.WordNumbers.{isWord}
+use Rattle.rules.specs.Asking.{iwdEntry, readAs, entryLine, askedOf}
 use Rattle.rules.specs.Reading.{sectionsOf}
 use Rattle.rules.specs.declared.Group.the-variants as G
 use Rattle.rules.specs.declared.Refusal.{Refusal}
@@ -84,7 +84,7 @@ module _ {file x : List ℕ} {h : Hindrance} (e : h ≡ hindrance (isWord W.Ethe
   unfolding keysOf
   no-record q es w =
       rw (← q, e, row-read G.Service w (word "Type") 0 refl (wordOf L.ServiceType) (word-none L.ServiceType), row-read G.Service w (word "Security") 12 refl (wordOf L.Security) (word-none L.Security), row-line G.Service w (word "Type") 0 refl, row-line G.Service w (word "Security") 12 refl)
-      (sym (ap hindranceIn (hindered (isWord W.Ethernet (readAs (wordOf L.ServiceType) (entryOf (word "Type") es))) (lineIn (entryOf (word "Type") es)) (foreignSecurity (readAs (wordOf L.Security) (entryOf (word "Security") es))) (lineIn (entryOf (word "Security") es))) ∙ hindrance-back (noRecord (λ k. entryOf k es))))
+      (sym (ap hindranceIn (hindered (isWord W.Ethernet (readAs (wordOf L.ServiceType) (entryOf (word "Type") es))) (entryLine (entryOf (word "Type") es)) (foreignSecurity (readAs (wordOf L.Security) (entryOf (word "Security") es))) (entryLine (entryOf (word "Security") es))) ∙ hindrance-back (noRecord (λ k. entryOf k es))))
 
   pub found-hindered : (old : List (List ℕ)) {l : ℕ} → h ≡ H.At l → {r : RecordAnswer} → r ≡ record { answer = Refused NoPlace l; «record» = zeroRecord } → Answers file x old old r
   found-hindered old q p = record { is = λ es w. rw (no-record q es w) p; servers = λ es w. rw (no-record q es w) }

@@ -12,7 +12,7 @@ use Rattle.kinds.specs.declared.Ipv4.{Ipv4}
 use Rattle.kinds.specs.declared.Key.{Key}
 use Rattle.kinds.specs.declared.Word.{Word}
 use Rattle.kinds.specs.declared.Word.the-variants as W
-use Rattle.rules.specs.Groups.{isWord, wordNumber}
+use Rattle.rules.specs.WordNumbers.{isWord, wordNumber}
 use Rattle.reader.proofs.RowRule.{number-word}
 use Rattle.reader.specs.Closing.{numberIs}
 use Rattle.settings.specs.Values.{choice, lengthOr0}

@@ -7,9 +7,8 @@ use mathlib.Core.Option.{Option}
 use lib.ListN.{length}
 use Rattle.text.specs.declared.Dialect.the-variants.{Iwd}
 use Rattle.kinds.specs.declared.Ipv4.{Ipv4}
-use Rattle.rules.specs.Lookups.{keyNames}
-use Rattle.rules.specs.Faults.{Entry}
-use Rattle.rules.specs.Groups.{entryOf, entriesIn}
+use Rattle.rules.specs.KeyPlaces.{keyNames}
+use Rattle.rules.specs.Sections.{Entry, entryOf, entriesIn}
 use Rattle.rules.specs.Reading.{sectionsOf}
 use Rattle.rules.specs.declared.Group.the-variants as G
 use Rattle.reader.specs.Holds.{Row}

@@ -6,7 +6,7 @@ ghost use Rattle.escapes.specs.Strings.{stringOf, sizeOf};
 ghost use Rattle.addresses.specs.Addresses.{address, netmask};
 ghost use Rattle.kinds.specs.Kinds.{flag, wordOf, key, ssid, string, passphrase};
 ghost use Rattle.kinds.specs.Answers.{namedWord, ssidAnswer};
-ghost use Rattle.rules.specs.Groups.{isWord};
+ghost use Rattle.rules.specs.WordNumbers.{isWord};
 ghost use Rattle.reader.specs.Store.{slot};
 ghost use Rattle.reader.specs.Closing.{SlotIn, numberIs};
 ghost use Rattle.settings.specs.Values.{bytesAt};

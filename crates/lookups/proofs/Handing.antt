@@ -8,7 +8,7 @@ use lib.ListN.{length}
 use Rattle.text.specs.Parts.{part}
 use Rattle.text.specs.Laws.{part-none, part-long}
 use Rattle.text.specs.declared.Dialect.{Dialect}
-use Rattle.rules.specs.Faults.{Entry}
+use Rattle.rules.specs.Sections.{Entry}
 use Rattle.rules.specs.Reading.{reading}
 use Rattle.rules.specs.Asking.{asked, askedOf}
 use Rattle.rules.specs.declared.Reading.{Reading}

@@ -9,9 +9,8 @@ use Rattle.text.specs.Words.{word, place}
 use Rattle.text.specs.declared.Dialect.{Dialect}
 use Rattle.text.specs.declared.Dialect.the-variants.{Iwd, ConnMan}
 use Rattle.rules.specs.Tables.{groupOf, keysOf}
-use Rattle.rules.specs.Lookups.{keyNames}
-use Rattle.rules.specs.Faults.{Entry, serves}
-use Rattle.rules.specs.Groups.{entryOf, entriesIn}
+use Rattle.rules.specs.KeyPlaces.{keyNames}
+use Rattle.rules.specs.Sections.{Entry, serves, entryOf, entriesIn}
 use Rattle.rules.specs.Reading.{sectionsOf}
 use Rattle.rules.specs.Asking.{iwdEntry, serviceAt}
 use Rattle.rules.specs.declared.Group.{Group}

@@ -4,7 +4,7 @@ use mathlib.Core.List.{List}
 use mathlib.Core.Option.{Option}
 use Rattle.text.specs.declared.Dialect.{Dialect}
 use Rattle.rules.specs.Numbers.{numberOf}
-use Rattle.rules.specs.Faults.{Entry}
+use Rattle.rules.specs.Sections.{Entry}
 use Rattle.rules.specs.declared.Answer.{Answer}
 use Rattle.rules.specs.declared.Answer.the-variants.{Good, Refused}
 use Rattle.reader.specs.Store.{Slot, slot}

@@ -8,7 +8,7 @@ use Rattle.text.specs.declared.Dialect.the-variants.{ConnMan}
 use Rattle.addresses.specs.Addresses.{addresses, rows}
 use Rattle.addresses.specs.declared.Separator.the-variants.{Comma}
 use Rattle.rules.specs.Tables.{keysOf}
-use Rattle.rules.specs.Groups.{entryOf}
+use Rattle.rules.specs.Sections.{entryOf}
 use Rattle.rules.specs.Asking.{askedOf}
 use Rattle.rules.specs.declared.Answer.{Answer}
 use Rattle.rules.specs.declared.Answer.the-variants.{Good, Refused}

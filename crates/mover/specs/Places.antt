@@ -3,9 +3,8 @@ use Prim.Native.Nat.{ℕ, zero, suc}
 use mathlib.Core.Path.{_≡_}
 use mathlib.Core.List.{List}
 use mathlib.Core.Option.{Option, none, some}
-use Rattle.rules.specs.Faults.{Entry}
-use Rattle.rules.specs.Groups.{entryOf}
-use Rattle.rules.specs.Lookups.{keyNames}
+use Rattle.rules.specs.Sections.{Entry, entryOf}
+use Rattle.rules.specs.KeyPlaces.{keyNames}
 use Rattle.rules.specs.declared.Group.the-variants.{Service}
 use Rattle.reader.specs.Store.{slot}
 use Rattle.reader.specs.Holds.{Row}

@@ -14,7 +14,7 @@ use Rattle.kinds.specs.Kinds as K
 use Rattle.kinds.specs.Kinds.{IPv4, dhcp, off, static, ipv4, ssid, string}
 use Rattle.kinds.specs.Values.{string-size, ssid-size, addresses-good, Ipv4Good, ipv4-good}
 use Rattle.rules.specs.Tables.{keysOf}
-use Rattle.rules.specs.Faults.{Entry}
+use Rattle.rules.specs.Sections.{Entry}
 use Rattle.rules.specs.Asking.{readAs}
 use Rattle.records.specs.Record.{passphraseOf, lengthOf, laid}
 use Rattle.written.specs.Parts.{Within}

@@ -13,9 +13,10 @@ use Rattle.text.specs.Words.{word, place}
 use Rattle.text.specs.Options.{orElse}
 use Rattle.text.specs.declared.Dialect.{Dialect}
 use Rattle.rules.specs.Tables.{keysOf}
-use Rattle.rules.specs.Lookups.{keyNames}
-use Rattle.rules.specs.Faults.{Entry, Section, serves}
-use Rattle.rules.specs.Groups.{Fault, faultAt, sectionFault, serviceFault, entryOf}
+use Rattle.rules.specs.KeyPlaces.{keyNames}
+use Rattle.rules.specs.Sections.{Entry, Section, serves, entryOf}
+use Rattle.rules.specs.Faults.{Fault, faultAt}
+use Rattle.rules.specs.Groups.{sectionFault, serviceFault}
 use Rattle.rules.specs.declared.Group.{Group}
 use Rattle.rules.specs.declared.Group.the-variants.{Settings, Security, Ipv4, Ipv6, Global, Service}
 use Rattle.reader.specs.Store.{Slot, slot}

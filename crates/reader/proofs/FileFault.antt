@@ -10,9 +10,10 @@ use Rattle.text.specs.declared.Dialect.{Dialect}
 use Rattle.text.specs.declared.Dialect.the-variants.{Iwd}
 use Rattle.names.specs.declared.Suffix.{Suffix}
 use Rattle.rules.specs.Tables.{groupOf, keysOf}
-use Rattle.rules.specs.Lookups.{keyNames}
-use Rattle.rules.specs.Faults.{Section, given, serves}
-use Rattle.rules.specs.Groups.{faultAt, entriesIn, has, fileFault}
+use Rattle.rules.specs.KeyPlaces.{keyNames}
+use Rattle.rules.specs.Sections.{Section, given, serves, entriesIn}
+use Rattle.rules.specs.Faults.{faultAt}
+use Rattle.rules.specs.Groups.{has, fileFault}
 use Rattle.rules.specs.declared.Group.{Group}
 use Rattle.rules.specs.declared.Group.the-variants.{Security, Ipv4}
 use Rattle.reader.specs.History.{base, sameGroup, latest}

@@ -17,9 +17,10 @@ use Rattle.kinds.specs.declared.Word.the-variants.{Wifi, Ethernet, Psk, None}
 use Rattle.kinds.specs.declared.WordList.{WordList}
 use Rattle.kinds.specs.declared.WordList.the-variants as W
 use Rattle.rules.specs.Tables.{keysOf}
-use Rattle.rules.specs.Lookups.{keyNames}
-use Rattle.rules.specs.Faults.{Entry, given}
-use Rattle.rules.specs.Groups.{entryOf, isWord, wordNumber, wordIn, serviceFault}
+use Rattle.rules.specs.KeyPlaces.{keyNames}
+use Rattle.rules.specs.Sections.{Entry, given, entryOf}
+use Rattle.rules.specs.WordNumbers.{isWord, wordNumber}
+use Rattle.rules.specs.Groups.{wordGiven, serviceFault}
 use Rattle.rules.specs.declared.Group.the-variants.{Service}
 use Rattle.reader.specs.Store.{Slot, slot}
 use Rattle.reader.specs.Holds.{Kept, Stands, Row}
@@ -43,7 +44,7 @@ taken-given {file} {x} {b} {t} {es} h k n q = rw (sym q) (sym (kept-given file (
 -- ---- the row of a service
 
 module _ {file x : List ℕ} {es : List Entry} (h : Row file x 80 (keyNames Service) es) where
-  word-is : (l : WordList) (w : Word) (k : List ℕ) (n : ℕ) → place k (keyNames Service) ≡ suc n → numberIs (wordNumber w) (slotWord file l (slot (80 + suc n) x)) ≡ isWord w (wordIn l k es)
+  word-is : (l : WordList) (w : Word) (k : List ℕ) (n : ℕ) → place k (keyNames Service) ≡ suc n → numberIs (wordNumber w) (slotWord file l (slot (80 + suc n) x)) ≡ isWord w (wordGiven l k es)
   word-is l w k n q = rw (sym q) (kept-word file (slot (80 + place k (keyNames Service)) x) l w (entryOf k es) (h .each k (λ z. let p = sym q ∙ z in omega (arith, p))))
 
   pub row-rule : slotsRule file x ≡ serviceFault es

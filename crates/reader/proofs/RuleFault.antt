@@ -2,7 +2,7 @@
 use Prim.Native.Nat.{ℕ}
 use mathlib.Core.Path.{_≡_, refl, ap, _∙_, sym}
 use mathlib.Core.Option.{Option, none, some}
-use Rattle.rules.specs.Groups.{faultAt}
+use Rattle.rules.specs.Faults.{faultAt}
 use Rattle.rules.specs.declared.Refusal.{Refusal}
 use Rattle.reader.specs.Closing.{ruleAnswer}
 use Rattle.reader.specs.Holds.{pendingOf}

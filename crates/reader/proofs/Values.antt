@@ -10,8 +10,8 @@ use lib.Dec.{eqb}
 use lib.ListN.{length}
 use Rattle.text.specs.Parts.{part}
 use Rattle.text.specs.Laws.{part-none}
-use Rattle.rules.specs.Faults.{Entry, Section, serves, services}
-use Rattle.rules.specs.Asking.{firstOr, serviceAt, readAs, lineIn, startIn}
+use Rattle.rules.specs.Sections.{Entry, Section, serves, services}
+use Rattle.rules.specs.Asking.{firstOr, serviceAt, readAs, entryLine, entryStart}
 use Rattle.reader.specs.Store.{Slot}
 use Rattle.reader.specs.History.{numbered}
 use Rattle.reader.specs.Holds.{Kept}
@@ -23,11 +23,11 @@ module _ (file : List ℕ) (s : Slot) where
   kept-read f e none q = rw (ap (λ (t : Slot). t .start) q, ap (λ (t : Slot). t .end) q, part-none file 0) e
   kept-read f e (some x) h = ap f (h .value)
 
-  pub kept-line : (o : Option Entry) → Kept file s o → s .line ≡ lineIn o
+  pub kept-line : (o : Option Entry) → Kept file s o → s .line ≡ entryLine o
   kept-line none q = ap (λ (t : Slot). t .line) q
   kept-line (some x) h = h .line
 
-  pub kept-start : (o : Option Entry) → Kept file s o → s .start ≡ startIn o
+  pub kept-start : (o : Option Entry) → Kept file s o → s .start ≡ entryStart o
   kept-start none q = ap (λ (t : Slot). t .start) q
   kept-start (some x) h = h .start
 

@@ -8,10 +8,10 @@ use mathlib.Core.Option.{Option, none, some}
 use lib.Dec.{eqb}
 use Rattle.text.specs.Words.{place}
 use Rattle.text.specs.declared.Dialect.{Dialect}
-use Rattle.rules.specs.Lookups.{keyNames}
-use Rattle.rules.specs.Faults.{Section, services}
-use Rattle.rules.specs.Groups.{Fault}
-use Rattle.rules.specs.Reading.{Name, iwdName, connmanFile, settings, groupsFault, verdict}
+use Rattle.rules.specs.KeyPlaces.{keyNames}
+use Rattle.rules.specs.Sections.{Section, services, settings}
+use Rattle.rules.specs.Faults.{Fault}
+use Rattle.rules.specs.Reading.{Name, iwdName, connmanFile, groupsFault, verdict}
 use Rattle.rules.specs.declared.Group.{Group}
 use Rattle.rules.specs.declared.Group.the-variants.{Service}
 use Rattle.rules.specs.declared.Reading.{Reading}

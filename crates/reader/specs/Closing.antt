@@ -13,7 +13,9 @@ use Rattle.kinds.specs.declared.NamedWord.{NamedWord}
 use Rattle.kinds.specs.declared.NamedWord.the-variants as N
 use Rattle.kinds.specs.declared.WordList.{WordList}
 use Rattle.kinds.specs.declared.WordList.the-variants as W
-use Rattle.rules.specs.Groups.{Fault, faultAt, wordNumber, lackOrClash}
+use Rattle.rules.specs.Faults.{Fault, faultAt}
+use Rattle.rules.specs.WordNumbers.{wordNumber}
+use Rattle.rules.specs.Groups.{lackOrClash}
 use Rattle.rules.specs.declared.Refusal.{Refusal}
 use Rattle.reader.specs.Store.{Slot, slot}
 use Rattle.reader.specs.Holds.{pendingOf}

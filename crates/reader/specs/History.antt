@@ -5,8 +5,9 @@ use mathlib.Core.List.{List, [], _∷_}
 use mathlib.Core.Option.{Option, none, some}
 use lib.Dec.{eqb}
 use Rattle.text.specs.Options.{orElse}
-use Rattle.rules.specs.Faults.{Entry, Section, services, serves}
-use Rattle.rules.specs.Groups.{Fault, faultAt, serviceFault, sectionFault}
+use Rattle.rules.specs.Sections.{Entry, Section, services, serves}
+use Rattle.rules.specs.Faults.{Fault, faultAt}
+use Rattle.rules.specs.Groups.{serviceFault, sectionFault}
 use Rattle.rules.specs.declared.Group.{Group}
 use Rattle.rules.specs.declared.Group.the-variants.{Settings, Security, Ipv4, Ipv6, Global, Service}
 use Rattle.reader.specs.Store.{Slot, emptySlot}

@@ -11,8 +11,9 @@ use Rattle.text.specs.declared.Place.{Place}
 use Rattle.lines.specs.Lines.{blank, comment, header, setting, lineOf, valueStart}
 use Rattle.lines.specs.Lines as Lines
 use Rattle.kinds.specs.declared.Value.{Value}
-use Rattle.rules.specs.Lookups.{keyNames}
-use Rattle.rules.specs.Faults.{Section, serves, fault, after}
+use Rattle.rules.specs.KeyPlaces.{keyNames}
+use Rattle.rules.specs.Sections.{Section, serves, withLine}
+use Rattle.rules.specs.Faults.{fault}
 use Rattle.rules.specs.declared.Group.{Group}
 use Rattle.reader.specs.Store.{stored, Began}
 use Rattle.reader.specs.History.{base, currentOf, latest}
@@ -62,7 +63,7 @@ pub record Known (d : Dialect) (file : List ℕ) (w : ℕ) (st : State) (x : Lis
   pub holds : Holds d file w st x groups
 
 abbrev pub StepIs : Dialect → List ℕ → ℕ → List Section → ℕ → ℕ → ℕ → Lines.Line → List ℕ → Stepped → Type 0
-StepIs d file w gs n s v p y (Goes st) = (fault d gs p ≡ none) × Holds d file w st y (after d n s v p gs)
+StepIs d file w gs n s v p y (Goes st) = (fault d gs p ≡ none) × Holds d file w st y (withLine d n s v p gs)
 StepIs d file w gs n s v p y (Stops r) = fault d gs p ≡ some r
 
 pub record Steps (d : Dialect) (file : List ℕ) (w : ℕ) (st : State) (x : List ℕ) (n s v : ℕ) (p : Lines.Line) (y : List ℕ) (r : Stepped) : Type 0 where

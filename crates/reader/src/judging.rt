@@ -52,7 +52,7 @@ pub fn setting_line(
     let start = key.start;
     let end = key.end;
     let listed = rules::tables::key_of(g, &file[start..end]);
-    let Listed::Key(n, kind) = listed else {
+    let Listed::Is(n, kind) = listed else {
         return Line::Refused(Refusal::UnknownKey);
     };
     let i = base_of(g) + n;

@@ -4,7 +4,7 @@ ghost use mathlib.Core.Bool.{_||_, _&&_, not};
 ghost use Prim.Native.Nat.{_≤_, _<_};
 ghost use lib.ListN.{length};
 ghost use lib.Dec.{eqb};
-ghost use Rattle.rules.specs.Groups.{wordNumber};
+ghost use Rattle.rules.specs.WordNumbers.{wordNumber};
 ghost use Rattle.reader.specs.Store.{slot};
 ghost use Rattle.reader.specs.Holds.{Spans, among};
 ghost use Rattle.reader.specs.Closing.{numberIs, slotWord, SlotIn};

@@ -12,7 +12,8 @@ use Rattle.kinds.specs.Typed.{judged}
 use Rattle.kinds.specs.declared.Kind.{Kind}
 use Rattle.lines.specs.Rendering.{HeaderText, SettingText}
 use Rattle.rules.specs.Tables.{groupOf, kindOf}
-use Rattle.rules.specs.Faults.{Entry, Section, nameGiven, serves, valueFault}
+use Rattle.rules.specs.Sections.{Entry, Section, nameGiven, serves}
+use Rattle.rules.specs.Faults.{valueFault}
 use Rattle.rules.specs.declared.Group.{Group}
 use Rattle.written.specs.Written.{Row, Block}
 

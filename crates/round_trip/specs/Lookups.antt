@@ -10,9 +10,8 @@ use lib.ListN.{length}
 use Rattle.text.specs.Words.{same}
 use Rattle.text.specs.Options.{isSome, andThen, orElse}
 use Rattle.text.specs.Laws.{and-true, same-refl, same-eq}
-use Rattle.rules.specs.Faults.{Entry, Section}
-use Rattle.rules.specs.Groups.{entryOf, entriesIn, has}
-use Rattle.rules.specs.Reading.{settings}
+use Rattle.rules.specs.Sections.{Entry, Section, entryOf, entriesIn, settings}
+use Rattle.rules.specs.Groups.{has}
 use Rattle.rules.specs.Asking.{iwdEntry, readAs}
 use Rattle.written.specs.Written.{Row, Block}
 use Rattle.round_trip.specs.Blocks.{bare, bareBlocks, orSkipped, kept, valueIn, rowsIn, rowCount, nameFree, namesApart}

@@ -14,7 +14,7 @@ use Rattle.addresses.specs.declared.Separator.the-variants.{Spaces}
 use Rattle.kinds.specs.Kinds as K
 use Rattle.kinds.specs.Kinds.{IPv4, dhcp, off, static, flag, string}
 use Rattle.kinds.specs.Written.{string-escape, key-hex}
-use Rattle.rules.specs.Faults.{Section}
+use Rattle.rules.specs.Sections.{Section}
 use Rattle.rules.specs.Groups.{has, fileFault}
 use Rattle.records.specs.Record.{Secret, noSecret, passphrase, key}
 use Rattle.records.specs.Formed.{GoodSecret, GoodIpv4, GoodServers, GoodDomain}

@@ -14,7 +14,8 @@ use Rattle.text.specs.declared.Dialect.{Dialect}
 use Rattle.lines.specs.Lines.{Line, header, setting, valueStart}
 use Rattle.lines.specs.Rendering.{render, rendered, Writable, AllWritable}
 use Rattle.lines.specs.Laws.{line-render, lines-rendered}
-use Rattle.rules.specs.Faults.{Entry, Section, given, nameGiven, fault, after}
+use Rattle.rules.specs.Sections.{Entry, Section, given, nameGiven, withLine}
+use Rattle.rules.specs.Faults.{fault}
 use Rattle.rules.specs.Reading.{grown, sectionsOf}
 use Rattle.rules.specs.Acceptance.{LinesObey}
 use Rattle.rules.specs.declared.Group.{Group}
@@ -50,14 +51,14 @@ reads-none : (d : Dialect) (gs : List Section) → Reads d gs [] (bareBlocks (re
 unfolding grown
 reads-none d gs = record { obey = λ n s. tt; leaves = λ n s. refl }
 
-reads-line : (d : Dialect) (gs : List Section) (l : Line) (ls : List Line) (bs : List Block) → Writable d l → fault d gs l ≡ none → ((n s at : ℕ) → Reads d (after d n s at l gs) ls bs) → Reads d gs (l ∷ ls) bs
+reads-line : (d : Dialect) (gs : List Section) (l : Line) (ls : List Line) (bs : List Block) → Writable d l → fault d gs l ≡ none → ((n s at : ℕ) → Reads d (withLine d n s at l gs) ls bs) → Reads d gs (l ∷ ls) bs
 unfolding grown
 reads-line d gs l ls bs w f h =
     record {
       obey = λ n s. (rw (line-render d l w) f, rw (line-render d l w) (h n s (valueStart d (render d l)) .obey (suc n) (s + length (render d l) + 1)));
       leaves =
           λ n s.
-          ap (λ (x : Line). bareBlocks (reverse (grown d (suc n) (s + length (render d l) + 1) (after d n s (valueStart d (render d l)) x gs) (map (render d) ls)))) (line-render d l w)
+          ap (λ (x : Line). bareBlocks (reverse (grown d (suc n) (s + length (render d l) + 1) (withLine d n s (valueStart d (render d l)) x gs) (map (render d) ls)))) (line-render d l w)
           ∙ h n s (valueStart d (render d l)) .leaves (suc n) (s + length (render d l) + 1);
     }
 
@@ -69,7 +70,7 @@ row-fault d g gs r w e = rw (w .listed, given-bare (r .0) (g .entries), e) (w .g
 
 -- more are the lines behind them, and h is the group with them
 reads-rows : (d : Dialect) (rs : List Row) (g : Section) (gs : List Section) (more : List Line) (bs : List Block) → GoodRows d (g .group) rs → keysApart (bare (g .entries)) rs ≡ true → ((h : Section) → h .name ≡ g .name → bare (h .entries) ≡ bare (g .entries) ++ rs → Reads d (h ∷ gs) more bs) → Reads d (g ∷ gs) (rowLines rs ++ more) bs
-unfolding after
+unfolding withLine
 reads-rows d [] g gs more bs w a f = f g refl (sym (append-nil (bare (g .entries))))
 reads-rows d (r ∷ rs) g gs more bs w a f =
     let k = and-true (not (isSome (valueIn (r .0) (bare (g .entries))))) (keysApart (bare (g .entries) ++ (r ∷ [])) rs) a in
@@ -101,7 +102,7 @@ blocks-last h gs b bs p q =
     ∙ ap₂ (λ (n : List ℕ) (rs : List Row). bareBlocks (reverse gs) ++ (record { name = n; rows = rs } ∷ bs)) p q
 
 pub reads-blocks : (d : Dialect) (bs : List Block) (gs : List Section) → GoodBlocks d bs → namesApart bs ≡ true → Unnamed bs gs → Reads d gs (blockLines bs) (bareBlocks (reverse gs) ++ kept bs)
-unfolding after
+unfolding withLine
 reads-blocks d [] gs w a u = subst (λ (bs : List Block). Reads d gs [] bs) (sym (append-nil (bareBlocks (reverse gs)))) (reads-none d gs)
 reads-blocks d (b ∷ bs) gs w a u = go (b .rows) (w .0 .rows) (w .0 .apart) (λ hs v. reads-blocks d bs hs (w .1) (k .1) v)
   where

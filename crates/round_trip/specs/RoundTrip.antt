@@ -15,7 +15,7 @@ use Rattle.kinds.specs.Kinds.{flag, string}
 use Rattle.names.specs.Names.{networkOf}
 use Rattle.names.specs.Laws.{network-file-name}
 use Rattle.rules.specs.Tables.{keysOf}
-use Rattle.rules.specs.Faults.{Section}
+use Rattle.rules.specs.Sections.{Section}
 use Rattle.rules.specs.Groups.{has}
 use Rattle.rules.specs.Reading.{iwdName, sectionsOf, reading}
 use Rattle.rules.specs.Asking.{iwdEntry, readAs, asked}

@@ -13,7 +13,7 @@ use Rattle.text.specs.Words.{word, same, place, named}
 use Rattle.text.specs.Laws.{inside, under, over}
 use Rattle.kinds.specs.declared.Kind.{Kind}
 use Rattle.rules.specs.Tables.{isService, keysOf, kindOf}
-use Rattle.rules.specs.Lookups.{nth, named-nth, keyNames, kindAnswer, listedAnswer}
+use Rattle.rules.specs.KeyPlaces.{atPlace, at-place-named, keyNames, kindAnswer, listedAnswer}
 use Rattle.rules.specs.declared.Group.{Group}
 use Rattle.rules.specs.declared.KindAt.{KindAt}
 use Rattle.rules.specs.declared.KindAt.the-variants as K
@@ -41,14 +41,14 @@ module _ (n : List ℕ) where
         let r : take (length n - 8) (drop 8 n) ≡ drop 8 n = take-all (length n - 8) (drop 8 n) (simp length-drop (omega arith)) in
         rw (← p, e, inside {x = length (drop 8 n)} 1 32 (simp length-drop (omega arith)) (simp length-drop (omega arith))) (q ∙ ap (all isIdentifier) r)
 
-module _ (g : Group) (k : List ℕ) {n : ℕ} (p : n ≡ place k (keyNames g)) {r : KindAt} (q : r ≡ kindAnswer (nth n (keysOf g))) where
+module _ (g : Group) (k : List ℕ) {n : ℕ} (p : n ≡ place k (keyNames g)) {r : KindAt} (q : r ≡ kindAnswer (atPlace n (keysOf g))) where
   found : r ≡ kindAnswer (kindOf g k)
-  found = q ∙ ap kindAnswer (ap (λ (m : ℕ). nth m (keysOf g)) p ∙ named-nth k (keysOf g))
+  found = q ∙ ap kindAnswer (ap (λ (m : ℕ). atPlace m (keysOf g)) p ∙ at-place-named k (keysOf g))
 
-  pub key-found : {x : Kind} → r ≡ K.Is x → L.Key n x ≡ listedAnswer (place k (keyNames g)) (kindOf g k)
+  pub key-found : {x : Kind} → r ≡ K.Is x → L.Is n x ≡ listedAnswer (place k (keyNames g)) (kindOf g k)
   key-found {x} e = go (kindOf g k) found
     where
-      go : (o : Option Kind) → r ≡ kindAnswer o → L.Key n x ≡ listedAnswer (place k (keyNames g)) o
+      go : (o : Option Kind) → r ≡ kindAnswer o → L.Is n x ≡ listedAnswer (place k (keyNames g)) o
       go none h = let z : _≡_ {A = ℕ} 0 1 = cc in absurd (omega arith)
       go (some y) h = cc
 

@@ -16,11 +16,11 @@ use Rattle.text.specs.declared.Dialect.{Dialect}
 use Rattle.lines.specs.Lines.{Line, blank, comment, header, setting, broken, lineOf}
 use Rattle.lines.specs.LineRuleLaws.{file-lines, lines-file}
 use Rattle.lines.specs.declared.Break.the-variants as B
-use Rattle.rules.specs.Faults.{services}
-use Rattle.rules.specs.Groups.{Fault}
-use Rattle.rules.specs.Reading.{Name, iwdName, connmanFile, nameIn, lineFault, grown, sectionsOf, settings, groupsFault, verdict, readingOf, reading}
+use Rattle.rules.specs.Sections.{services, settings}
+use Rattle.rules.specs.Faults.{Fault}
+use Rattle.rules.specs.Reading.{Name, iwdName, connmanFile, nameIn, lineFault, grown, sectionsOf, groupsFault, verdict, readingOf, reading}
 use Rattle.rules.specs.Numbers.{numberOf}
-use Rattle.rules.specs.LineOrder.{IsSetting, ServiceHeader, RowApplies, rowsOf, LinesAllowed, FaultyLine}
+use Rattle.rules.specs.LineOrder.{IsSetting, ServiceHeader, RowApplies, lineRows, LinesAllowed, FaultyLine}
 use Rattle.rules.specs.GroupRules.{Faulty, missing, contradicts, FaultyGroup}
 use Rattle.rules.specs.FileRules.{Admitted, AcceptedFile, RefusedAtLine, RefusedAtGroup, RefusedFile, too-long, misnamed, at-line, at-group, Answers}
 use Rattle.rules.specs.NameLaws.{named-is, is-named, unnamed, none-named}
@@ -135,7 +135,7 @@ module _ (d : Dialect) (name file : List ℕ) where
 
 -- ---- which numbers a line has, and which a group
 
-rows-numbered : (l : Line) → Each (λ r. numberOf r ≤ 13) (rowsOf l)
+rows-numbered : (l : Line) → Each (λ r. numberOf r ≤ 13) (lineRows l)
 rows-numbered blank = omega arith
 rows-numbered comment = omega arith
 rows-numbered (header n) = omega arith
@@ -146,7 +146,7 @@ rows-numbered (broken B.BadHeader) = omega arith
 
 line-numbered : (d : Dialect) (ls : List Line) (r : Refusal) (n : ℕ) → FaultyLine d ls r n → numberOf r ≤ 13
 line-numbered d ls r n h =
-    first-each (RowApplies d (h .before) (h .at)) (λ q. numberOf q ≤ 13) (rowsOf (h .at)) (rows-numbered (h .at)) (h .bad)
+    first-each (RowApplies d (h .before) (h .at)) (λ q. numberOf q ≤ 13) (lineRows (h .at)) (rows-numbered (h .at)) (h .bad)
 
 rule-numbered : {L C : Type 0} {r : Refusal} → Faulty L C r → 14 ≤ numberOf r
 rule-numbered (missing h) = omega arith

@@ -1,7 +1,7 @@
 // The kind of each key, by its group and its place in it.
 ghost use mathlib.Core.Path.{_≡_};
 ghost use Rattle.rules.specs.Tables.{keysOf};
-ghost use Rattle.rules.specs.Lookups.{kindAnswer, nth};
+ghost use Rattle.rules.specs.KeyPlaces.{kindAnswer, atPlace};
 use crate::Group;
 use crate::KindAt;
 use addresses::Separator;
@@ -9,7 +9,7 @@ use kinds::Kind;
 use kinds::WordList;
 
 fn settings_kind(n: usize) -> KindAt
-    ensures { λ r. ⌜ r ≡ kindAnswer (nth n (keysOf Group.Settings)) ⌝ }
+    ensures { λ r. ⌜ r ≡ kindAnswer (atPlace n (keysOf Group.Settings)) ⌝ }
 {
     match n {
         1 => KindAt::Is(Kind::Flag),
@@ -21,7 +21,7 @@ fn settings_kind(n: usize) -> KindAt
 }
 
 fn security_kind(n: usize) -> KindAt
-    ensures { λ r. ⌜ r ≡ kindAnswer (nth n (keysOf Group.Security)) ⌝ }
+    ensures { λ r. ⌜ r ≡ kindAnswer (atPlace n (keysOf Group.Security)) ⌝ }
 {
     match n {
         1 => KindAt::Is(Kind::Passphrase),
@@ -31,7 +31,7 @@ fn security_kind(n: usize) -> KindAt
 }
 
 fn ipv4_kind(n: usize) -> KindAt
-    ensures { λ r. ⌜ r ≡ kindAnswer (nth n (keysOf Group.Ipv4)) ⌝ }
+    ensures { λ r. ⌜ r ≡ kindAnswer (atPlace n (keysOf Group.Ipv4)) ⌝ }
 {
     match n {
         1 => KindAt::Is(Kind::Address),
@@ -46,7 +46,7 @@ fn ipv4_kind(n: usize) -> KindAt
 }
 
 fn ipv6_kind(n: usize) -> KindAt
-    ensures { λ r. ⌜ r ≡ kindAnswer (nth n (keysOf Group.Ipv6)) ⌝ }
+    ensures { λ r. ⌜ r ≡ kindAnswer (atPlace n (keysOf Group.Ipv6)) ⌝ }
 {
     match n {
         1 => KindAt::Is(Kind::Flag),
@@ -55,7 +55,7 @@ fn ipv6_kind(n: usize) -> KindAt
 }
 
 fn global_kind(n: usize) -> KindAt
-    ensures { λ r. ⌜ r ≡ kindAnswer (nth n (keysOf Group.Global)) ⌝ }
+    ensures { λ r. ⌜ r ≡ kindAnswer (atPlace n (keysOf Group.Global)) ⌝ }
 {
     match n {
         1 => KindAt::Is(Kind::Text(1, 253)),
@@ -65,7 +65,7 @@ fn global_kind(n: usize) -> KindAt
 }
 
 fn service_kind(n: usize) -> KindAt
-    ensures { λ r. ⌜ r ≡ kindAnswer (nth n (keysOf Group.Service)) ⌝ }
+    ensures { λ r. ⌜ r ≡ kindAnswer (atPlace n (keysOf Group.Service)) ⌝ }
 {
     match n {
         1 => KindAt::Is(Kind::Named(WordList::ServiceType)),
@@ -88,7 +88,7 @@ fn service_kind(n: usize) -> KindAt
 
 // The kind of the key at place n of a group.
 pub fn kind_at(g: Group, n: usize) -> KindAt
-    ensures { λ r. ⌜ r ≡ kindAnswer (nth n (keysOf g)) ⌝ }
+    ensures { λ r. ⌜ r ≡ kindAnswer (atPlace n (keysOf g)) ⌝ }
 {
     match g {
         Group::Settings => settings_kind(n),

@@ -67,6 +67,6 @@ pub enum KindAt {
 
 // A key by its place among the keys of its group, from 1, and its kind.
 pub enum Listed {
-    Key(usize, Kind),
+    Is(usize, Kind),
     Unknown,
 }

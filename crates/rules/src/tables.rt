@@ -2,7 +2,7 @@
 ghost use mathlib.Core.Path.{_≡_};
 ghost use Rattle.text.specs.Words.{place};
 ghost use Rattle.rules.specs.Tables.{isService, groupOf, kindOf};
-ghost use Rattle.rules.specs.Lookups.{keyNames, namedAnswer, listedAnswer};
+ghost use Rattle.rules.specs.KeyPlaces.{keyNames, namedAnswer, listedAnswer};
 use crate::Group;
 use crate::KindAt;
 use crate::Listed;
@@ -137,7 +137,7 @@ pub fn key_of(g: Group, key: &[u8]) -> Listed
     let n = key_place(g, key);
     let at = kind_at(g, n);
     match at {
-        KindAt::Is(kind) => Listed::Key(n, kind),
+        KindAt::Is(kind) => Listed::Is(n, kind),
         KindAt::Unknown => Listed::Unknown,
     }
 }

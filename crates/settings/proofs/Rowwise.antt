@@ -24,10 +24,9 @@ use Rattle.kinds.specs.declared.Key.{Key}
 use Rattle.kinds.specs.declared.Mac.{Mac}
 use Rattle.kinds.specs.declared.Ssid.{Ssid}
 use Rattle.rules.specs.Tables.{keysOf}
-use Rattle.rules.specs.Lookups.{keyNames}
-use Rattle.rules.specs.Faults.{Entry}
-use Rattle.rules.specs.Groups.{entryOf}
-use Rattle.rules.specs.Asking.{readAs, lineIn, startIn}
+use Rattle.rules.specs.KeyPlaces.{keyNames}
+use Rattle.rules.specs.Sections.{Entry, entryOf}
+use Rattle.rules.specs.Asking.{readAs, entryLine, entryStart}
 use Rattle.rules.specs.declared.Group.{Group}
 use Rattle.rules.specs.declared.Group.the-variants as G
 use Rattle.reader.specs.Store.{slot}
@@ -97,10 +96,10 @@ module _ {file x : List ℕ} {b : ℕ} (g : Group) {es : List Entry} (h : Row fi
   pub row-read : {A : Type 0} (f : List ℕ → Option A) → f [] ≡ none → f (bytesAt file (slot (b + suc n) x)) ≡ readAs f (entryOf k es)
   row-read f q = rw (← e) (kept-read file (slot (b + place k (keyNames g)) x) f q (entryOf k es) (h .each k (λ z. omega (arith, z, e))))
 
-  pub row-line : slot (b + suc n) x .line ≡ lineIn (entryOf k es)
+  pub row-line : slot (b + suc n) x .line ≡ entryLine (entryOf k es)
   row-line = rw (← e) (kept-line file (slot (b + place k (keyNames g)) x) (entryOf k es) (h .each k (λ z. omega (arith, z, e))))
 
-  pub row-start : slot (b + suc n) x .start ≡ startIn (entryOf k es)
+  pub row-start : slot (b + suc n) x .start ≡ entryStart (entryOf k es)
   row-start = rw (← e) (kept-start file (slot (b + place k (keyNames g)) x) (entryOf k es) (h .each k (λ z. omega (arith, z, e))))
 
 -- ---- the functions

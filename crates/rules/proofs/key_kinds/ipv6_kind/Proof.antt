@@ -1,7 +1,8 @@
 -- The kind at each place of the table.
 use mathlib.Core.Path.{ap, sym}
 use Rattle.rules.specs.Tables.{keysOf}
-use Rattle.rules.specs.Lookups.{kindAnswer, nth-out, past}
+use Rattle.rules.specs.KeyPlaces.{kindAnswer}
+use Rattle.rules.proofs.KindPlaces.{at-place-out, past}
 use Rattle.rules.specs.declared.Group.the-variants.{Ipv6}
 use borrow.Author.Needs.{needs}
 use Rattle.rules.proofs.key_kinds.ipv6_kind.Statement.{statement}
@@ -13,4 +14,4 @@ ipv6-kind-spec =
     tie.close
     (tie.spec
     (λ c. rw (c .match .keys1))
-    (λ c. ap kindAnswer (sym (nth-out (c .before .args .n) (keysOf Ipv6) (λ h. past _ 1 h (c .match .rest .1))))))
+    (λ c. ap kindAnswer (sym (at-place-out (c .before .args .n) (keysOf Ipv6) (λ h. past _ 1 h (c .match .rest .1))))))

@@ -1,4 +1,4 @@
--- The key's place, and the kind at that place (`named-nth`).
+-- The key's place, and the kind at that place (`at-place-named`).
 use Rattle.rules.proofs.Naming.{key-found, key-unknown}
 use borrow.Author.Needs.{needs}
 use Rattle.rules.proofs.tables.key_of.Statement.{statement}

@@ -21,8 +21,7 @@ use Rattle.text.specs.declared.Dialect.the-variants.{Iwd, ConnMan}
 use Rattle.lines.specs.Lines.{Line, blank, comment, header, setting, broken, extends, bracketOf, ended, equalOf, behindEqual, settingOf, bodyOf, lineOf, valueStart, closed}
 use Rattle.lines.specs.declared.Break.the-variants.{Unrecognized, Extension, BadHeader}
 use Rattle.rules.specs.Tables.{groupOf}
-use Rattle.rules.specs.Faults.{Entry, Section, serves, after as afterFor, withEntry, withGroup}
-use Rattle.rules.specs.Groups.{entryOf, entriesIn}
+use Rattle.rules.specs.Sections.{Entry, Section, serves, withLine as afterFor, withEntry, withGroup, entryOf, entriesIn}
 use Rattle.rules.specs.Reading.{afterLine, grown, sectionsOf}
 use Rattle.rules.specs.Asking.{firstOr, serviceAt}
 use Rattle.rules.specs.declared.Group.{Group}
@@ -47,13 +46,13 @@ module _ {A : Type 0} (P : A → Type 0) where
 
 -- ---- the end of a text
 
-record Tail (t s : List ℕ) : Type 0 where
+record EndOf (t s : List ℕ) : Type 0 where
   at : ℕ
   within : at ≤ length s
   is : drop at s ≡ t
 
-tail-tail : {u t s : List ℕ} → Tail u t → Tail t s → Tail u s
-tail-tail {u} {t} {s} x y =
+end-end : {u t s : List ℕ} → EndOf u t → EndOf t s → EndOf u s
+end-end {u} {t} {s} x y =
     let n : length t ≡ length s - y .at = sym (ap length (y .is)) ∙ length-drop (y .at) s in
     record { at = y .at + x .at; within = omega (arith, n, x .within, y .within); is = sym (drop-drop (x .at) (y .at) s) ∙ ap (drop (x .at)) (y .is) ∙ x .is }
 
@@ -65,19 +64,19 @@ lead-within p (x ∷ s) = go (p x) (lead-within p s)
     go true h = omega arith
     go false h = omega arith
 
-after-tail : (p : ℕ → Bool) (s : List ℕ) → Tail (after p s) s
-after-tail p s = record { at = lead p s; within = lead-within p s; is = refl }
+after-end : (p : ℕ → Bool) (s : List ℕ) → EndOf (after p s) s
+after-end p s = record { at = lead p s; within = lead-within p s; is = refl }
 
-rest-tail : (s : List ℕ) → Tail (drop 1 s) s
-rest-tail [] = record { at = 0; within = omega arith; is = refl }
-rest-tail (x ∷ s) = record { at = 1; within = omega arith; is = refl }
+rest-end : (s : List ℕ) → EndOf (drop 1 s) s
+rest-end [] = record { at = 0; within = omega arith; is = refl }
+rest-end (x ∷ s) = record { at = 1; within = omega arith; is = refl }
 
-behind-tail : (d : Dialect) (l : List ℕ) → Tail (behindEqual d (after isBlank l)) l
-behind-tail d l =
+behind-end : (d : Dialect) (l : List ℕ) → EndOf (behindEqual d (after isBlank l)) l
+behind-end d l =
     let s = after isBlank l in
     let k = after (isKeyByte d) s in
     let e = after isBlank k in
-    tail-tail (after-tail isBlank (drop 1 e)) (tail-tail (rest-tail e) (tail-tail (after-tail isBlank k) (tail-tail (after-tail (isKeyByte d) s) (after-tail isBlank l))))
+    end-end (after-end isBlank (drop 1 e)) (end-end (rest-end e) (end-end (after-end isBlank k) (end-end (after-end (isKeyByte d) s) (after-end isBlank l))))
 
 -- ---- the value of a setting in its line
 
@@ -134,7 +133,7 @@ value-stands : (d : Dialect) (l : List ℕ) {k v : List ℕ} → lineOf d l ≡ 
 unfolding valueStart
 value-stands d l {k} {v} e =
     let w = behindEqual d (after isBlank l) in
-    let t = behind-tail d l in
+    let t = behind-end d l in
     let n : length w ≡ length l - t .at = sym (ap length (t .is)) ∙ length-drop (t .at) l in
     let a : length l - length w ≡ t .at = omega (arith, n, t .within) in
     let q = setting-ended d l e in
