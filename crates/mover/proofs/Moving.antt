@@ -26,7 +26,7 @@ use Rattle.settings.proofs.Rowwise.{addresses-none, row-read}
 use Rattle.records.specs.Record.{Join, laid, joined}
 use Rattle.records.specs.Laws.{joined-laid}
 use Rattle.records.specs.declared.JoinRecord.{JoinRecord}
-use Rattle.written.specs.Parts.{Within}
+use Rattle.written.specs.RecordParts.{CountsWithin}
 use Rattle.writer.specs.Writing.{refuses, writingOf, writtenAnswer, Writes}
 use Rattle.writer.specs.declared.Written.{Written}
 use Rattle.joins.specs.Joins.{serviceJoin}
@@ -43,8 +43,8 @@ refusal-writes p = record { answer = p; name = refl; file = refl }
 
 -- ---- a service that there is
 
-pub record-within : {file x : List ℕ} {j : JoinRecord} → RowOf file x 96 G.Service → Typed file x 96 G.Service (λ at. laid (serviceJoin at)) j → Within j
-record-within h t = subst Within (sym (t .is (h .settings) (h .row))) (join-within (λ k. entryOf k (h .settings)))
+pub record-within : {file x : List ℕ} {j : JoinRecord} → RowOf file x 96 G.Service → Typed file x 96 G.Service (λ at. laid (serviceJoin at)) j → CountsWithin j
+record-within h t = subst CountsWithin (sym (t .is (h .settings) (h .row))) (join-within (λ k. entryOf k (h .settings)))
 
 module _ {file t : List ℕ} {l : ℕ} (u : LineIs file t (λ at. earliest (unplaced at)) l) (n f : List ℕ) where
   pub found-unplaced : 0 < l → {a : Written} → a ≡ writtenAnswer (refuses NoPlace l) → MovesBy file t n f n f a

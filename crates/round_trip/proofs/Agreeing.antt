@@ -42,16 +42,16 @@ module _ {m n x y : ℕ} (p : m ≡ x) (q : n ≡ y) where
 
 -- ---- the servers from here on are the same just when all are
 
-pub record Alike (a b : List (List ℕ)) (i : ℕ) : Type 0 where
+pub record ServersAlike (a b : List (List ℕ)) (i : ℕ) : Type 0 where
   pub within : i ≤ 4
   pub long : length a ≡ 4
   pub other : length b ≡ 4
   pub rest : sameServers (drop i a) (drop i b) ≡ sameServers a b
 
-pub alike-first : {a b : List (List ℕ)} → length a ≡ 4 → length b ≡ 4 → Alike a b 0
+pub alike-first : {a b : List (List ℕ)} → length a ≡ 4 → length b ≡ 4 → ServersAlike a b 0
 alike-first p q = record { within = omega arith; long = p; other = q; rest = refl }
 
-module _ {a b : List (List ℕ)} {i : ℕ} (h : Alike a b i) where
+module _ {a b : List (List ℕ)} {i : ℕ} (h : ServersAlike a b i) where
   pub alike-end : 4 ≤ i → true ≡ sameServers a b
   alike-end k =
       let l : length a ≤ i = omega (arith, h .long) in
@@ -65,7 +65,7 @@ module _ {a b : List (List ℕ)} {i : ℕ} (h : Alike a b i) where
         let m : i < length b = omega (arith, h .other) in
         rw (drop-cons a i [] l, drop-cons b i [] m, is)
 
-    pub alike-turn : not t ≡ false → Alike a b (i + 1)
+    pub alike-turn : not t ≡ false → ServersAlike a b (i + 1)
     alike-turn e = record { within = omega arith; long = h .long; other = h .other; rest = rw add-one (sym (view ∙ rw (not-false t e)) ∙ h .rest) }
 
     pub alike-stop : not t ≡ true → false ≡ sameServers a b

@@ -1,3 +1,3 @@
 pub mod Agreeing
-pub mod Typed
+pub mod TypedArrays
 pub mod ReadBack

@@ -17,7 +17,7 @@ readSame name file r s = sameAnswer (iwdRecord name file) (iwdRecordServers name
 
 -- the record r and its servers s are written into the buffers, which held n and f and hold x and y; what is compared is
 -- read from the new bytes, and it is the same whenever something is written
-pub record ReadsBack (r : JoinRecord) (s : List (List ℕ)) (n f x y : List ℕ) (b : Back) : Type 0 where
+pub record RoundTrips (r : JoinRecord) (s : List (List ℕ)) (n f x y : List ℕ) (b : Back) : Type 0 where
   pub writes : Writes (writing r s n f) n f x y (b .written)
   pub compared :
       b .same

@@ -7,7 +7,7 @@ ghost use mathlib.Core.Path.{_≡_};
 ghost use mathlib.Core.Bool.{true};
 ghost use Rattle.records.specs.Record.{joined};
 ghost use Rattle.writer.specs.Writing.{writing, writingOf, writingPlaced, refuses, writtenAnswer, Writes};
-ghost use Rattle.written.specs.Parts.{Within};
+ghost use Rattle.written.specs.RecordParts.{CountsWithin};
 use records::JoinRecord;
 use rules::Answer;
 use rules::Refusal;
@@ -41,7 +41,7 @@ pub fn write_placed(
     name: &mut [u8],
     file: &mut [u8],
 ) -> Written
-    requires { ⌜ Within r ⌝ }
+    requires { ⌜ CountsWithin r ⌝ }
     ensures { λ a. ⌜ Writes (writingOf (joined r servers) (now (name .entry)) (now (file .entry))) (now (name .entry)) (now (file .entry)) (now (name .exit)) (now (file .exit)) a ⌝ }
 {
     let credential = r.credential;

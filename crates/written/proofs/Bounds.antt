@@ -8,7 +8,7 @@ use Rattle.text.specs.Words.{word}
 use Rattle.records.specs.Record.{joined}
 use Rattle.records.specs.declared.JoinRecord.{JoinRecord}
 use Rattle.written.specs.Written.{hiddenRows, secretRows, ipv4Rows, ipv6Rows}
-use Rattle.written.specs.Parts.{Within}
+use Rattle.written.specs.RecordParts.{CountsWithin}
 use Rattle.written.specs.Texts.{groupText}
 use Rattle.written.specs.Sizes.{settings-short, security-short, ipv4-short, ipv6-short}
 
@@ -17,13 +17,13 @@ take-short zero l = omega arith
 take-short (suc n) [] = omega arith
 take-short (suc n) (x ∷ l) = omega (arith, take-short n l)
 
-pub record Short (r : JoinRecord) (s : List (List ℕ)) : Type 0 where
+pub record GroupsShort (r : JoinRecord) (s : List (List ℕ)) : Type 0 where
   pub settings : length (groupText (word "Settings") (hiddenRows (r .hidden))) ≤ 23
   pub security : length (groupText (word "Security") (secretRows (joined r s .credential))) ≤ 149
   pub ipv4 : length (groupText (word "IPv4") (ipv4Rows (joined r s .ipv4) (joined r s .servers) (joined r s .domain))) ≤ 665
   pub ipv6 : length (groupText (word "IPv6") (ipv6Rows (r .ipv6))) ≤ 21
 
-pub groups-short : (r : JoinRecord) (s : List (List ℕ)) → Within r → length (r .key) ≡ 32 → Short r s
+pub groups-short : (r : JoinRecord) (s : List (List ℕ)) → CountsWithin r → length (r .key) ≡ 32 → GroupsShort r s
 groups-short r s w k =
     record {
       settings = settings-short (r .hidden);

@@ -17,7 +17,7 @@ use Rattle.records.specs.declared.Credential.{Credential}
 use Rattle.records.specs.declared.Credential.the-variants as C
 use Rattle.records.specs.declared.Ipv6.{Ipv6}
 use Rattle.records.specs.declared.Ipv6.the-variants as Ipv6
-use Rattle.written.specs.Written.{Row, hiddenRows, secretRows, numberRows, serverRows, domainRows, ipv4Rows, ipv6Rows, fileText}
+use Rattle.written.specs.Written.{WrittenRow, hiddenRows, secretRows, numberRows, serverRows, domainRows, ipv4Rows, ipv6Rows, fileText}
 use Rattle.written.specs.Texts.{rowsText, groupText, someRow, rows-append, group-text, file-groups}
 use Rattle.written.proofs.Three.{Three}
 use Rattle.written.proofs.Four.{Four}
@@ -55,7 +55,7 @@ ipv6-text e = rw e
 pub ipv4-rows : (i : IPv4) (l : List (List ℕ)) (d : List ℕ) → Three (rowsText (ipv4Rows i l d)) (rowsText (numberRows i)) (rowsText (serverRows l)) (rowsText (domainRows d))
 ipv4-rows i l d = record { is = rows-append (numberRows i ++ serverRows l) (domainRows d) ∙ ap (λ (t : List ℕ). t ++ rowsText (domainRows d)) (rows-append (numberRows i) (serverRows l)) }
 
-module _ (rs : List Row) (e : someRow rs ≡ true) (o : List ℕ) (room : length (groupText (word "IPv4") rs) ≤ length o) where
+module _ (rs : List WrittenRow) (e : someRow rs ≡ true) (o : List ℕ) (room : length (groupText (word "IPv4") rs) ≤ length o) where
   whole : 0 + length (word "[IPv4]\n" ++ rowsText rs) ≤ length o
   whole = omega (arith, subst (λ (t : List ℕ). length t ≤ length o) (group-text (word "IPv4") rs e) room)
 

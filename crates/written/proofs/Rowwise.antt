@@ -14,8 +14,8 @@ use Rattle.kinds.specs.declared.Ipv4.{Ipv4}
 use Rattle.kinds.specs.declared.Method.the-variants.{Dhcp, Off, Static}
 use Rattle.records.specs.Record.{gatewayIf}
 use Rattle.written.proofs.Three.{Three}
-use Rattle.written.specs.Written.{Row, gatewayRows, numberRows, serverRows, domainRows}
-use Rattle.written.specs.Parts.{numbersIn, staticRows}
+use Rattle.written.specs.Written.{WrittenRow, gatewayRows, numberRows, serverRows, domainRows}
+use Rattle.written.specs.RecordParts.{numbersIn, staticRows}
 use Rattle.written.specs.Texts.{rowsText, rows-append}
 use Rattle.written.specs.Sizes.{line-size}
 
@@ -36,9 +36,9 @@ addressLine k a = k ++ dotted a ++ 10 ∷ []
 pub static-text : (i : Ipv4) {m : List ℕ} → m ≡ maskBytes (i .length) → Three (rowsText (staticRows i)) (addressLine (word "Address=") (i .address)) (addressLine (word "Netmask=") m) (rowsText (gatewayRows (gatewayIf (i .«has_gateway») (i .gateway))))
 unfolding rowsText
 static-text i {m} e =
-    let own : Row = (word "Address", dotted (i .address)) in
-    let mask : Row = (word "Netmask", dotted (maskBytes (i .length))) in
-    let last : List Row = gatewayRows (gatewayIf (i .«has_gateway») (i .gateway)) in
+    let own : WrittenRow = (word "Address", dotted (i .address)) in
+    let mask : WrittenRow = (word "Netmask", dotted (maskBytes (i .length))) in
+    let last : List WrittenRow = gatewayRows (gatewayIf (i .«has_gateway») (i .gateway)) in
     rw e (record { is = rows-append (own ∷ mask ∷ []) last ∙ ap (λ (t : List ℕ). t ++ rowsText last) (rows-append (own ∷ []) (mask ∷ [])) })
 
 pub static-size : (i : Ipv4) {m : List ℕ} → m ≡ maskBytes (i .length) → length (rowsText (staticRows i)) ≡ 18 + length (dotted (i .address)) + length (dotted m) + length (rowsText (gatewayRows (gatewayIf (i .«has_gateway») (i .gateway))))

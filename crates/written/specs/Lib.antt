@@ -1,5 +1,5 @@
 pub mod Written
-pub mod Parts
+pub mod RecordParts
 pub mod Texts
 pub mod Sizes
 pub mod Cases

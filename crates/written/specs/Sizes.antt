@@ -22,7 +22,7 @@ use Rattle.records.specs.declared.Credential.{Credential}
 use Rattle.records.specs.declared.Credential.the-variants as C
 use Rattle.records.specs.declared.Ipv6.{Ipv6}
 use Rattle.records.specs.declared.Ipv6.the-variants as Ipv6
-use Rattle.written.specs.Written.{Row, hiddenRows, secretRows, gatewayRows, numberRows, serverRows, domainRows, ipv4Rows, ipv6Rows, suffixFor, nameText, fileText}
+use Rattle.written.specs.Written.{WrittenRow, hiddenRows, secretRows, gatewayRows, numberRows, serverRows, domainRows, ipv4Rows, ipv6Rows, suffixFor, nameText, fileText}
 use Rattle.written.specs.Texts.{rowsText, groupText, someRow, rows-append, group-text, group-none, file-groups}
 
 -- a line: what stands in front of its value, the value, and byte 10
@@ -30,10 +30,10 @@ pub line-size : (k v : List ℕ) → length (k ++ v ++ 10 ∷ []) ≡ length k +
 line-size k v = length-append (k ++ v) (10 ∷ []) ∙ omega (arith, length-append k v)
 
 -- a group with a setting: its header has three bytes more than its name
-pub group-size : (n : List ℕ) (rs : List Row) → someRow rs ≡ true → length (groupText n rs) ≡ 3 + length n + length (rowsText rs)
+pub group-size : (n : List ℕ) (rs : List WrittenRow) → someRow rs ≡ true → length (groupText n rs) ≡ 3 + length n + length (rowsText rs)
 group-size n rs e = ap length (group-text n rs e) ∙ length-append (91 ∷ (n ++ 93 ∷ 10 ∷ [])) (rowsText rs) ∙ omega (arith, length-append n (93 ∷ 10 ∷ []))
 
-pub group-short : (n : List ℕ) (rs : List Row) → length (groupText n rs) ≤ 3 + length n + length (rowsText rs)
+pub group-short : (n : List ℕ) (rs : List WrittenRow) → length (groupText n rs) ≤ 3 + length n + length (rowsText rs)
 group-short n rs = go (someRow rs) refl
   where
     go : (b : Bool) → someRow rs ≡ b → length (groupText n rs) ≤ 3 + length n + length (rowsText rs)
@@ -76,8 +76,8 @@ unfolding rowsText
 numbers-short dhcp = omega arith
 numbers-short off = omega arith
 numbers-short (static a n g) =
-    let own : Row = (word "Address", dotted a) in
-    let mask : Row = (word "Netmask", dotted (maskBytes n)) in
+    let own : WrittenRow = (word "Address", dotted a) in
+    let mask : WrittenRow = (word "Netmask", dotted (maskBytes n)) in
     omega
     (arith, ap length (rows-append (own ∷ mask ∷ []) (gatewayRows g)), length-append (rowsText (own ∷ mask ∷ [])) (rowsText (gatewayRows g)), ap length (rows-append (own ∷ []) (mask ∷ [])), length-append (rowsText (own ∷ [])) (rowsText (mask ∷ [])), address-row (word "Address=") a refl, address-row (word "Netmask=") (maskBytes n) refl, gateway-short g)
 

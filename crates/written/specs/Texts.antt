@@ -10,16 +10,16 @@ use Rattle.text.specs.declared.Dialect.the-variants as D
 use Rattle.lines.specs.Lines.{Line}
 use Rattle.lines.specs.Rendering.{render, rendered}
 use Rattle.records.specs.Record.{Join}
-use Rattle.written.specs.Written.{Row, Block, rowLines, groupLines, blockLines, hiddenRows, secretRows, ipv4Rows, ipv6Rows, blocksOf, fileText}
+use Rattle.written.specs.Written.{WrittenRow, Block, rowLines, headedLines, blockLines, hiddenRows, secretRows, ipv4Rows, ipv6Rows, blocksOf, fileText}
 
-unfoldable pub rowsText : List Row → List ℕ
+unfoldable pub rowsText : List WrittenRow → List ℕ
 rowsText rs = rendered D.Iwd (rowLines rs)
 
-unfoldable pub groupText : List ℕ → List Row → List ℕ
-groupText n rs = rendered D.Iwd (groupLines n rs)
+unfoldable pub groupText : List ℕ → List WrittenRow → List ℕ
+groupText n rs = rendered D.Iwd (headedLines n rs)
 
 -- whether there is a setting
-abbrev pub someRow : List Row → Bool
+abbrev pub someRow : List WrittenRow → Bool
 someRow [] = false
 someRow (r ∷ rs) = true
 
@@ -31,21 +31,21 @@ rendered-append (l ∷ a) b =
     ap (λ (t : List ℕ). render D.Iwd l ++ 10 ∷ t) (rendered-append a b)
     ∙ sym (append-assoc (render D.Iwd l) (10 ∷ rendered D.Iwd a) (rendered D.Iwd b))
 
-rowLines-append : (a b : List Row) → rowLines (a ++ b) ≡ rowLines a ++ rowLines b
+rowLines-append : (a b : List WrittenRow) → rowLines (a ++ b) ≡ rowLines a ++ rowLines b
 rowLines-append [] b = refl
 rowLines-append (r ∷ a) b = ap (λ (t : List Line). Rattle.lines.specs.Lines.setting (r .0) (r .1) ∷ t) (rowLines-append a b)
 
-pub rows-append : (a b : List Row) → rowsText (a ++ b) ≡ rowsText a ++ rowsText b
+pub rows-append : (a b : List WrittenRow) → rowsText (a ++ b) ≡ rowsText a ++ rowsText b
 unfolding rowsText
 rows-append a b = ap (rendered D.Iwd) (rowLines-append a b) ∙ rendered-append (rowLines a) (rowLines b)
 
 -- a group with a setting: its header, and then its settings
-pub group-text : (n : List ℕ) (rs : List Row) → someRow rs ≡ true → groupText n rs ≡ (91 ∷ (n ++ 93 ∷ 10 ∷ [])) ++ rowsText rs
+pub group-text : (n : List ℕ) (rs : List WrittenRow) → someRow rs ≡ true → groupText n rs ≡ (91 ∷ (n ++ 93 ∷ 10 ∷ [])) ++ rowsText rs
 unfolding rowsText groupText
 group-text n [] e = absurd (mathlib.Core.Bool.false≢true e)
 group-text n (r ∷ rs) e = ap (λ (t : List ℕ). 91 ∷ t) (append-assoc n (93 ∷ []) (10 ∷ rendered D.Iwd (rowLines (r ∷ rs))) ∙ sym (append-assoc n (93 ∷ 10 ∷ []) (rendered D.Iwd (rowLines (r ∷ rs)))))
 
-pub group-none : (n : List ℕ) (rs : List Row) → someRow rs ≡ false → groupText n rs ≡ []
+pub group-none : (n : List ℕ) (rs : List WrittenRow) → someRow rs ≡ false → groupText n rs ≡ []
 unfolding groupText
 group-none n [] e = refl
 group-none n (r ∷ rs) e = absurd (mathlib.Core.Bool.true≢false e)
@@ -54,10 +54,10 @@ group-none n (r ∷ rs) e = absurd (mathlib.Core.Bool.true≢false e)
 pub file-groups : (j : Join) → fileText j ≡ groupText (word "Settings") (hiddenRows (j .hidden)) ++ groupText (word "Security") (secretRows (j .credential)) ++ groupText (word "IPv4") (ipv4Rows (j .ipv4) (j .servers) (j .domain)) ++ groupText (word "IPv6") (ipv6Rows (j .ipv6))
 unfolding fileText groupText
 file-groups j =
-    let a = groupLines (word "Settings") (hiddenRows (j .hidden)) in
-    let b = groupLines (word "Security") (secretRows (j .credential)) in
-    let c = groupLines (word "IPv4") (ipv4Rows (j .ipv4) (j .servers) (j .domain)) in
-    let d = groupLines (word "IPv6") (ipv6Rows (j .ipv6)) in
+    let a = headedLines (word "Settings") (hiddenRows (j .hidden)) in
+    let b = headedLines (word "Security") (secretRows (j .credential)) in
+    let c = headedLines (word "IPv4") (ipv4Rows (j .ipv4) (j .servers) (j .domain)) in
+    let d = headedLines (word "IPv6") (ipv6Rows (j .ipv6)) in
     rendered-append a (b ++ (c ++ (d ++ [])))
     ∙ ap (λ (t : List ℕ). rendered D.Iwd a ++ t) (rendered-append b (c ++ (d ++ [])) ∙ ap (λ (t : List ℕ). rendered D.Iwd b ++ t) (rendered-append c (d ++ []) ∙ ap (λ (t : List ℕ). rendered D.Iwd c ++ t) (ap (rendered D.Iwd) (append-nil d))))
     ∙ simp append-assoc

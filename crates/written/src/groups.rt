@@ -6,7 +6,7 @@ ghost use Rattle.put.specs.Put.{Wrote};
 ghost use Rattle.records.specs.Record.{secretOf, joined};
 ghost use Rattle.written.specs.Written.{hiddenRows, secretRows, ipv4Rows, ipv6Rows, fileText};
 ghost use Rattle.written.specs.Texts.{rowsText, groupText};
-ghost use Rattle.written.specs.Parts.{numbersIn, Within};
+ghost use Rattle.written.specs.RecordParts.{numbersIn, CountsWithin};
 use crate::parts;
 use crate::rows;
 use kinds::Ipv4;
@@ -78,7 +78,7 @@ fn put_ipv6(out: &mut [u8], v: Ipv6) -> usize
 
 // Writes the file of a record at the front of out, and returns its length.
 pub fn put_file(out: &mut [u8], r: JoinRecord, servers: [[u8; 4]; 4]) -> usize
-    requires within { ⌜ Within r ⌝ }
+    requires within { ⌜ CountsWithin r ⌝ }
     requires room { ⌜ length (fileText (joined r servers)) ≤ length (now out) ⌝ }
     ensures { λ n. ⌜ Wrote (fileText (joined r servers)) 0 (now (out .entry)) (now (out .exit)) n ⌝ }
 {

@@ -10,7 +10,7 @@ ghost use Rattle.put.specs.Put.{Wrote};
 ghost use Rattle.written.specs.Written.{gatewayRows, numberRows, serverRows, domainRows};
 ghost use Rattle.written.specs.Texts.{rowsText};
 ghost use Rattle.records.specs.Record.{gatewayIf};
-ghost use Rattle.written.specs.Parts.{numbersIn, staticRows};
+ghost use Rattle.written.specs.RecordParts.{numbersIn, staticRows};
 use addresses::Separator;
 use addresses::masks;
 use addresses::writing;

@@ -6,7 +6,7 @@ ghost use Rattle.text.specs.Words.{word};
 ghost use Rattle.records.specs.Record.{gatewayIf, secretOf, joined};
 ghost use Rattle.written.specs.Written.{hiddenRows, secretRows, gatewayRows, numberRows, serverRows, domainRows, ipv4Rows, ipv6Rows, fileText};
 ghost use Rattle.written.specs.Texts.{rowsText, groupText};
-ghost use Rattle.written.specs.Parts.{numbersIn, staticRows, Within};
+ghost use Rattle.written.specs.RecordParts.{numbersIn, staticRows, CountsWithin};
 use crate::parts;
 use addresses::Separator;
 use addresses::masks;
@@ -111,7 +111,7 @@ fn ipv6_len(v: Ipv6) -> usize
 
 // How long the file of a record is.
 pub fn file_len(r: JoinRecord, servers: [[u8; 4]; 4]) -> usize
-    requires { ⌜ Within r ⌝ }
+    requires { ⌜ CountsWithin r ⌝ }
     ensures { λ n. ⌜ n ≡ length (fileText (joined r servers)) ⌝ }
 {
     let credential = r.credential;

@@ -1,6 +1,6 @@
--- The loop keeps `Alike`: the servers from here on are the same just when all are.
+-- The loop keeps `ServersAlike`: the servers from here on are the same just when all are.
 use Prim.Native.Nat.{_-_}
-use Rattle.round_trip.proofs.Agreeing.{Alike, alike-first, alike-turn, alike-stop, alike-end}
+use Rattle.round_trip.proofs.Agreeing.{ServersAlike, alike-first, alike-turn, alike-stop, alike-end}
 use borrow.Author.Needs.{needs}
 use Rattle.round_trip.proofs.comparing.same_servers.Statement.{statement}
 use Rattle.round_trip.proofs.comparing.same_servers.Tie as tie
@@ -9,7 +9,7 @@ pub same-servers-spec : {M : Type 1} → statement M
 same-servers-spec =
     tie.close
     (tie.spec
-    (λ a b i₀ i. Alike a b i)
+    (λ a b i₀ i. ServersAlike a b i)
     (λ a b i₀ i. 4 - i)
     (λ c. alike-first (search needs) (search needs))
     (λ c. search needs)

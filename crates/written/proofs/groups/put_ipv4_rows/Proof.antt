@@ -1,6 +1,6 @@
 -- The addresses, the servers and the domain are written in turn (`three-wrote`).
 use lib.ListN.{take}
-use Rattle.written.specs.Parts.{numbersIn}
+use Rattle.written.specs.RecordParts.{numbersIn}
 use Rattle.written.proofs.Three.{three-first, three-second, three-third, three-wrote}
 use Rattle.written.proofs.Groupwise.{ipv4-rows}
 use borrow.Author.Needs.{needs}

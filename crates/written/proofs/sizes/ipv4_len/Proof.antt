@@ -5,7 +5,7 @@ use lib.ListN.{take}
 use lib.Seq.{length-take-le}
 use Rattle.text.specs.Words.{word}
 use Rattle.written.specs.Written.{ipv4Rows}
-use Rattle.written.specs.Parts.{numbersIn}
+use Rattle.written.specs.RecordParts.{numbersIn}
 use Rattle.written.specs.Texts.{group-none}
 use Rattle.written.specs.Sizes.{group-size, ipv4-rows-size, numbers-short, servers-short, domain-short}
 use borrow.Author.Needs.{needs}

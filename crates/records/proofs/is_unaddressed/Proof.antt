@@ -2,11 +2,11 @@
 use mathlib.Core.Path.{sym, _∙_}
 use borrow.Author.Tests.{eq-eqb, ne-eqb, not-true, not-false}
 use borrow.Author.Needs.{needs}
-use Rattle.records.proofs.is_unnumbered.Statement.{statement}
-use Rattle.records.proofs.is_unnumbered.Tie as tie
+use Rattle.records.proofs.is_unaddressed.Statement.{statement}
+use Rattle.records.proofs.is_unaddressed.Tie as tie
 
-pub is-unnumbered-spec : {M : Type 1} → statement M
-is-unnumbered-spec =
+pub is-unaddressed-spec : {M : Type 1} → statement M
+is-unaddressed-spec =
     tie.close
     (tie.spec
     (λ c κs. search needs)

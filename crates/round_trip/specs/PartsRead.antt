@@ -22,39 +22,39 @@ use Rattle.records.specs.declared.Ipv6.{Ipv6}
 use Rattle.records.specs.declared.Ipv6.the-variants.{Auto, Off}
 use Rattle.written.specs.Written.{hiddenRows, secretRows, numberRows, serverRows, domainRows, ipv6Rows, suffixFor, hasPlace}
 use Rattle.joins.specs.Joins.{secretFrom, staticOrDhcp, orFalse, enabledIpv6}
-use Rattle.round_trip.specs.Blocks.{valueIn}
-use Rattle.round_trip.specs.Values.{servers-listed}
+use Rattle.round_trip.specs.Blocks.{rowValue}
+use Rattle.round_trip.specs.RowValues.{servers-listed}
 
 -- ---- each part
 
-pub hidden-back : (b : Bool) → orFalse (andThen (valueIn (word "Hidden") (hiddenRows b)) (flag Iwd)) ≡ b
+pub hidden-rows-read : (b : Bool) → orFalse (andThen (rowValue (word "Hidden") (hiddenRows b)) (flag Iwd)) ≡ b
 unfolding flag
-hidden-back false = refl
-hidden-back true = refl
+hidden-rows-read false = refl
+hidden-rows-read true = refl
 
-pub secret-back : (c : Secret) → GoodSecret c → secretFrom (andThen (valueIn (word "Passphrase") (secretRows c)) (K.passphrase Iwd)) (andThen (valueIn (word "PreSharedKey") (secretRows c)) K.key) ≡ c
-secret-back noSecret w = refl
-secret-back (passphrase p) w = rw (string-escape 8 63 p (w .low) (w .high))
-secret-back (key k) w = rw (key-hex k (w .long) (w .bytes))
+pub secret-rows-read : (c : Secret) → GoodSecret c → secretFrom (andThen (rowValue (word "Passphrase") (secretRows c)) (K.passphrase Iwd)) (andThen (rowValue (word "PreSharedKey") (secretRows c)) K.key) ≡ c
+secret-rows-read noSecret w = refl
+secret-rows-read (passphrase p) w = rw (string-escape 8 63 p (w .low) (w .high))
+secret-rows-read (key k) w = rw (key-hex k (w .long) (w .bytes))
 
-pub ipv4-back : (i : IPv4) → GoodIpv4 i → hasPlace i ≡ true → staticOrDhcp (andThen (valueIn (word "Address") (numberRows i)) address) (andThen (valueIn (word "Netmask") (numberRows i)) netmask) (andThen (valueIn (word "Gateway") (numberRows i)) address) ≡ i
-ipv4-back dhcp w p = refl
-ipv4-back off w p = absurd (true≢false (sym p))
-ipv4-back (static a n none) w p = absurd (true≢false (sym p))
-ipv4-back (static a n (some g)) w p = rw (address-dotted a (w .address), netmask-dotted n (w .low) (w .high), address-dotted g (w .gateway))
+pub number-rows-read : (i : IPv4) → GoodIpv4 i → hasPlace i ≡ true → staticOrDhcp (andThen (rowValue (word "Address") (numberRows i)) address) (andThen (rowValue (word "Netmask") (numberRows i)) netmask) (andThen (rowValue (word "Gateway") (numberRows i)) address) ≡ i
+number-rows-read dhcp w p = refl
+number-rows-read off w p = absurd (true≢false (sym p))
+number-rows-read (static a n none) w p = absurd (true≢false (sym p))
+number-rows-read (static a n (some g)) w p = rw (address-dotted a (w .address), netmask-dotted n (w .low) (w .high), address-dotted g (w .gateway))
 
-pub servers-back : (l : List (List ℕ)) → GoodServers l → plain (andThen (valueIn (word "DNS") (serverRows l)) (addresses Spaces)) ≡ l
-servers-back [] w = refl
-servers-back (a ∷ l) w = rw (servers-listed a l w)
+pub server-rows-read : (l : List (List ℕ)) → GoodServers l → plain (andThen (rowValue (word "DNS") (serverRows l)) (addresses Spaces)) ≡ l
+server-rows-read [] w = refl
+server-rows-read (a ∷ l) w = rw (servers-listed a l w)
 
-pub domain-back : (d : List ℕ) → GoodDomain d → plain (andThen (valueIn (word "DomainName") (domainRows d)) (string Iwd 1 253)) ≡ d
-domain-back [] w = refl
-domain-back (c ∷ d) w = rw (string-escape 1 253 (c ∷ d) (omega arith) (w .high))
+pub domain-rows-read : (d : List ℕ) → GoodDomain d → plain (andThen (rowValue (word "DomainName") (domainRows d)) (string Iwd 1 253)) ≡ d
+domain-rows-read [] w = refl
+domain-rows-read (c ∷ d) w = rw (string-escape 1 253 (c ∷ d) (omega arith) (w .high))
 
-pub ipv6-back : (v : Ipv6) → enabledIpv6 (andThen (valueIn (word "Enabled") (ipv6Rows v)) (flag Iwd)) ≡ v
+pub ipv6-rows-read : (v : Ipv6) → enabledIpv6 (andThen (rowValue (word "Enabled") (ipv6Rows v)) (flag Iwd)) ≡ v
 unfolding flag
-ipv6-back Auto = refl
-ipv6-back Off = refl
+ipv6-rows-read Auto = refl
+ipv6-rows-read Off = refl
 
 -- ---- the rules over a file, of groups gs that have the keys that are written
 
@@ -64,14 +64,14 @@ numbersLack gs =
     (has (word "IPv4") (word "Address") gs && not (has (word "IPv4") (word "Gateway") gs))
     || ((has (word "IPv4") (word "Gateway") gs || (has (word "IPv4") (word "Netmask") gs || has (word "IPv4") (word "Broadcast") gs)) && not (has (word "IPv4") (word "Address") gs))
 
-pub numbers-obey : (gs : List Section) (i : IPv4) → hasPlace i ≡ true → ((k : List ℕ) → same k (word "DNS") ≡ false → same k (word "DomainName") ≡ false → has (word "IPv4") k gs ≡ isSome (valueIn k (numberRows i))) → numbersLack gs ≡ false
+pub numbers-obey : (gs : List Section) (i : IPv4) → hasPlace i ≡ true → ((k : List ℕ) → same k (word "DNS") ≡ false → same k (word "DomainName") ≡ false → has (word "IPv4") k gs ≡ isSome (rowValue k (numberRows i))) → numbersLack gs ≡ false
 numbers-obey gs dhcp p f = rw (f (word "Address") refl refl, f (word "Gateway") refl refl, f (word "Netmask") refl refl, f (word "Broadcast") refl refl)
 numbers-obey gs off p f = absurd (true≢false (sym p))
 numbers-obey gs (static a n none) p f = absurd (true≢false (sym p))
 numbers-obey gs (static a n (some g)) p f = rw (f (word "Address") refl refl, f (word "Gateway") refl refl)
 
 -- ".psk with neither key", ".open with either key", and those
-pub rules-obey : (gs : List Section) (c : Secret) → numbersLack gs ≡ false → ((k : List ℕ) → has (word "Security") k gs ≡ isSome (valueIn k (secretRows c))) → fileFault (suffixFor c) gs ≡ none
+pub rules-obey : (gs : List Section) (c : Secret) → numbersLack gs ≡ false → ((k : List ℕ) → has (word "Security") k gs ≡ isSome (rowValue k (secretRows c))) → fileFault (suffixFor c) gs ≡ none
 unfolding fileFault
 rules-obey gs noSecret p f = rw (p, f (word "Passphrase"), f (word "PreSharedKey"))
 rules-obey gs (passphrase q) p f = rw (f (word "Passphrase"), p)

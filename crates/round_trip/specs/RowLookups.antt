@@ -13,8 +13,8 @@ use Rattle.text.specs.Laws.{and-true, same-refl, same-eq}
 use Rattle.rules.specs.Sections.{Entry, Section, entryOf, entriesIn, settings}
 use Rattle.rules.specs.Groups.{has}
 use Rattle.rules.specs.Asking.{iwdEntry, readAs}
-use Rattle.written.specs.Written.{Row, Block}
-use Rattle.round_trip.specs.Blocks.{bare, bareBlocks, orSkipped, kept, valueIn, rowsIn, rowCount, nameFree, namesApart}
+use Rattle.written.specs.Written.{WrittenRow, Block}
+use Rattle.round_trip.specs.Blocks.{bare, bareBlocks, orSkipped, kept, rowValue, rowsIn, rowCount, nameFree, namesApart}
 use Rattle.round_trip.specs.Readings.{given-bare}
 
 -- ---- in a file
@@ -27,11 +27,11 @@ entries-bare n (g ∷ gs) = go (same n (g .name)) (entries-bare n gs)
     go true e = refl
     go false e = e
 
-read-bare : {A : Type 0} (f : List ℕ → Option A) (k : List ℕ) (es : List Entry) → readAs f (entryOf k es) ≡ andThen (valueIn k (bare es)) f
+read-bare : {A : Type 0} (f : List ℕ → Option A) (k : List ℕ) (es : List Entry) → readAs f (entryOf k es) ≡ andThen (rowValue k (bare es)) f
 read-bare f k [] = refl
 read-bare f k (x ∷ es) = go (same k (x .key)) (read-bare f k es)
   where
-    go : (b : Bool) → readAs f (entryOf k es) ≡ andThen (valueIn k (bare es)) f → readAs f (cond b (some x) (entryOf k es)) ≡ andThen (cond b (some (x .value)) (valueIn k (bare es))) f
+    go : (b : Bool) → readAs f (entryOf k es) ≡ andThen (rowValue k (bare es)) f → readAs f (cond b (some x) (entryOf k es)) ≡ andThen (cond b (some (x .value)) (rowValue k (bare es))) f
     go true e = refl
     go false e = e
 
@@ -59,7 +59,7 @@ rows-kept n (b ∷ bs) a = go (b .rows) (rows-kept n bs (k .1))
     skip true q = rows-absent n bs (ap (λ (m : List ℕ). nameFree m bs) (same-eq n (b .name) q) ∙ k .0)
     skip false q = refl
 
-    go : (rs : List Row) → rowsIn n (kept bs) ≡ rowsIn n bs → rowsIn n (orSkipped (b .name) rs (kept bs)) ≡ cond (same n (b .name)) rs (rowsIn n bs)
+    go : (rs : List WrittenRow) → rowsIn n (kept bs) ≡ rowsIn n bs → rowsIn n (orSkipped (b .name) rs (kept bs)) ≡ cond (same n (b .name)) rs (rowsIn n bs)
     go [] e = e ∙ skip (same n (b .name)) refl
     go (r ∷ rs) e = ap (cond (same n (b .name)) (r ∷ rs)) e
 
@@ -69,11 +69,11 @@ module _ (gs : List Section) (bs : List Block) (a : namesApart bs ≡ true) (e :
   entries-rows : bare (entriesIn n gs) ≡ rowsIn n bs
   entries-rows = entries-bare n gs ∙ ap (rowsIn n) e ∙ rows-kept n bs a
 
-  pub read-rows : {A : Type 0} (f : List ℕ → Option A) → readAs f (iwdEntry gs n k) ≡ andThen (valueIn k (rowsIn n bs)) f
-  read-rows {A} f = read-bare f k (entriesIn n gs) ∙ ap (λ (rs : List Row). andThen (valueIn k rs) f) entries-rows
+  pub read-rows : {A : Type 0} (f : List ℕ → Option A) → readAs f (iwdEntry gs n k) ≡ andThen (rowValue k (rowsIn n bs)) f
+  read-rows {A} f = read-bare f k (entriesIn n gs) ∙ ap (λ (rs : List WrittenRow). andThen (rowValue k rs) f) entries-rows
 
-  pub has-rows : has n k gs ≡ isSome (valueIn k (rowsIn n bs))
-  has-rows = given-bare k (entriesIn n gs) ∙ ap (λ (rs : List Row). isSome (valueIn k rs)) entries-rows
+  pub has-rows : has n k gs ≡ isSome (rowValue k (rowsIn n bs))
+  has-rows = given-bare k (entriesIn n gs) ∙ ap (λ (rs : List WrittenRow). isSome (rowValue k rs)) entries-rows
 
 -- ---- how many settings
 
@@ -89,7 +89,7 @@ count-kept : (bs : List Block) → rowCount (kept bs) ≡ rowCount bs
 count-kept [] = refl
 count-kept (b ∷ bs) = go (b .rows) (count-kept bs)
   where
-    go : (rs : List Row) → rowCount (kept bs) ≡ rowCount bs → rowCount (orSkipped (b .name) rs (kept bs)) ≡ length rs + rowCount bs
+    go : (rs : List WrittenRow) → rowCount (kept bs) ≡ rowCount bs → rowCount (orSkipped (b .name) rs (kept bs)) ≡ length rs + rowCount bs
     go [] e = omega (arith, e)
     go (r ∷ rs) e = ap (λ (n : ℕ). length (r ∷ rs) + n) e
 
@@ -98,21 +98,21 @@ settings-rows gs bs e = settings-bare gs ∙ ap rowCount e ∙ count-kept bs
 
 -- ---- of settings behind others
 
-pub value-append : (k : List ℕ) (a b : List Row) → valueIn k (a ++ b) ≡ orElse (valueIn k a) (valueIn k b)
+pub value-append : (k : List ℕ) (a b : List WrittenRow) → rowValue k (a ++ b) ≡ orElse (rowValue k a) (rowValue k b)
 value-append k [] b = refl
 value-append k (r ∷ a) b = go (same k (r .0)) (value-append k a b)
   where
-    go : (t : Bool) → valueIn k (a ++ b) ≡ orElse (valueIn k a) (valueIn k b) → cond t (some (r .1)) (valueIn k (a ++ b)) ≡ orElse (cond t (some (r .1)) (valueIn k a)) (valueIn k b)
+    go : (t : Bool) → rowValue k (a ++ b) ≡ orElse (rowValue k a) (rowValue k b) → cond t (some (r .1)) (rowValue k (a ++ b)) ≡ orElse (cond t (some (r .1)) (rowValue k a)) (rowValue k b)
     go true e = refl
     go false e = e
 
 -- a key that one of the two has not
-module _ (k : List ℕ) (a b : List Row) where
-  pub value-behind : valueIn k a ≡ none → valueIn k (a ++ b) ≡ valueIn k b
+module _ (k : List ℕ) (a b : List WrittenRow) where
+  pub value-behind : rowValue k a ≡ none → rowValue k (a ++ b) ≡ rowValue k b
   value-behind e = value-append k a b ∙ rw e
 
-  pub value-before : valueIn k b ≡ none → valueIn k (a ++ b) ≡ valueIn k a
-  value-before e = value-append k a b ∙ rw e (go (valueIn k a))
+  pub value-before : rowValue k b ≡ none → rowValue k (a ++ b) ≡ rowValue k a
+  value-before e = value-append k a b ∙ rw e (go (rowValue k a))
     where
       go : (o : Option (List ℕ)) → orElse o none ≡ o
       go none = refl

@@ -17,16 +17,16 @@ use Rattle.records.specs.Record.{Secret, noSecret, passphrase, key, Join}
 use Rattle.records.specs.Formed.{GoodSecret, GoodIpv4, GoodServers, GoodDomain, WellFormed}
 use Rattle.records.specs.declared.Ipv6.{Ipv6}
 use Rattle.records.specs.declared.Ipv6.the-variants.{Auto, Off}
-use Rattle.written.specs.Written.{Row, hiddenRows, secretRows, gatewayRows, numberRows, serverRows, domainRows, ipv4Rows, ipv6Rows, blocksOf}
-use Rattle.round_trip.specs.Blocks.{valueIn, GoodRows, keysApart, GoodBlock, GoodBlocks, namesApart}
-use Rattle.round_trip.specs.Lookups.{value-behind, value-before}
-use Rattle.round_trip.specs.Values.{hidden-row, enabled-row, passphrase-row, key-row, address-row, gateway-row, netmask-row, servers-row, domain-row}
+use Rattle.written.specs.Written.{WrittenRow, hiddenRows, secretRows, gatewayRows, numberRows, serverRows, domainRows, ipv4Rows, ipv6Rows, blocksOf}
+use Rattle.round_trip.specs.Blocks.{rowValue, GoodRows, keysApart, GoodBlock, GoodBlocks, namesApart}
+use Rattle.round_trip.specs.RowLookups.{value-behind, value-before}
+use Rattle.round_trip.specs.RowValues.{hidden-row, enabled-row, passphrase-row, key-row, address-row, gateway-row, netmask-row, servers-row, domain-row}
 
 -- ---- good settings
 
-rows-append : (d : Dialect) (g : Group) (a b : List Row) → GoodRows d g a → GoodRows d g b → GoodRows d g (a ++ b)
-rows-append d g [] b v w = w
-rows-append d g (r ∷ a) b v w = (v .0, rows-append d g a b (v .1) w)
+good-rows-append : (d : Dialect) (g : Group) (a b : List WrittenRow) → GoodRows d g a → GoodRows d g b → GoodRows d g (a ++ b)
+good-rows-append d g [] b v w = w
+good-rows-append d g (r ∷ a) b v w = (v .0, good-rows-append d g a b (v .1) w)
 
 hidden-good : (b : Bool) → GoodRows Iwd G.Settings (hiddenRows b)
 hidden-good false = tt
@@ -55,7 +55,7 @@ domain-good [] w = tt
 domain-good (c ∷ d) w = (domain-row c d w, tt)
 
 ipv4-good : (i : IPv4) (l : List (List ℕ)) (d : List ℕ) → GoodIpv4 i → GoodServers l → GoodDomain d → GoodRows Iwd G.Ipv4 (ipv4Rows i l d)
-ipv4-good i l d u v w = rows-append Iwd G.Ipv4 (numberRows i ++ serverRows l) (domainRows d) (rows-append Iwd G.Ipv4 (numberRows i) (serverRows l) (number-good i u) (server-good l v)) (domain-good d w)
+ipv4-good i l d u v w = good-rows-append Iwd G.Ipv4 (numberRows i ++ serverRows l) (domainRows d) (good-rows-append Iwd G.Ipv4 (numberRows i) (serverRows l) (number-good i u) (server-good l v)) (domain-good d w)
 
 ipv6-good : (v : Ipv6) → GoodRows Iwd G.Ipv6 (ipv6Rows v)
 ipv6-good Auto = tt
@@ -73,7 +73,7 @@ secret-apart (passphrase p) = refl
 secret-apart (key k) = refl
 
 -- behind settings with neither key
-behind-apart : (done : List Row) → valueIn (word "DNS") done ≡ none → valueIn (word "DomainName") done ≡ none → (l : List (List ℕ)) (d : List ℕ) → keysApart done (serverRows l ++ domainRows d) ≡ true
+behind-apart : (done : List WrittenRow) → rowValue (word "DNS") done ≡ none → rowValue (word "DomainName") done ≡ none → (l : List (List ℕ)) (d : List ℕ) → keysApart done (serverRows l ++ domainRows d) ≡ true
 behind-apart done p q [] [] = refl
 behind-apart done p q [] (c ∷ d) = rw q
 behind-apart done p q (a ∷ l) [] = rw p
@@ -112,26 +112,26 @@ names-apart j = refl
 
 -- ---- what each key of the group IPv4 has: the values of one of its parts
 
-no-number : (k : List ℕ) → same k (word "Address") ≡ false → same k (word "Netmask") ≡ false → same k (word "Gateway") ≡ false → (i : IPv4) → valueIn k (numberRows i) ≡ none
+no-number : (k : List ℕ) → same k (word "Address") ≡ false → same k (word "Netmask") ≡ false → same k (word "Gateway") ≡ false → (i : IPv4) → rowValue k (numberRows i) ≡ none
 no-number k p q r dhcp = refl
 no-number k p q r off = refl
 no-number k p q r (static a n none) = rw (p, q)
 no-number k p q r (static a n (some g)) = rw (p, q, r)
 
-no-server : (k : List ℕ) → same k (word "DNS") ≡ false → (l : List (List ℕ)) → valueIn k (serverRows l) ≡ none
+no-server : (k : List ℕ) → same k (word "DNS") ≡ false → (l : List (List ℕ)) → rowValue k (serverRows l) ≡ none
 no-server k p [] = refl
 no-server k p (a ∷ l) = rw p
 
-no-domain : (k : List ℕ) → same k (word "DomainName") ≡ false → (d : List ℕ) → valueIn k (domainRows d) ≡ none
+no-domain : (k : List ℕ) → same k (word "DomainName") ≡ false → (d : List ℕ) → rowValue k (domainRows d) ≡ none
 no-domain k p [] = refl
 no-domain k p (c ∷ d) = rw p
 
 module _ (i : IPv4) (l : List (List ℕ)) (d : List ℕ) where
-  pub number-value : (k : List ℕ) → same k (word "DNS") ≡ false → same k (word "DomainName") ≡ false → valueIn k (ipv4Rows i l d) ≡ valueIn k (numberRows i)
+  pub number-value : (k : List ℕ) → same k (word "DNS") ≡ false → same k (word "DomainName") ≡ false → rowValue k (ipv4Rows i l d) ≡ rowValue k (numberRows i)
   number-value k p q = value-before k (numberRows i ++ serverRows l) (domainRows d) (no-domain k q d) ∙ value-before k (numberRows i) (serverRows l) (no-server k p l)
 
-  pub server-value : valueIn (word "DNS") (ipv4Rows i l d) ≡ valueIn (word "DNS") (serverRows l)
+  pub server-value : rowValue (word "DNS") (ipv4Rows i l d) ≡ rowValue (word "DNS") (serverRows l)
   server-value = value-before (word "DNS") (numberRows i ++ serverRows l) (domainRows d) (no-domain (word "DNS") refl d) ∙ value-behind (word "DNS") (numberRows i) (serverRows l) (no-number (word "DNS") refl refl refl i)
 
-  pub domain-value : valueIn (word "DomainName") (ipv4Rows i l d) ≡ valueIn (word "DomainName") (domainRows d)
+  pub domain-value : rowValue (word "DomainName") (ipv4Rows i l d) ≡ rowValue (word "DomainName") (domainRows d)
   domain-value = value-behind (word "DomainName") (numberRows i ++ serverRows l) (domainRows d) (value-before (word "DomainName") (numberRows i) (serverRows l) (no-server (word "DomainName") refl l) ∙ no-number (word "DomainName") refl refl refl i)

@@ -31,12 +31,12 @@ use Rattle.records.specs.Formed.{GoodPassphrase, GoodKey, GoodServers, GoodDoma
 use Rattle.round_trip.specs.Blocks.{GoodRow}
 
 -- a key of group g that can be written, and its kind
-record Key (g : Group) (k : List ℕ) (x : Kind) : Type 0 where
+record WritableKey (g : Group) (k : List ℕ) (x : Kind) : Type 0 where
   long : empty k ≡ false
   bytes : all (isKeyByte Iwd) k ≡ true
   listed : kindOf g k ≡ some x
 
-row-good : {g : Group} {k : List ℕ} {x : Kind} {v : List ℕ} {t : Typed} → Key g k x → Stands v →
+row-good : {g : Group} {k : List ℕ} {x : Kind} {v : List ℕ} {t : Typed} → WritableKey g k x → Stands v →
     stringBroken Iwd x v ≡ false → typed Iwd x v ≡ some t → GoodRow Iwd g (k, v)
 row-good {x = x} {v = v} w s b e =
     record {

@@ -1,11 +1,11 @@
 -- The length against its bounds, then the gateway.
 use Rattle.text.specs.Laws.{inside, under, over}
 use borrow.Author.Needs.{needs}
-use Rattle.records.proofs.is_numbered.Statement.{statement}
-use Rattle.records.proofs.is_numbered.Tie as tie
+use Rattle.records.proofs.is_addressed.Statement.{statement}
+use Rattle.records.proofs.is_addressed.Tie as tie
 
-pub is-numbered-spec : {M : Type 1} → statement M
-is-numbered-spec =
+pub is-addressed-spec : {M : Type 1} → statement M
+is-addressed-spec =
     tie.close
     (tie.spec
     (λ c. rw (under 1 32 (c .if1 .taken)))
