@@ -27,7 +27,7 @@ use Rattle.rules.specs.declared.Reading.the-variants.{Accepted}
 use Rattle.records.specs.Record.{Join, laid, laidServers}
 use Rattle.records.specs.Formed.{WellFormed}
 use Rattle.written.specs.Written.{numberRows, blocksOf, fileText, suffixFor, nameText, hasPlace}
-use Rattle.written.specs.Sizes.{file-short}
+use Rattle.written.specs.LengthLaws.{file-short}
 use Rattle.joins.specs.Joins.{Joined, joined, secretFrom, orFalse, enabledIpv6, iwdSecret, iwdIpv4, iwdJoin, networkName, orRefused, iwdJoined, recordAnswer, serversAfter, iwdRecord, iwdRecordServers}
 use Rattle.round_trip.specs.Blocks.{bareBlocks, kept, rowValue, rowsIn, rowCount}
 use Rattle.round_trip.specs.Readings.{file-obeys, file-blocks}

@@ -9,11 +9,11 @@ ghost use Rattle.records.specs.Record.{joined};
 ghost use Rattle.writer.specs.Writing.{writing, writingOf, writingPlaced, refuses, writtenAnswer, Writes};
 ghost use Rattle.written.specs.RecordParts.{CountsWithin};
 use records::JoinRecord;
+use rendering::groups;
+use rendering::sizes;
 use rules::Answer;
 use rules::Refusal;
-use written::groups;
 use written::parts;
-use written::sizes;
 
 // The answer, and how many bytes are new in the buffers of the name and of the file; 0 where nothing was written.
 pub struct Written {
