@@ -9,7 +9,7 @@ use Rattle.text.specs.Words.{word, place}
 use Rattle.text.specs.declared.Dialect.{Dialect}
 use Rattle.text.specs.declared.Dialect.the-variants.{Iwd, ConnMan}
 use Rattle.rules.specs.Tables.{groupOf, keysOf}
-use Rattle.rules.specs.KeyPlaces.{keyNames}
+use Rattle.tables.specs.KeyPlaces.{keyNames}
 use Rattle.rules.specs.Sections.{Entry, serves, entryOf, entriesIn}
 use Rattle.rules.specs.Reading.{sectionsOf}
 use Rattle.rules.specs.Asking.{iwdEntry, serviceAt}

@@ -14,7 +14,7 @@ ghost use Rattle.lookups.specs.Keeping.{KeepsSome, slotPlace, PlacedKept
 use crate::TextPlace;
 use reader::store::wide;
 use rules::Answer;
-use rules::asking;
+use tables::asking;
 use text::Dialect;
 
 // The place that a slot of the table of places keeps, or the refusal.
@@ -30,7 +30,7 @@ fn place_at(x: &[u16; 384], slot: usize, answer: Answer) -> TextPlace
             end: wide(x[128 + slot]),
         },
         Answer::Refused(refusal, at) => TextPlace {
-            number: rules::numbers::number_of(refusal),
+            number: tables::numbers::number_of(refusal),
             line: at,
             start: 0,
             end: 0,

@@ -17,7 +17,7 @@ use Rattle.kinds.specs.declared.Word.the-variants as W
 use Rattle.kinds.specs.declared.WordList.{WordList}
 use Rattle.kinds.specs.declared.WordList.the-variants as L
 use Rattle.rules.specs.Tables.{keysOf}
-use Rattle.rules.specs.KeyPlaces.{keyNames}
+use Rattle.tables.specs.KeyPlaces.{keyNames}
 use Rattle.rules.specs.Sections.{Entry, entryOf}
 use Rattle.rules.specs.WordNumbers.{isWord, wordNumber}
 use Rattle.rules.specs.Asking.{readAs}

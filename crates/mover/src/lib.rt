@@ -11,8 +11,8 @@ use addresses::Separator;
 use rules::Answer;
 use rules::Group;
 use rules::Refusal;
-use rules::asking;
 use settings::values;
+use tables::asking;
 use text::Dialect;
 use writer::Written;
 

@@ -14,7 +14,7 @@ use Rattle.text.specs.Words.{place}
 use Rattle.text.specs.declared.Dialect.{Dialect}
 use Rattle.lines.specs.Lines.{Line, blank, comment, header, setting, broken, lineOf, valueStart}
 use Rattle.rules.specs.Tables.{groupOf}
-use Rattle.rules.specs.KeyPlaces.{keyNames}
+use Rattle.tables.specs.KeyPlaces.{keyNames}
 use Rattle.rules.specs.Sections.{Entry, Section, withLine, withEntry, withGroup, settings}
 use Rattle.rules.specs.Faults.{fault, Fault}
 use Rattle.rules.specs.Reading.{afterLine, lineFault, grown}

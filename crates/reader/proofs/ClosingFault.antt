@@ -13,7 +13,7 @@ use Rattle.text.specs.Words.{word, place}
 use Rattle.text.specs.Options.{orElse}
 use Rattle.text.specs.declared.Dialect.{Dialect}
 use Rattle.rules.specs.Tables.{keysOf}
-use Rattle.rules.specs.KeyPlaces.{keyNames}
+use Rattle.tables.specs.KeyPlaces.{keyNames}
 use Rattle.rules.specs.Sections.{Entry, Section, serves, entryOf}
 use Rattle.rules.specs.Faults.{Fault, faultAt}
 use Rattle.rules.specs.Groups.{sectionFault, serviceFault}

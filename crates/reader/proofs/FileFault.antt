@@ -10,7 +10,7 @@ use Rattle.text.specs.declared.Dialect.{Dialect}
 use Rattle.text.specs.declared.Dialect.the-variants.{Iwd}
 use Rattle.names.specs.declared.Suffix.{Suffix}
 use Rattle.rules.specs.Tables.{groupOf, keysOf}
-use Rattle.rules.specs.KeyPlaces.{keyNames}
+use Rattle.tables.specs.KeyPlaces.{keyNames}
 use Rattle.rules.specs.Sections.{Section, given, serves, entriesIn}
 use Rattle.rules.specs.Faults.{faultAt}
 use Rattle.rules.specs.Groups.{has, fileFault}

@@ -17,7 +17,7 @@ use Rattle.kinds.specs.Typed.{judged}
 use Rattle.kinds.specs.declared.Kind.{Kind}
 use Rattle.kinds.specs.declared.Value.{Value}
 use Rattle.rules.specs.Tables.{kindOf}
-use Rattle.rules.specs.KeyPlaces.{keyNames}
+use Rattle.tables.specs.KeyPlaces.{keyNames}
 use Rattle.rules.specs.Sections.{Entry, Section, given, withLine, withEntry}
 use Rattle.rules.specs.Faults.{keyFault, valueFault, fault}
 use Rattle.rules.specs.declared.Group.{Group}

@@ -16,7 +16,7 @@ use Rattle.text.specs.declared.Dialect.{Dialect}
 use Rattle.text.specs.declared.Dialect.the-variants.{Iwd, ConnMan}
 use Rattle.rules.specs.Tables.{isService, groupOf}
 use Rattle.rules.specs.ListedValues.{groupName}
-use Rattle.rules.specs.KeyPlaces.{keyNames}
+use Rattle.tables.specs.KeyPlaces.{keyNames}
 use Rattle.rules.specs.Sections.{Entry, Section, nameGiven, serves, services}
 use Rattle.rules.specs.declared.Group.{Group}
 use Rattle.rules.specs.declared.Group.the-variants.{Settings, Security, Ipv4, Ipv6, Global, Service}

@@ -17,7 +17,7 @@ use Rattle.kinds.specs.declared.Word.the-variants.{Wifi, Ethernet, Psk, None}
 use Rattle.kinds.specs.declared.WordList.{WordList}
 use Rattle.kinds.specs.declared.WordList.the-variants as W
 use Rattle.rules.specs.Tables.{keysOf}
-use Rattle.rules.specs.KeyPlaces.{keyNames}
+use Rattle.tables.specs.KeyPlaces.{keyNames}
 use Rattle.rules.specs.Sections.{Entry, given, entryOf}
 use Rattle.rules.specs.WordNumbers.{isWord, wordNumber}
 use Rattle.rules.specs.Groups.{wordGiven, serviceFault}

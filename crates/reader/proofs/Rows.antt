@@ -13,7 +13,7 @@ use Rattle.text.specs.Words.{same, place, further}
 use Rattle.text.specs.Options.{isSome}
 use Rattle.text.specs.Laws.{same-eq, same-refl}
 use Rattle.rules.specs.Tables.{keysOf}
-use Rattle.rules.specs.KeyPlaces.{keyNames}
+use Rattle.tables.specs.KeyPlaces.{keyNames}
 use Rattle.rules.specs.Sections.{Entry, given, entryOf}
 use Rattle.rules.specs.declared.Group.{Group}
 use Rattle.rules.specs.declared.Group.the-variants.{Settings, Security, Ipv4, Ipv6, Global, Service}

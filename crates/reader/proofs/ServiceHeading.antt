@@ -12,7 +12,7 @@ use Rattle.text.specs.Parts.{part}
 use Rattle.text.specs.Words.{same, place}
 use Rattle.text.specs.declared.Dialect.{Dialect}
 use Rattle.rules.specs.Tables.{groupOf}
-use Rattle.rules.specs.KeyPlaces.{keyNames}
+use Rattle.tables.specs.KeyPlaces.{keyNames}
 use Rattle.rules.specs.Sections.{Entry, Section, nameGiven, serves, services}
 use Rattle.rules.specs.declared.Group.{Group}
 use Rattle.rules.specs.declared.Group.the-variants.{Service}

@@ -21,13 +21,13 @@ use Rattle.kinds.specs.declared.Judgement.{Judgement}
 use Rattle.kinds.specs.declared.Judgement.the-variants as J
 use Rattle.lines.specs.Lines.{setting}
 use Rattle.rules.specs.Tables.{keysOf, kindOf}
-use Rattle.rules.specs.KeyPlaces.{atPlace, at-place-zero, at-place-named, keyNames, listedAnswer}
+use Rattle.tables.specs.KeyPlaces.{atPlace, at-place-zero, at-place-named, keyNames, listedAnswer}
 use Rattle.rules.specs.Sections.{Section, given, entryOf}
 use Rattle.rules.specs.Faults.{fault, keyFault, valueFault}
 use Rattle.rules.specs.declared.Group.{Group}
 use Rattle.rules.specs.declared.Group.the-variants.{Settings, Security, Ipv4, Ipv6, Global, Service}
-use Rattle.rules.specs.declared.Listed.{Listed}
-use Rattle.rules.specs.declared.Listed.the-variants as L
+use Rattle.tables.specs.declared.Listed.{Listed}
+use Rattle.tables.specs.declared.Listed.the-variants as L
 use Rattle.rules.specs.declared.Refusal.the-variants.{NoGroup, UnknownKey, RepeatedKey, ValueText, ValueKind}
 use Rattle.reader.specs.Store.{slot}
 use Rattle.reader.specs.History.{base, groupNumber, currentOf, latest}

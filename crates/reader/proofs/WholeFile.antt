@@ -8,7 +8,7 @@ use mathlib.Core.Option.{Option, none, some}
 use lib.Dec.{eqb}
 use Rattle.text.specs.Words.{place}
 use Rattle.text.specs.declared.Dialect.{Dialect}
-use Rattle.rules.specs.KeyPlaces.{keyNames}
+use Rattle.tables.specs.KeyPlaces.{keyNames}
 use Rattle.rules.specs.Sections.{Section, services, settings}
 use Rattle.rules.specs.Faults.{Fault}
 use Rattle.rules.specs.Reading.{Name, iwdName, connmanFile, groupsFault, verdict}

@@ -9,7 +9,7 @@ use Rattle.text.specs.Parts.{part}
 use Rattle.text.specs.Words.{same, place}
 use Rattle.text.specs.declared.Dialect.{Dialect}
 use Rattle.rules.specs.Tables.{groupOf}
-use Rattle.rules.specs.KeyPlaces.{keyNames}
+use Rattle.tables.specs.KeyPlaces.{keyNames}
 use Rattle.rules.specs.Sections.{Entry, Section, nameGiven, services, entryOf, settings}
 use Rattle.rules.specs.Faults.{Fault}
 use Rattle.rules.specs.declared.Group.{Group}

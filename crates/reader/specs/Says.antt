@@ -14,7 +14,7 @@ use Rattle.kinds.specs.declared.Kind.{Kind}
 use Rattle.kinds.specs.declared.Value.{Value}
 use Rattle.kinds.specs.declared.Judgement.the-variants as J
 use Rattle.rules.specs.Tables.{kindOf}
-use Rattle.rules.specs.KeyPlaces.{keyNames}
+use Rattle.tables.specs.KeyPlaces.{keyNames}
 use Rattle.rules.specs.Sections.{Section, given}
 use Rattle.rules.specs.Faults.{fault}
 use Rattle.rules.specs.declared.Group.{Group}

@@ -11,7 +11,7 @@ use Rattle.text.specs.declared.Place.{Place}
 use Rattle.lines.specs.Lines.{blank, comment, header, setting, lineOf, valueStart}
 use Rattle.lines.specs.Lines as Lines
 use Rattle.kinds.specs.declared.Value.{Value}
-use Rattle.rules.specs.KeyPlaces.{keyNames}
+use Rattle.tables.specs.KeyPlaces.{keyNames}
 use Rattle.rules.specs.Sections.{Section, serves, withLine}
 use Rattle.rules.specs.Faults.{fault}
 use Rattle.rules.specs.declared.Group.{Group}

@@ -10,8 +10,8 @@ use crate::judging::base_of;
 use crate::services::service_named;
 use crate::services::taken;
 use rules::Group;
-use rules::Named;
 use rules::Refusal;
+use tables::Named;
 use text::Dialect;
 
 // Whether a group was named before.
@@ -51,7 +51,7 @@ pub fn heading(d: Dialect, file: &[u8], x: &[u16; 384], services: usize, name: &
     requires spans { ⌜ Spans (now file) (now x) services ⌝ }
     ensures { λ r. ⌜ r ≡ slotsHeading (now (file .entry)) (now (x .entry)) services (now (name .entry)) (groupOf d (now (name .entry))) ⌝ }
 {
-    match rules::tables::group_of(d, name) {
+    match tables::groups::group_of(d, name) {
         Named::Is(g) => open_group(file, x, services, name, g),
         Named::Unknown => Heading::Refused(Refusal::UnknownGroup),
     }

@@ -13,8 +13,8 @@ use kinds::Judgement;
 use lines::Break;
 use lines::Form;
 use rules::Group;
-use rules::Listed;
 use rules::Refusal;
+use tables::Listed;
 use text::Dialect;
 use text::Place;
 
@@ -51,7 +51,7 @@ pub fn setting_line(
     };
     let start = key.start;
     let end = key.end;
-    let listed = rules::tables::key_of(g, &file[start..end]);
+    let listed = tables::keys::key_of(g, &file[start..end]);
     let Listed::Is(n, kind) = listed else {
         return Line::Refused(Refusal::UnknownKey);
     };

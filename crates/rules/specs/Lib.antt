@@ -9,7 +9,6 @@ pub mod Groups
 pub mod Reading
 pub mod Asking
 pub mod ListedValues
-pub mod KeyPlaces
 -- The same rules a second time, of a file's bytes and lines, with nothing of the reading in them
 pub mod GroupKeys
 pub mod LineOrder

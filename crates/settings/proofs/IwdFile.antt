@@ -12,7 +12,7 @@ use Rattle.addresses.specs.Addresses.{addresses, rows}
 use Rattle.addresses.specs.declared.Separator.the-variants.{Spaces}
 use Rattle.kinds.specs.Kinds.{flag}
 use Rattle.rules.specs.Tables.{groupOf, keysOf}
-use Rattle.rules.specs.KeyPlaces.{keyNames}
+use Rattle.tables.specs.KeyPlaces.{keyNames}
 use Rattle.rules.specs.Sections.{Entry, serves, entryOf, entriesIn}
 use Rattle.rules.specs.Reading.{sectionsOf, reading}
 use Rattle.rules.specs.Asking.{asked}

@@ -13,7 +13,7 @@ use addresses::Separator;
 use rules::Answer;
 use rules::Group;
 use rules::Refusal;
-use rules::asking;
+use tables::asking;
 use text::Dialect;
 
 // The settings of the service asked for, by its row.
