@@ -2,5 +2,5 @@ pub mod ExactSizes
 pub mod Bounds
 pub mod Three
 pub mod Four
-pub mod Rowwise
-pub mod Groupwise
+pub mod RowTexts
+pub mod GroupTexts

@@ -15,8 +15,9 @@ use Rattle.writer.specs.Writing.{Writing, writes, refuses, writing, onFront, Wr
 use Rattle.writer.specs.declared.Written.{Written}
 use Rattle.joins.specs.declared.RecordAnswer.{RecordAnswer}
 use Rattle.round_trip.specs.Structs.{writing-record, writing-servers}
-use Rattle.round_trip.specs.Same.{sameRecord, sameServers, isGood, sameAnswer, same-record-refl, same-servers-refl}
-use Rattle.round_trip.specs.Back.{readSame, RoundTrips}
+use Rattle.comparing.specs.Same.{sameRecord, sameServers}
+use Rattle.comparing.specs.SameLaws.{same-record-refl, same-servers-refl}
+use Rattle.round_trip.specs.Back.{isGood, sameAnswer, readSame, RoundTrips}
 use Rattle.round_trip.proofs.Agreeing.{differs, agrees}
 
 -- ---- an answer x and its servers t, which are y and u, against a record and servers

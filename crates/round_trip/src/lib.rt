@@ -1,9 +1,6 @@
 // The round trip: what the writer writes reads back as the record that was written.
 //
-// The theorem is in specs/RoundTrip, and of structs in specs/Structs. `reads_back` says it of the code (specs/Back); records are
-// compared by specs/Same.
-pub mod comparing;
-
+// The theorem is in specs/RoundTrip, and of structs in specs/Structs. `reads_back` says it of the code (specs/Back).
 ghost use mathlib.Core.Path.{_≡_};
 ghost use Rattle.round_trip.specs.Back.{readSame, RoundTrips};
 use records::JoinRecord;

@@ -29,20 +29,20 @@ use Rattle.rules.specs.declared.Refusal.{Refusal}
 -- ---- a word that is spelled in one way only
 
 -- no row of the table stands for the word; only the row of the text v does
-abbrev absent : Word → List (List ℕ × Word) → Bool
-absent w [] = true
-absent w (row ∷ t) = not (isWord w (some (row .1))) && absent w t
+abbrev unlisted : Word → List (List ℕ × Word) → Bool
+unlisted w [] = true
+unlisted w (row ∷ t) = not (isWord w (some (row .1))) && unlisted w t
 
 abbrev spelled : Word → List ℕ → List (List ℕ × Word) → Bool
 spelled w v [] = false
 spelled w v (row ∷ t) =
-    cond (same (row .0) v) (isWord w (some (row .1)) && absent w t) (not (isWord w (some (row .1))) && spelled w v t)
+    cond (same (row .0) v) (isWord w (some (row .1)) && unlisted w t) (not (isWord w (some (row .1))) && spelled w v t)
 
-absent-named : (w : Word) (u : List ℕ) (t : List (List ℕ × Word)) → absent w t ≡ true → isWord w (named u t) ≡ false
-absent-named w u [] h = refl
-absent-named w u (row ∷ t) h =
-    let p = and-true (not (isWord w (some (row .1)))) (absent w t) h in
-    go (same u (row .0)) (not-true (isWord w (some (row .1))) (p .0)) (absent-named w u t (p .1))
+unlisted-named : (w : Word) (u : List ℕ) (t : List (List ℕ × Word)) → unlisted w t ≡ true → isWord w (named u t) ≡ false
+unlisted-named w u [] h = refl
+unlisted-named w u (row ∷ t) h =
+    let p = and-true (not (isWord w (some (row .1)))) (unlisted w t) h in
+    go (same u (row .0)) (not-true (isWord w (some (row .1))) (p .0)) (unlisted-named w u t (p .1))
   where
     go : (b : Bool) → isWord w (some (row .1)) ≡ false → isWord w (named u t) ≡ false →
         isWord w (cond b (some (row .1)) (named u t)) ≡ false
@@ -55,15 +55,15 @@ spelled-tells w v [] h u = absurd (false≢true h)
 spelled-tells w v (row ∷ t) h u = go (same-tells (row .0) v) (same-tells u (row .0)) h (λ k. spelled-tells w v t k u)
   where
     go : {a b : Bool} → Tells (row .0 ≡ v) a → Tells (u ≡ row .0) b →
-        cond a (isWord w (some (row .1)) && absent w t) (not (isWord w (some (row .1))) && spelled w v t) ≡ true →
+        cond a (isWord w (some (row .1)) && unlisted w t) (not (isWord w (some (row .1))) && spelled w v t) ≡ true →
         (spelled w v t ≡ true → Tells (u ≡ v) (isWord w (named u t))) →
         Tells (u ≡ v) (isWord w (cond b (some (row .1)) (named u t)))
     go (holds p) (holds q) h k =
-        let e = and-true (isWord w (some (row .1))) (absent w t) h in
+        let e = and-true (isWord w (some (row .1))) (unlisted w t) h in
         subst (Tells (u ≡ v)) (sym (e .0)) (holds (q ∙ p))
     go (holds p) (fails q) h k =
-        let e = and-true (isWord w (some (row .1))) (absent w t) h in
-        subst (Tells (u ≡ v)) (sym (absent-named w u t (e .1))) (fails (λ i. q (i ∙ sym p)))
+        let e = and-true (isWord w (some (row .1))) (unlisted w t) h in
+        subst (Tells (u ≡ v)) (sym (unlisted-named w u t (e .1))) (fails (λ i. q (i ∙ sym p)))
     go (fails p) (holds q) h k =
         let e = and-true (not (isWord w (some (row .1)))) (spelled w v t) h in
         subst (Tells (u ≡ v)) (sym (not-true (isWord w (some (row .1))) (e .0))) (fails (λ i. p (sym q ∙ i)))

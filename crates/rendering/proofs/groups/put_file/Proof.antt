@@ -4,7 +4,7 @@ use native.Mathlib.Omega.{arith}
 use lib.ListN.{length}
 use lib.Seq.{length-take-le}
 use Rattle.rendering.proofs.Four.{four-first, four-second, four-third, four-fourth, four-wrote}
-use Rattle.rendering.proofs.Groupwise.{file-four}
+use Rattle.rendering.proofs.GroupTexts.{file-four}
 use borrow.Author.Needs.{needs}
 use Rattle.rendering.proofs.groups.put_file.Statement.{statement}
 use Rattle.rendering.proofs.groups.put_file.Tie as tie

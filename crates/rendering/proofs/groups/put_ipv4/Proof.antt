@@ -2,7 +2,7 @@
 use mathlib.Core.Path.{sym, _∙_}
 use Rattle.put.specs.Laws.{wrote-none}
 use Rattle.written.specs.TextLaws.{group-none}
-use Rattle.rendering.proofs.Groupwise.{ipv4-front, ipv4-behind, ipv4-wrote}
+use Rattle.rendering.proofs.GroupTexts.{ipv4-front, ipv4-behind, ipv4-wrote}
 use borrow.Author.Needs.{needs}
 use Rattle.rendering.proofs.groups.put_ipv4.Statement.{statement}
 use Rattle.rendering.proofs.groups.put_ipv4.Tie as tie

@@ -2,7 +2,7 @@
 use lib.ListN.{take}
 use Rattle.written.specs.RecordParts.{numbersIn}
 use Rattle.rendering.proofs.Three.{three-first, three-second, three-third, three-wrote}
-use Rattle.rendering.proofs.Groupwise.{ipv4-rows}
+use Rattle.rendering.proofs.GroupTexts.{ipv4-rows}
 use borrow.Author.Needs.{needs}
 use Rattle.rendering.proofs.groups.put_ipv4_rows.Statement.{statement}
 use Rattle.rendering.proofs.groups.put_ipv4_rows.Tie as tie

@@ -1,7 +1,7 @@
 -- The group is written where IPv6 is off, and nothing where it is not.
 use native.Mathlib.Omega.{arith}
 use Rattle.put.specs.Laws.{wrote-none}
-use Rattle.rendering.proofs.Groupwise.{ipv6-text, ipv6-none}
+use Rattle.rendering.proofs.GroupTexts.{ipv6-text, ipv6-none}
 use borrow.Author.Needs.{needs}
 use Rattle.rendering.proofs.groups.put_ipv6.Statement.{statement}
 use Rattle.rendering.proofs.groups.put_ipv6.Tie as tie

@@ -1,7 +1,7 @@
 -- The group of the credential, and nothing where there is none.
 use native.Mathlib.Omega.{arith}
 use Rattle.put.specs.Laws.{wrote-none}
-use Rattle.rendering.proofs.Groupwise.{security-none, security-passphrase, security-key}
+use Rattle.rendering.proofs.GroupTexts.{security-none, security-passphrase, security-key}
 use borrow.Author.Needs.{needs}
 use Rattle.rendering.proofs.groups.put_security.Statement.{statement}
 use Rattle.rendering.proofs.groups.put_security.Tie as tie

@@ -1,7 +1,7 @@
 -- The group is written where the network is hidden, and nothing where it is not.
 use native.Mathlib.Omega.{arith}
 use Rattle.put.specs.Laws.{wrote-none}
-use Rattle.rendering.proofs.Groupwise.{settings-text, settings-none}
+use Rattle.rendering.proofs.GroupTexts.{settings-text, settings-none}
 use borrow.Author.Needs.{needs}
 use Rattle.rendering.proofs.groups.put_settings.Statement.{statement}
 use Rattle.rendering.proofs.groups.put_settings.Tie as tie

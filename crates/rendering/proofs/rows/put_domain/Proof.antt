@@ -1,6 +1,6 @@
 -- The line is written where there is a domain (`domain-text`), and nothing where there is none.
 use Rattle.put.specs.Laws.{wrote-none}
-use Rattle.rendering.proofs.Rowwise.{domain-text, domain-none}
+use Rattle.rendering.proofs.RowTexts.{domain-text, domain-none}
 use borrow.Author.Needs.{needs}
 use Rattle.rendering.proofs.rows.put_domain.Statement.{statement}
 use Rattle.rendering.proofs.rows.put_domain.Tie as tie

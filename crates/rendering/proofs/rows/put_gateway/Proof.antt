@@ -1,5 +1,5 @@
 -- The line is written where the gateway is given (`gateway-text`), and nothing where it is not.
-use Rattle.rendering.proofs.Rowwise.{gateway-text, gateway-none}
+use Rattle.rendering.proofs.RowTexts.{gateway-text, gateway-none}
 use Rattle.put.specs.Laws.{wrote-none}
 use borrow.Author.Needs.{needs}
 use Rattle.rendering.proofs.rows.put_gateway.Statement.{statement}

@@ -1,4 +1,4 @@
-use Rattle.rendering.proofs.Rowwise.{numbers-dhcp, numbers-off, numbers-static}
+use Rattle.rendering.proofs.RowTexts.{numbers-dhcp, numbers-off, numbers-static}
 -- The lines of a static IPv4, and of any other nothing.
 use Rattle.put.specs.Laws.{wrote-none}
 use borrow.Author.Needs.{needs}

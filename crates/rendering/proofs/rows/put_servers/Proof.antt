@@ -2,7 +2,7 @@
 use native.Mathlib.Omega.{arith}
 use lib.ListN.{length-append}
 use Rattle.put.specs.Laws.{then, wrote-none}
-use Rattle.rendering.proofs.Rowwise.{servers-text, servers-none}
+use Rattle.rendering.proofs.RowTexts.{servers-text, servers-none}
 use borrow.Author.Needs.{needs}
 use Rattle.rendering.proofs.rows.put_servers.Statement.{statement}
 use Rattle.rendering.proofs.rows.put_servers.Tie as tie

@@ -1,7 +1,7 @@
 -- The three lines are written in turn (`three-wrote`).
 use mathlib.Core.Path.{refl}
 use Rattle.rendering.proofs.Three.{three-first, three-second, three-third, three-wrote}
-use Rattle.rendering.proofs.Rowwise.{static-text}
+use Rattle.rendering.proofs.RowTexts.{static-text}
 use borrow.Author.Needs.{needs}
 use Rattle.rendering.proofs.rows.put_static.Statement.{statement}
 use Rattle.rendering.proofs.rows.put_static.Tie as tie

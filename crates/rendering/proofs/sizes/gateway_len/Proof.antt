@@ -6,7 +6,7 @@ use Rattle.text.specs.Words.{word}
 use Rattle.addresses.specs.Addresses.{dotted}
 use Rattle.addresses.specs.Sizes.{dotted-short}
 use Rattle.rendering.proofs.ExactSizes.{line-size}
-use Rattle.rendering.proofs.Rowwise.{gateway-text, gateway-none}
+use Rattle.rendering.proofs.RowTexts.{gateway-text, gateway-none}
 use borrow.Author.Needs.{needs}
 use Rattle.rendering.proofs.sizes.gateway_len.Statement.{statement}
 use Rattle.rendering.proofs.sizes.gateway_len.Tie as tie

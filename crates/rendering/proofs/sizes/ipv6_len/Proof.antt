@@ -1,5 +1,5 @@
 -- By whether IPv6 is off.
-use Rattle.rendering.proofs.Groupwise.{ipv6-text, ipv6-none}
+use Rattle.rendering.proofs.GroupTexts.{ipv6-text, ipv6-none}
 use borrow.Author.Needs.{needs}
 use Rattle.rendering.proofs.sizes.ipv6_len.Statement.{statement}
 use Rattle.rendering.proofs.sizes.ipv6_len.Tie as tie

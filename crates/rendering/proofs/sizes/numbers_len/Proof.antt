@@ -1,5 +1,5 @@
 -- By the method.
-use Rattle.rendering.proofs.Rowwise.{numbers-dhcp, numbers-off, numbers-static}
+use Rattle.rendering.proofs.RowTexts.{numbers-dhcp, numbers-off, numbers-static}
 use borrow.Author.Needs.{needs}
 use Rattle.rendering.proofs.sizes.numbers_len.Statement.{statement}
 use Rattle.rendering.proofs.sizes.numbers_len.Tie as tie

@@ -8,7 +8,7 @@ use Rattle.escapes.specs.Laws.{escape-length}
 use Rattle.hex.specs.Hex.{hex}
 use Rattle.hex.specs.Laws.{hex-length}
 use Rattle.rendering.proofs.ExactSizes.{line-size}
-use Rattle.rendering.proofs.Groupwise.{security-none, security-passphrase, security-key}
+use Rattle.rendering.proofs.GroupTexts.{security-none, security-passphrase, security-key}
 use borrow.Author.Needs.{needs}
 use Rattle.rendering.proofs.sizes.security_len.Statement.{statement}
 use Rattle.rendering.proofs.sizes.security_len.Tie as tie

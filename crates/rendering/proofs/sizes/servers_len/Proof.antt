@@ -8,7 +8,7 @@ use Rattle.addresses.specs.Addresses.{listed}
 use Rattle.addresses.specs.Sizes.{listed-short}
 use Rattle.addresses.specs.declared.Separator.the-variants.{Spaces}
 use Rattle.rendering.proofs.ExactSizes.{line-size}
-use Rattle.rendering.proofs.Rowwise.{servers-text, servers-none}
+use Rattle.rendering.proofs.RowTexts.{servers-text, servers-none}
 use borrow.Author.Needs.{needs}
 use Rattle.rendering.proofs.sizes.servers_len.Statement.{statement}
 use Rattle.rendering.proofs.sizes.servers_len.Tie as tie

@@ -3,7 +3,7 @@ use native.Mathlib.Omega.{arith}
 use Rattle.addresses.specs.Sizes.{dotted-short}
 use Rattle.records.specs.Record.{gatewayIf}
 use Rattle.rendering.proofs.Bounds.{gateway-short}
-use Rattle.rendering.proofs.Rowwise.{static-size}
+use Rattle.rendering.proofs.RowTexts.{static-size}
 use borrow.Author.Needs.{needs}
 use Rattle.rendering.proofs.sizes.static_len.Statement.{statement}
 use Rattle.rendering.proofs.sizes.static_len.Tie as tie

@@ -1,5 +1,5 @@
 -- A service's name: its length, its front, its identifier.
-use Rattle.tables.proofs.Naming.{service-short, service-long, service-other, service-name}
+use Rattle.tables.proofs.ServiceNames.{service-short, service-long, service-other, service-name}
 use borrow.Author.Needs.{needs}
 use Rattle.tables.proofs.groups.is_service.Statement.{statement}
 use Rattle.tables.proofs.groups.is_service.Tie as tie

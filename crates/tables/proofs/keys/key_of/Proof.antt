@@ -1,5 +1,5 @@
 -- The key's place, and the kind at that place (`at-place-named`).
-use Rattle.tables.proofs.Naming.{key-found, key-unknown}
+use Rattle.tables.proofs.KeysFound.{key-found, key-unknown}
 use borrow.Author.Needs.{needs}
 use Rattle.tables.proofs.keys.key_of.Statement.{statement}
 use Rattle.tables.proofs.keys.key_of.Tie as tie

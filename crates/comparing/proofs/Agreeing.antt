@@ -10,7 +10,7 @@ use lib.Dec.{eqb}
 use lib.ListN.{length, drop, getD, drop-of-length-le}
 use lib.Seq.{drop-cons}
 use Rattle.text.specs.Words.{same}
-use Rattle.round_trip.specs.Same.{sameServers}
+use Rattle.comparing.specs.Same.{sameServers}
 
 -- ---- a part that differs, and one that does not
 

@@ -1,9 +1,9 @@
 -- The credential by the number of its case, the passphrase and the key.
 use borrow.Author.Tests.{eq-eqb, ne-eqb}
-use Rattle.round_trip.proofs.Agreeing.{differs, agrees, refused, passed, cases-differ, cases-agree}
+use Rattle.comparing.proofs.Agreeing.{differs, agrees, refused, passed, cases-differ, cases-agree}
 use borrow.Author.Needs.{needs}
-use Rattle.round_trip.proofs.comparing.same_credential.Statement.{statement}
-use Rattle.round_trip.proofs.comparing.same_credential.Tie as tie
+use Rattle.comparing.proofs.same_credential.Statement.{statement}
+use Rattle.comparing.proofs.same_credential.Tie as tie
 
 pub same-credential-spec : {M : Type 1} → statement M
 same-credential-spec =

@@ -1,7 +1,7 @@
--- Whether two join records are the same: "Two records are equal when they agree in every place, unused ones included."
+-- What is compared is equality.
 use Prim.Native.Nat.{ℕ}
 use mathlib.Core.Path.{_≡_, refl, ap, ap₂, sym, _∙_}
-use mathlib.Core.Bool.{Bool, true, false, cond, not, _&&_, false≢true}
+use mathlib.Core.Bool.{Bool, true, false, cond, false≢true}
 use mathlib.Core.List.{List, [], _∷_}
 use borrow.Author.Tests.{eq-eqb, eqb-true}
 use lib.Dec.{eqb}
@@ -9,79 +9,12 @@ use Rattle.text.specs.Words.{same}
 use Rattle.text.specs.Laws.{and-true, same-refl, same-eq}
 use Rattle.kinds.specs.declared.Method.{Method}
 use Rattle.kinds.specs.declared.Method.the-variants as M
-use Rattle.rules.specs.declared.Answer.{Answer}
-use Rattle.rules.specs.declared.Answer.the-variants.{Good, Refused}
 use Rattle.records.specs.declared.Credential.{Credential}
 use Rattle.records.specs.declared.Credential.the-variants as C
 use Rattle.records.specs.declared.Ipv6.{Ipv6}
 use Rattle.records.specs.declared.Ipv6.the-variants as Ipv6
 use Rattle.records.specs.declared.JoinRecord.{JoinRecord}
-use Rattle.joins.specs.declared.RecordAnswer.{RecordAnswer}
-
--- ---- flags, and cases of an enum by their numbers
-
-abbrev pub sameFlag : Bool → Bool → Bool
-sameFlag a b = cond a b (not b)
-
-abbrev pub credentialCase : Credential → ℕ
-credentialCase C.None = 0
-credentialCase C.Passphrase = 1
-credentialCase C.Key = 2
-
-abbrev pub methodCase : Method → ℕ
-methodCase M.Dhcp = 0
-methodCase M.Off = 1
-methodCase M.Static = 2
-
-abbrev pub ipv6Case : Ipv6 → ℕ
-ipv6Case Ipv6.Auto = 0
-ipv6Case Ipv6.Off = 1
-
--- ---- records, in parts
-
-abbrev pub sameName : JoinRecord → JoinRecord → Bool
-sameName a b = eqb (a .«name_len») (b .«name_len») && same (a .name) (b .name)
-
-abbrev pub sameCredential : JoinRecord → JoinRecord → Bool
-sameCredential a b =
-    eqb (credentialCase (a .credential)) (credentialCase (b .credential))
-    && (eqb (a .«passphrase_len») (b .«passphrase_len»)
-    && (same (a .passphrase) (b .passphrase) && same (a .key) (b .key)))
-
-abbrev pub sameNumbers : JoinRecord → JoinRecord → Bool
-sameNumbers a b =
-    eqb (methodCase (a .ipv4)) (methodCase (b .ipv4))
-    && (eqb (a .length) (b .length)
-    && (sameFlag (a .«has_gateway») (b .«has_gateway»)
-    && (same (a .address) (b .address) && same (a .gateway) (b .gateway))))
-
-abbrev pub sameDomain : JoinRecord → JoinRecord → Bool
-sameDomain a b = eqb (a .«domain_len») (b .«domain_len») && same (a .domain) (b .domain)
-
-abbrev pub sameChoices : JoinRecord → JoinRecord → Bool
-sameChoices a b =
-    eqb (a .«server_count») (b .«server_count»)
-    && (sameFlag (a .hidden) (b .hidden) && eqb (ipv6Case (a .ipv6)) (ipv6Case (b .ipv6)))
-
-unfoldable pub sameRecord : JoinRecord → JoinRecord → Bool
-sameRecord a b = sameName a b && (sameCredential a b && (sameNumbers a b && (sameDomain a b && sameChoices a b)))
-
--- the servers, which stand beside a record
-abbrev pub sameServers : List (List ℕ) → List (List ℕ) → Bool
-sameServers [] [] = true
-sameServers [] (b ∷ t) = false
-sameServers (a ∷ s) [] = false
-sameServers (a ∷ s) (b ∷ t) = same a b && sameServers s t
-
--- an answer and its servers, against a record and servers; a refusal has no record
-abbrev pub isGood : Answer → Bool
-isGood Good = true
-isGood (Refused r l) = false
-
-abbrev pub sameAnswer : RecordAnswer → List (List ℕ) → JoinRecord → List (List ℕ) → Bool
-sameAnswer x t r s = isGood (x .answer) && (sameRecord (x .«record») r && sameServers t s)
-
--- ---- it is equality
+use Rattle.comparing.specs.Same.{sameFlag, credentialCase, methodCase, ipv6Case, sameName, sameCredential, sameNumbers, sameDomain, sameChoices, sameRecord, sameServers}
 
 flag-refl : (a : Bool) → sameFlag a a ≡ true
 flag-refl true = refl
@@ -185,13 +118,3 @@ same-servers-eq [] [] e = refl
 same-servers-eq [] (b ∷ t) e = absurd (false≢true e)
 same-servers-eq (a ∷ s) [] e = absurd (false≢true e)
 same-servers-eq (a ∷ s) (b ∷ t) e = ap₂ _∷_ (same-eq a b (and-true (same a b) (sameServers s t) e .0)) (same-servers-eq s t (and-true (same a b) (sameServers s t) e .1))
-
-good-eq : (a : Answer) → isGood a ≡ true → a ≡ Good
-good-eq Good e = refl
-good-eq (Refused r l) e = absurd (false≢true e)
-
-pub same-answer-eq : (x : RecordAnswer) (t : List (List ℕ)) (r : JoinRecord) (s : List (List ℕ)) → sameAnswer x t r s ≡ true → (x ≡ record { answer = Good; «record» = r }) × (t ≡ s)
-same-answer-eq x t r s e =
-    let k = and-true (isGood (x .answer)) (sameRecord (x .«record») r && sameServers t s) e in
-    let l = and-true (sameRecord (x .«record») r) (sameServers t s) (k .1) in
-    ((λ i. record { answer = good-eq (x .answer) (k .0) i; «record» = same-record-eq (x .«record») r (l .0) i }), same-servers-eq t s (l .1))

@@ -1,9 +1,9 @@
 -- The method by the number of its case, the length, the address and the gateway.
 use borrow.Author.Tests.{eq-eqb, ne-eqb}
-use Rattle.round_trip.proofs.Agreeing.{differs, agrees, refused, passed, cases-differ, cases-agree}
+use Rattle.comparing.proofs.Agreeing.{differs, agrees, refused, passed, cases-differ, cases-agree}
 use borrow.Author.Needs.{needs}
-use Rattle.round_trip.proofs.comparing.same_numbers.Statement.{statement}
-use Rattle.round_trip.proofs.comparing.same_numbers.Tie as tie
+use Rattle.comparing.proofs.same_numbers.Statement.{statement}
+use Rattle.comparing.proofs.same_numbers.Tie as tie
 
 pub same-numbers-spec : {M : Type 1} → statement M
 same-numbers-spec =

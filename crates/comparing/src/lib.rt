@@ -1,7 +1,10 @@
-// Comparing join records and their servers, every place of them: specs/Same.
+// Comparing join records and their servers, every place of them.
+//
+// This is document 01's "Two records are equal when they agree in every place, unused ones included." What is compared is in
+// specs/Same, and that it is equality in specs/SameLaws.
 ghost use mathlib.Core.Path.{_≡_};
 ghost use Rattle.text.specs.Words.{same};
-ghost use Rattle.round_trip.specs.Same.{sameFlag, credentialCase, methodCase, ipv6Case, sameName, sameCredential, sameNumbers, sameDomain, sameChoices, sameRecord, sameServers};
+ghost use Rattle.comparing.specs.Same.{sameFlag, credentialCase, methodCase, ipv6Case, sameName, sameCredential, sameNumbers, sameDomain, sameChoices, sameRecord, sameServers};
 use kinds::Method;
 use records::Credential;
 use records::Ipv6;

@@ -1,9 +1,9 @@
 -- Part by part, in the order of `sameRecord`.
-use Rattle.round_trip.specs.Same.{sameRecord}
-use Rattle.round_trip.proofs.Agreeing.{differs, agrees, refused, passed}
+use Rattle.comparing.specs.Same.{sameRecord}
+use Rattle.comparing.proofs.Agreeing.{differs, agrees, refused, passed}
 use borrow.Author.Needs.{needs}
-use Rattle.round_trip.proofs.comparing.same_record.Statement.{statement}
-use Rattle.round_trip.proofs.comparing.same_record.Tie as tie
+use Rattle.comparing.proofs.same_record.Statement.{statement}
+use Rattle.comparing.proofs.same_record.Tie as tie
 
 pub same-record-spec : {M : Type 1} → statement M
 unfolding sameRecord

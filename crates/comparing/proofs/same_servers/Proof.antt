@@ -1,9 +1,9 @@
 -- The loop keeps `ServersAlike`: the servers from here on are the same just when all are.
 use Prim.Native.Nat.{_-_}
-use Rattle.round_trip.proofs.Agreeing.{ServersAlike, alike-first, alike-turn, alike-stop, alike-end}
+use Rattle.comparing.proofs.Agreeing.{ServersAlike, alike-first, alike-turn, alike-stop, alike-end}
 use borrow.Author.Needs.{needs}
-use Rattle.round_trip.proofs.comparing.same_servers.Statement.{statement}
-use Rattle.round_trip.proofs.comparing.same_servers.Tie as tie
+use Rattle.comparing.proofs.same_servers.Statement.{statement}
+use Rattle.comparing.proofs.same_servers.Tie as tie
 
 pub same-servers-spec : {M : Type 1} → statement M
 same-servers-spec =

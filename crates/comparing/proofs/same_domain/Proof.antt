@@ -1,9 +1,9 @@
 -- The length, then the bytes.
 use borrow.Author.Tests.{eq-eqb, ne-eqb}
-use Rattle.round_trip.proofs.Agreeing.{differs, agrees}
+use Rattle.comparing.proofs.Agreeing.{differs, agrees}
 use borrow.Author.Needs.{needs}
-use Rattle.round_trip.proofs.comparing.same_domain.Statement.{statement}
-use Rattle.round_trip.proofs.comparing.same_domain.Tie as tie
+use Rattle.comparing.proofs.same_domain.Statement.{statement}
+use Rattle.comparing.proofs.same_domain.Tie as tie
 
 pub same-domain-spec : {M : Type 1} → statement M
 same-domain-spec =

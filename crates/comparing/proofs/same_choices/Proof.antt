@@ -1,9 +1,9 @@
 -- How many servers, hidden, and IPv6 by the number of its case.
 use borrow.Author.Tests.{eq-eqb, ne-eqb}
-use Rattle.round_trip.proofs.Agreeing.{differs, agrees, refused, passed, cases}
+use Rattle.comparing.proofs.Agreeing.{differs, agrees, refused, passed, cases}
 use borrow.Author.Needs.{needs}
-use Rattle.round_trip.proofs.comparing.same_choices.Statement.{statement}
-use Rattle.round_trip.proofs.comparing.same_choices.Tie as tie
+use Rattle.comparing.proofs.same_choices.Statement.{statement}
+use Rattle.comparing.proofs.same_choices.Tie as tie
 
 pub same-choices-spec : {M : Type 1} → statement M
 same-choices-spec =
