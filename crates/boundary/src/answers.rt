@@ -9,7 +9,7 @@ use crate::CWritten;
 use lookups::TextPlace;
 use rules::Answer;
 use rules::Reading;
-use rules::numbers::number_of;
+use tables::numbers::number_of;
 use writer::Written;
 
 // Document 01's number of an answer.

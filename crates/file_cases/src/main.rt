@@ -27,7 +27,7 @@ fn say_numbers(word: &[u8], first: usize, second: usize) {
 fn say_refused(refusal: Refusal, line: usize) {
     say_numbers(
         b" = refused ",
-        rules::numbers::number_of(refusal) as usize,
+        tables::numbers::number_of(refusal) as usize,
         line,
     );
 }

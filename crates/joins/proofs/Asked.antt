@@ -15,9 +15,10 @@ use Rattle.kinds.specs.declared.Word.the-variants as W
 use Rattle.kinds.specs.declared.WordList.the-variants as L
 use Rattle.names.specs.Names.{networkOf}
 use Rattle.rules.specs.Tables.{keysOf}
-use Rattle.rules.specs.Faults.{Entry}
-use Rattle.rules.specs.Groups.{entryOf, isWord}
-use Rattle.rules.specs.Asking.{iwdEntry, readAs, lineIn, askedOf}
+use Rattle.rules.specs.Asking.{iwdEntry, readAs, askedOf, entryLine}
+use Rattle.rules.specs.Sections.{Entry, entryOf}
+use Rattle.rules.specs.WordNumbers.{isWord}
+use Rattle.tables.specs.KeyPlaces.{keyNames}
 use Rattle.rules.specs.Reading.{sectionsOf}
 use Rattle.rules.specs.declared.Group.the-variants as G
 use Rattle.rules.specs.declared.Refusal.{Refusal}
@@ -90,7 +91,7 @@ module _ {file x : List ℕ} {b : ℕ} {h : Hindrance} (e : h ≡ slotsHindrance
   unfolding keysOf
   no-record q es w =
       rw (← q, e, row-word N.Type w L.ServiceType refl W.Ethernet, row-foreign w, row-line N.Type w, row-line N.Security w)
-      (sym (ap hindranceIn (hindered (isWord W.Ethernet (readAs (wordOf L.ServiceType) (entryOf (word "Type") es))) (lineIn (entryOf (word "Type") es)) (foreign (λ k. entryOf k es)) (lineIn (entryOf (word "Security") es))) ∙ hindrance-back (noRecord (λ k. entryOf k es))))
+      (sym (ap hindranceIn (hindered (isWord W.Ethernet (readAs (wordOf L.ServiceType) (entryOf (word "Type") es))) (entryLine (entryOf (word "Type") es)) (foreign (λ k. entryOf k es)) (entryLine (entryOf (word "Security") es))) ∙ hindrance-back (noRecord (λ k. entryOf k es))))
 
   pub found-hindered : (old : List (List ℕ)) {l : ℕ} → h ≡ H.At l → {r : RecordAnswer} → r ≡ record { answer = Refused NoPlace l; «record» = zeroRecord } → RowAnswered file x b old old r
   found-hindered old q p = record { is = λ es w. rw (no-record q es w) p; servers = λ es w. rw (no-record q es w) }

@@ -23,7 +23,7 @@ use Rattle.kinds.specs.declared.WordList.the-variants as L
 use Rattle.names.specs.Names.{Network, networkOf, iwdNameAnswer}
 use Rattle.names.specs.declared.IwdName.{IwdName}
 use Rattle.rules.specs.Tables.{keysOf}
-use Rattle.rules.specs.Groups.{entryOf}
+use Rattle.rules.specs.Sections.{Entry, entryOf}
 use Rattle.rules.specs.Asking.{iwdEntry, readAs}
 use Rattle.rules.specs.Reading.{sectionsOf}
 use Rattle.rules.specs.declared.Group.the-variants as G

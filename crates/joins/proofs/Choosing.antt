@@ -13,9 +13,9 @@ use Rattle.kinds.specs.Answers.{keyAnswer}
 use Rattle.kinds.specs.declared.Kind.the-variants.{Flag}
 use Rattle.kinds.specs.declared.Ipv4.{Ipv4}
 use Rattle.kinds.specs.declared.Key.{Key}
-use Rattle.rules.specs.Faults.{Entry}
-use Rattle.rules.specs.Groups.{entryOf}
+use Rattle.rules.specs.Sections.{Entry, entryOf}
 use Rattle.rules.specs.Asking.{readAs}
+use Rattle.rules.specs.WordNumbers.{isWord, wordNumber}
 use Rattle.reader.specs.Keys.{groupOf, wordOf as nameOf, kindOf}
 use Rattle.reader.specs.Holds.{Row}
 use Rattle.reader.specs.Closing.{keySlot}

@@ -28,10 +28,11 @@ use Rattle.kinds.specs.declared.WordList.the-variants as L
 use Rattle.names.specs.Names.{NetworkName, Network, networkOf}
 use Rattle.names.specs.Laws.{network-bytes}
 use Rattle.rules.specs.Tables.{groupOf, keysOf}
-use Rattle.rules.specs.Faults.{Entry, given}
-use Rattle.rules.specs.Groups.{entryOf, isWord, typeIs, securityIs, lacks}
+use Rattle.rules.specs.Sections.{Entry, given, entryOf}
+use Rattle.rules.specs.WordNumbers.{isWord}
+use Rattle.rules.specs.Groups.{typeIs, securityIs, lacks}
 use Rattle.rules.specs.Reading.{Name, iwdName, sectionsOf, reading}
-use Rattle.rules.specs.Asking.{iwdEntry, serviceAt, readAs, lineIn, asked}
+use Rattle.rules.specs.Asking.{iwdEntry, serviceAt, readAs, entryLine, asked}
 use Rattle.rules.specs.Acceptance.{accepted-obeys}
 use Rattle.rules.specs.GoodAnswers.{asked-reading}
 use Rattle.rules.specs.GoodValues.{GoodValue, group-value, service-value}
@@ -260,9 +261,9 @@ record-unwired : (at : List ℕ → Option Entry) → noRecord at ≡ none → w
 record-unwired at e = go (wired at) e
   where
     go : (b : Bool) →
-        orElse (only b (some (lineIn (at (word "Type"))))) (only (foreign at) (some (lineIn (at (word "Security"))))) ≡ none →
+        orElse (only b (some (entryLine (at (word "Type"))))) (only (foreign at) (some (entryLine (at (word "Security"))))) ≡ none →
         b ≡ false
-    go true e = absurd (Option·none-ne-some (lineIn (at (word "Type"))) (sym e))
+    go true e = absurd (Option·none-ne-some (entryLine (at (word "Type"))) (sym e))
     go false e = refl
 
 pub service-formed : (name file : List ℕ) (w : ℕ) {j : Join} → serviceJoined name file w ≡ joined j → WellFormed j

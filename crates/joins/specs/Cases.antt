@@ -17,7 +17,8 @@ use Rattle.kinds.specs.Typed.{typed, stringJudged, kindJudged, judged}
 use Rattle.lines.specs.Lines.{bracketOf, settingOf, lineOf, valueStart}
 use Rattle.names.specs.Names.{nameOf, networkOf}
 use Rattle.rules.specs.Tables.{isService, groupOf, keysOf}
-use Rattle.rules.specs.Faults.{fault, after}
+use Rattle.rules.specs.Faults.{fault}
+use Rattle.rules.specs.Sections.{withLine}
 use Rattle.rules.specs.Groups.{serviceFault, fileFault}
 use Rattle.rules.specs.Reading.{lineFault, grown, sectionsOf, reading}
 use Rattle.rules.specs.declared.Refusal.the-variants.{Missing, NoPlace, NoService}
@@ -72,7 +73,7 @@ abbrev iwdAnswer : IwdCase → Joined
 iwdAnswer c = c .2
 
 pub iwd-table : map ofIwd iwdCases ≡ map iwdAnswer iwdCases
-unfolding reading lineFault grown sectionsOf serviceFault fileFault fault after isService groupOf keysOf nameOf networkOf isKeyByte isPlain bracketOf settingOf lineOf valueStart typed stringJudged kindJudged judged flag wordOf ipv4 entries colonPairs mac key ssid string value number address prefixLength lengthUpTo maskLength netmask addresses nibble unhex unescaping follow utf8From text
+unfolding reading lineFault grown sectionsOf serviceFault fileFault fault withLine isService groupOf keysOf nameOf networkOf isKeyByte isPlain bracketOf settingOf lineOf valueStart typed stringJudged kindJudged judged flag wordOf ipv4 entries colonPairs mac key ssid string value number address prefixLength lengthUpTo maskLength netmask addresses nibble unhex unescaping follow utf8From text
 iwd-table = refl
 
 -- ---- ConnMan
@@ -101,5 +102,5 @@ abbrev serviceAnswer : ServiceCase → Joined
 serviceAnswer c = c .2
 
 pub service-table : map ofService serviceCases ≡ map serviceAnswer serviceCases
-unfolding reading lineFault grown sectionsOf serviceFault fileFault fault after isService groupOf keysOf nameOf networkOf isKeyByte isPlain bracketOf settingOf lineOf valueStart typed stringJudged kindJudged judged flag wordOf ipv4 entries colonPairs mac key ssid string value number address prefixLength lengthUpTo maskLength netmask addresses nibble unhex unescaping follow utf8From text
+unfolding reading lineFault grown sectionsOf serviceFault fileFault fault withLine isService groupOf keysOf nameOf networkOf isKeyByte isPlain bracketOf settingOf lineOf valueStart typed stringJudged kindJudged judged flag wordOf ipv4 entries colonPairs mac key ssid string value number address prefixLength lengthUpTo maskLength netmask addresses nibble unhex unescaping follow utf8From text
 service-table = refl

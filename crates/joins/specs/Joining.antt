@@ -9,9 +9,10 @@ use Rattle.text.specs.Options.{orElse}
 use Rattle.text.specs.OptionLaws.{only-some}
 use Rattle.text.specs.declared.Dialect.the-variants as D
 use Rattle.names.specs.Names.{connmanName}
-use Rattle.rules.specs.Faults.{Entry, Section, serves, services}
-use Rattle.rules.specs.Groups.{faultAt, lacks, clashes, lackOrClash, serviceFault, servicesFault}
-use Rattle.rules.specs.Reading.{Name, connmanFile, nameIn, groupsFault, sectionsOf, settings, reading}
+use Rattle.rules.specs.Sections.{Entry, Section, serves, services, settings}
+use Rattle.rules.specs.Faults.{faultAt}
+use Rattle.rules.specs.Groups.{lacks, clashes, lackOrClash, serviceFault, servicesFault}
+use Rattle.rules.specs.Reading.{Name, connmanFile, nameIn, groupsFault, sectionsOf, reading}
 use Rattle.rules.specs.Asking.{firstOr, serviceAt, askedOf}
 use Rattle.rules.specs.Acceptance.{obeys-accepted, accepted-obeys}
 use Rattle.rules.specs.GoodAnswers.{asked-service}

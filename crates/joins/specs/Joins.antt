@@ -15,9 +15,9 @@ use Rattle.kinds.specs.declared.Word.{Word}
 use Rattle.kinds.specs.declared.Word.the-variants as W
 use Rattle.names.specs.Names.{Network, networkOf}
 use Rattle.rules.specs.Tables.{keysOf}
-use Rattle.rules.specs.Faults.{Entry}
-use Rattle.rules.specs.Groups.{entryOf, isWord}
-use Rattle.rules.specs.Asking.{iwdEntry, serviceAt, lineIn, asked, askedOf}
+use Rattle.rules.specs.Sections.{Entry, entryOf}
+use Rattle.rules.specs.WordNumbers.{isWord}
+use Rattle.rules.specs.Asking.{iwdEntry, serviceAt, entryLine, asked, askedOf}
 use Rattle.rules.specs.ListedValues.{valueOf, groupValue}
 use Rattle.rules.specs.declared.Group.the-variants as G
 use Rattle.rules.specs.Reading.{sectionsOf, reading}
@@ -135,7 +135,7 @@ foreign at = foreignSecurity (valueOf G.Service at (word "Security"))
 
 abbrev pub noRecord : (List ℕ → Option Entry) → Option ℕ
 noRecord at =
-    orElse (only (wired at) (some (lineIn (at (word "Type"))))) (only (foreign at) (some (lineIn (at (word "Security")))))
+    orElse (only (wired at) (some (entryLine (at (word "Type"))))) (only (foreign at) (some (entryLine (at (word "Security")))))
 
 -- "A service needs a key when its credential is not none."
 abbrev pub secretGiven : Secret → Bool

@@ -7,8 +7,8 @@ use mathlib.Core.Option.{Option}
 use Rattle.text.specs.declared.Dialect.the-variants.{Iwd, ConnMan}
 use Rattle.kinds.specs.declared.Ipv4.{Ipv4}
 use Rattle.kinds.specs.declared.Word.the-variants as W
-use Rattle.rules.specs.Faults.{Entry}
-use Rattle.rules.specs.Groups.{entryOf, entriesIn}
+use Rattle.tables.specs.KeyPlaces.{keyNames}
+use Rattle.rules.specs.Sections.{Entry, entryOf, entriesIn}
 use Rattle.rules.specs.Reading.{sectionsOf}
 use Rattle.rules.specs.declared.Group.the-variants as G
 use Rattle.reader.specs.History.{base}

@@ -12,7 +12,7 @@ use Rattle.text.specs.declared.Dialect.{Dialect}
 use Rattle.utf8.specs.Utf8.{valueText}
 use Rattle.lines.specs.Lines.{setting, lineOf}
 use Rattle.kinds.specs.Kinds as K
-use Rattle.rules.specs.Faults.{Entry}
+use Rattle.rules.specs.Sections.{Entry}
 use Rattle.rules.specs.Reading.{reading}
 use Rattle.rules.specs.declared.Answer.the-variants as A
 use Rattle.rules.specs.declared.Reading.the-variants.{Refused}

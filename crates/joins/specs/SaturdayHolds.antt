@@ -21,8 +21,8 @@ use Rattle.kinds.specs.declared.Kind.{Kind}
 use Rattle.kinds.specs.declared.Kind.the-variants as Kind
 use Rattle.names.specs.Names.{networkOf}
 use Rattle.rules.specs.Tables.{groupOf, keysOf, kindOf}
-use Rattle.rules.specs.Faults.{Entry, Section, given, keyFault, valueFault, fault}
-use Rattle.rules.specs.Groups.{Fault}
+use Rattle.rules.specs.Sections.{Entry, Section, given}
+use Rattle.rules.specs.Faults.{keyFault, valueFault, fault, Fault}
 use Rattle.rules.specs.Reading.{Name, nameIn, afterLine, lineFault, sectionsOf, reading}
 use Rattle.rules.specs.Asking.{iwdEntry, readAs, asked}
 use Rattle.rules.specs.GoodAnswers.{asked-reading}

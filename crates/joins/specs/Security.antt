@@ -14,8 +14,9 @@ use Rattle.kinds.specs.declared.Word.{Word}
 use Rattle.kinds.specs.declared.Word.the-variants as W
 use Rattle.kinds.specs.declared.WordList.the-variants as L
 use Rattle.rules.specs.Tables.{keysOf}
-use Rattle.rules.specs.Faults.{Entry, given}
-use Rattle.rules.specs.Groups.{isWord, typeIs, securityIs, wireless}
+use Rattle.rules.specs.Sections.{Entry, given}
+use Rattle.rules.specs.WordNumbers.{isWord}
+use Rattle.rules.specs.Groups.{typeIs, securityIs, wireless}
 use Rattle.rules.specs.Reading.{sectionsOf}
 use Rattle.rules.specs.Asking.{serviceAt}
 use Rattle.rules.specs.ListedValues.{valueOf}

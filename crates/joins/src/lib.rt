@@ -25,8 +25,8 @@ use rules::Answer;
 use rules::Group;
 use rules::Reading;
 use rules::Refusal;
-use rules::asking;
 use settings::values;
+use tables::asking;
 use text::Dialect;
 
 // The answer, and the record where it is good; a refused answer's record is all zero.

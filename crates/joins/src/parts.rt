@@ -12,6 +12,7 @@ ghost use Rattle.settings.specs.Rows.{RowOf};
 ghost use Rattle.joins.specs.Joins.{secretFrom, staticOrDhcp, orFalse, enabledIpv6};
 ghost use Rattle.joins.specs.Answers.{phraseAnswer, domainAnswer, loginAnswer, loginOf, numbersOf, numbersAnswer, nameOf, choiceIn, or24};
 ghost use Rattle.joins.specs.Places.{slotIpv6, slotsForeign, slotsHindrance};
+ghost use Rattle.rules.specs.WordNumbers.{isWord};
 use crate::Domain;
 use crate::Hindrance;
 use crate::Login;

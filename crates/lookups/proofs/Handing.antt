@@ -11,12 +11,11 @@ use Rattle.text.specs.declared.Dialect.{Dialect}
 use Rattle.text.specs.declared.Dialect.the-variants.{ConnMan}
 use Rattle.kinds.specs.declared.Kind.{Kind}
 use Rattle.rules.specs.Tables as T
-use Rattle.rules.specs.Faults.{Entry}
-use Rattle.rules.specs.Groups.{entryOf, entriesIn}
+use Rattle.rules.specs.Sections.{entryOf, entriesIn, Entry}
 use Rattle.rules.specs.Reading.{sectionsOf, reading}
 use Rattle.rules.specs.Asking.{serviceAt, asked, askedOf}
 use Rattle.rules.specs.ListedValues.{groupName}
-use Rattle.rules.specs.GivenValues.{named-group}
+use Rattle.rules.specs.GivenValues.{group-of-name}
 use Rattle.rules.specs.declared.Answer.{Answer}
 use Rattle.rules.specs.declared.Answer.the-variants.{Good, Refused}
 use Rattle.rules.specs.declared.Group.{Group}
@@ -55,7 +54,7 @@ answer-placed {file = file} k (Refused r l) row e = rw e (record { is = refl; wi
 
 module _ {d : Dialect} {name file y : List ℕ} {r : Reading} (h : Reads d name file y r) {g : Group} {k : KeyName} (s : StandsOnce d g k) {a : Answer} (e : a ≡ asked r) where
   group-key-row : a ≡ Good → Row d file y (base g 0) (groupOf k) (entriesIn (groupName g) (sectionsOf d file))
-  group-key-row q = rw (s .group) (found-group (file-found h e q) g (subst (λ (b : Dialect). T.groupOf b (groupName g) ≡ some g) (s .dialect) (named-group g (s .once))) (s .once))
+  group-key-row q = rw (s .group) (found-group (file-found h e q) g (subst (λ (b : Dialect). T.groupOf b (groupName g) ≡ some g) (s .dialect) (group-of-name g (s .once))) (s .once))
 
   pub group-in : a ≡ Good → (0 ≤ 8) × KeyIn file y (base g 0) k
   group-in q = (omega arith, row-in k (group-key-row q) (record { long = file-found h e q .kept .long; row = base-few g 0 (omega arith) }))

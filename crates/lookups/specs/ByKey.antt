@@ -7,8 +7,8 @@ use lib.ListN.{length}
 use Rattle.text.specs.Parts.{part}
 use Rattle.text.specs.declared.Dialect.{Dialect}
 use Rattle.rules.specs.Numbers.{numberOf}
-use Rattle.rules.specs.Faults.{serves}
-use Rattle.rules.specs.ListedValues.{dialectOf}
+use Rattle.rules.specs.Sections.{serves}
+use Rattle.rules.specs.ListedValues.{groupDialect}
 use Rattle.rules.specs.declared.Answer.{Answer}
 use Rattle.rules.specs.declared.Answer.the-variants.{Good, Refused}
 use Rattle.rules.specs.declared.Group.{Group}
@@ -20,7 +20,7 @@ use Rattle.lookups.specs.declared.TextPlace.{TextPlace}
 -- a key of a group that stands once in a file of its dialect
 pub record StandsOnce (d : Dialect) (g : Group) (k : KeyName) : Type 0 where
   pub group : groupOf k ≡ g
-  pub dialect : dialectOf g ≡ d
+  pub dialect : groupDialect g ≡ d
   pub once : serves g ≡ false
 
 -- where the value of the setting that a slot keeps stands

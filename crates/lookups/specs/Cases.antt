@@ -15,7 +15,8 @@ use Rattle.lines.specs.Lines.{bracketOf, settingOf, lineOf, valueStart}
 use Rattle.names.specs.Names.{nameOf, networkOf}
 use Rattle.rules.specs.Numbers.{answerNumber}
 use Rattle.rules.specs.Tables.{isService, groupOf, keysOf}
-use Rattle.rules.specs.Faults.{fault, after}
+use Rattle.rules.specs.Faults.{fault}
+use Rattle.rules.specs.Sections.{withLine}
 use Rattle.rules.specs.Groups.{serviceFault, fileFault}
 use Rattle.rules.specs.Reading.{lineFault, grown, sectionsOf, reading}
 use Rattle.lookups.specs.Lookups.{Lookup, iwdLookup, globalLookup, serviceLookup, lookupLine, stretch}
@@ -61,5 +62,5 @@ abbrev answer : Case → Handed
 answer c = c .3
 
 pub table : map computed cases ≡ map answer cases
-unfolding reading lineFault grown sectionsOf serviceFault fileFault fault after isService groupOf keysOf nameOf networkOf isKeyByte isPlain bracketOf settingOf lineOf valueStart typed stringJudged kindJudged judged flag wordOf ipv4 entries colonPairs mac key ssid string value number address prefixLength lengthUpTo maskLength netmask addresses nibble unhex unescaping follow utf8From text
+unfolding reading lineFault grown sectionsOf serviceFault fileFault fault withLine isService groupOf keysOf nameOf networkOf isKeyByte isPlain bracketOf settingOf lineOf valueStart typed stringJudged kindJudged judged flag wordOf ipv4 entries colonPairs mac key ssid string value number address prefixLength lengthUpTo maskLength netmask addresses nibble unhex unescaping follow utf8From text
 table = refl

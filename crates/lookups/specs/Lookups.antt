@@ -9,10 +9,9 @@ use Rattle.text.specs.Words.{word}
 use Rattle.text.specs.declared.Dialect.{Dialect}
 use Rattle.text.specs.declared.Dialect.the-variants.{Iwd, ConnMan}
 use Rattle.rules.specs.Numbers.{answerNumber}
-use Rattle.rules.specs.Faults.{Entry}
-use Rattle.rules.specs.Groups.{entryOf}
+use Rattle.rules.specs.Sections.{Entry, entryOf}
 use Rattle.rules.specs.Reading.{sectionsOf, reading}
-use Rattle.rules.specs.Asking.{iwdEntry, serviceAt, lineIn, startIn, asked, askedOf}
+use Rattle.rules.specs.Asking.{iwdEntry, serviceAt, entryLine, entryStart, asked, askedOf}
 use Rattle.rules.specs.declared.Answer.{Answer}
 use Rattle.rules.specs.declared.Answer.the-variants.{Good, Refused}
 use Rattle.lookups.specs.declared.TextPlace.{TextPlace}
@@ -48,7 +47,7 @@ serviceLookup w key name file = lookupOf (askedOf w (reading ConnMan name file))
 
 -- the refusal's line, or the setting's; "an absent one is .. line 0"
 abbrev pub lookupLine : Answer → Option Entry → ℕ
-lookupLine Good o = lineIn o
+lookupLine Good o = entryLine o
 lookupLine (Refused r l) o = l
 
 -- "the stretch of the lent file where it stands"; "an absent one is the empty stretch"
@@ -67,8 +66,8 @@ lookupPlace k =
     record {
       number = answerNumber (k .answer);
       line = lookupLine (k .answer) (k .setting);
-      start = startIn (k .setting);
-      end = startIn (k .setting) + length (settingValue (k .setting));
+      start = entryStart (k .setting);
+      end = entryStart (k .setting) + length (settingValue (k .setting));
     }
 
 -- a lookup's place: it lies in the file, and its value stands there

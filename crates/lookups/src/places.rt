@@ -19,7 +19,7 @@ use reader::services::start_of;
 use reader::services::value_of;
 use rules::Answer;
 use rules::Group;
-use rules::asking;
+use tables::asking;
 use text::Dialect;
 
 // Where the value of a key stands, in the row that starts at a slot.
@@ -51,7 +51,7 @@ fn answered_place(
     match answer {
         Answer::Good => key_place(file, x, base_of(g, n), k),
         Answer::Refused(refusal, at) => TextPlace {
-            number: rules::numbers::number_of(refusal),
+            number: tables::numbers::number_of(refusal),
             line: at,
             start: 0,
             end: 0,

@@ -7,7 +7,7 @@ use Rattle.text.specs.declared.Dialect.the-variants.{ConnMan}
 use Rattle.addresses.specs.Addresses.{addresses, rows}
 use Rattle.addresses.specs.declared.Separator.the-variants.{Comma}
 use Rattle.rules.specs.Tables.{keysOf}
-use Rattle.rules.specs.Groups.{entryOf}
+use Rattle.rules.specs.Sections.{entryOf}
 use Rattle.rules.specs.Asking.{askedOf}
 use Rattle.rules.specs.declared.Answer.{Answer}
 use Rattle.rules.specs.declared.Answer.the-variants.{Good, Refused}
@@ -26,7 +26,7 @@ use Rattle.settings.proofs.Rowwise.{addresses-none, row-read}
 use Rattle.records.specs.Record.{Join, laid, joined}
 use Rattle.records.specs.Laws.{joined-laid}
 use Rattle.records.specs.declared.JoinRecord.{JoinRecord}
-use Rattle.written.specs.Parts.{Within}
+use Rattle.written.specs.RecordParts.{CountsWithin}
 use Rattle.writer.specs.Writing.{refuses, writingOf, writtenAnswer, Writes}
 use Rattle.writer.specs.declared.Written.{Written}
 use Rattle.joins.specs.Joins.{serviceJoin}
@@ -43,8 +43,8 @@ refusal-writes p = record { answer = p; name = refl; file = refl }
 
 -- ---- a service that there is
 
-pub record-within : {file x : List ℕ} {b : ℕ} {j : JoinRecord} → RowOf ConnMan file x b G.Service → Typed ConnMan file x b G.Service (λ at. laid (serviceJoin at)) j → Within j
-record-within h t = subst Within (sym (t .is (h .settings) (h .row))) (join-within (λ k. entryOf k (h .settings)))
+pub record-within : {file x : List ℕ} {b : ℕ} {j : JoinRecord} → RowOf ConnMan file x b G.Service → Typed ConnMan file x b G.Service (λ at. laid (serviceJoin at)) j → CountsWithin j
+record-within h t = subst CountsWithin (sym (t .is (h .settings) (h .row))) (join-within (λ k. entryOf k (h .settings)))
 
 module _ {file t : List ℕ} {b l : ℕ} (u : RowLine file t b (λ at. earliest (unplaced at)) l) (n f : List ℕ) where
   pub found-unplaced : 0 < l → {a : Written} → a ≡ writtenAnswer (refuses NoPlace l) → MovesBy file t b n f n f a

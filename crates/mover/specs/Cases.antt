@@ -15,7 +15,8 @@ use Rattle.kinds.specs.Typed.{typed, kindJudged, judged}
 use Rattle.lines.specs.Lines.{bracketOf, settingOf, lineOf, valueStart}
 use Rattle.names.specs.Names.{stem}
 use Rattle.rules.specs.Tables.{isService, groupOf, keysOf}
-use Rattle.rules.specs.Faults.{fault, after}
+use Rattle.rules.specs.Faults.{fault}
+use Rattle.rules.specs.Sections.{withLine}
 use Rattle.rules.specs.Groups.{serviceFault}
 use Rattle.rules.specs.Reading.{lineFault, grown, sectionsOf, reading}
 use Rattle.rules.specs.declared.Refusal.the-variants.{NoPlace, NoService, ShortBuffer, FileName, Missing}
@@ -44,5 +45,5 @@ worked =
     ∷ []
 
 pub worked-moves : worked ≡ writes (word "Desk 4.psk") (word "[Settings]\nHidden=true\n[Security]\nPassphrase=low\\\\tide 88\n[IPv4]\nAddress=10.20.0.14\nNetmask=255.255.255.0\nGateway=10.20.0.1\nDNS=10.20.0.2 10.20.0.3\n[IPv6]\nEnabled=false\n") ∷ refuses ShortBuffer 0 ∷ refuses ShortBuffer 0 ∷ refuses NoService 0 ∷ refuses FileName 0 ∷ refuses Missing 1 ∷ refuses NoPlace 2 ∷ refuses NoPlace 4 ∷ []
-unfolding moving reading lineFault grown sectionsOf serviceFault fault after isService groupOf keysOf stem isKeyByte isPlain bracketOf settingOf lineOf valueStart typed kindJudged judged flag wordOf ipv4 entries colonPairs mac ssid string value number address prefixLength lengthUpTo maskLength netmask addresses decimal dotted maskBytes nibble unhex writing follow utf8From text nameText fileText
+unfolding moving reading lineFault grown sectionsOf serviceFault fault withLine isService groupOf keysOf stem isKeyByte isPlain bracketOf settingOf lineOf valueStart typed kindJudged judged flag wordOf ipv4 entries colonPairs mac ssid string value number address prefixLength lengthUpTo maskLength netmask addresses decimal dotted maskBytes nibble unhex writing follow utf8From text nameText fileText
 worked-moves = refl

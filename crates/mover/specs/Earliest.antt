@@ -8,7 +8,7 @@ use mathlib.Core.List.{List, [], _∷_, _++_}
 use mathlib.Core.Option.{Option, none, some, Option·none-ne-some, Option·some-injective}
 use lib.Dec.{leb}
 use Rattle.text.specs.Words.{word}
-use Rattle.rules.specs.Faults.{Entry}
+use Rattle.rules.specs.Sections.{Entry}
 use Rattle.written.specs.Written.{hasPlace}
 use Rattle.joins.specs.Joins.{wired, foreign, serviceJoin}
 use Rattle.mover.specs.Moves.{lineIf, lineGiven, unplaced, least, earliest}

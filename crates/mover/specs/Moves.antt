@@ -8,8 +8,8 @@ use lib.Dec.{leb}
 use Rattle.text.specs.Words.{word}
 use Rattle.text.specs.Options.{isSome}
 use Rattle.text.specs.declared.Dialect.the-variants as D
-use Rattle.rules.specs.Faults.{Entry}
-use Rattle.rules.specs.Asking.{lineIn, askedOf}
+use Rattle.rules.specs.Sections.{Entry}
+use Rattle.rules.specs.Asking.{entryLine, askedOf}
 use Rattle.rules.specs.Reading.{reading}
 use Rattle.rules.specs.declared.Refusal.the-variants.{NoPlace}
 use Rattle.rules.specs.declared.Answer.{Answer}
@@ -23,7 +23,7 @@ use Rattle.joins.specs.Joins.{wired, foreign, serviceJoin, settingOf}
 -- a setting's line, where it is such a line
 abbrev pub lineIf : Bool → Option Entry → List ℕ
 lineIf false e = []
-lineIf true e = lineIn e ∷ []
+lineIf true e = entryLine e ∷ []
 
 -- a setting that has no place whatever its value
 abbrev pub lineGiven : Option Entry → List ℕ

@@ -14,10 +14,10 @@ use Rattle.kinds.specs.Kinds as K
 use Rattle.kinds.specs.Kinds.{IPv4, dhcp, off, static, ipv4, ssid, string}
 use Rattle.kinds.specs.Values.{string-size, ssid-size, addresses-good, Ipv4Good, ipv4-good}
 use Rattle.rules.specs.Tables.{keysOf}
-use Rattle.rules.specs.Faults.{Entry}
+use Rattle.rules.specs.Sections.{Entry}
 use Rattle.rules.specs.Asking.{readAs}
 use Rattle.records.specs.Record.{passphraseOf, lengthOf, laid}
-use Rattle.written.specs.Parts.{Within}
+use Rattle.written.specs.RecordParts.{CountsWithin}
 use Rattle.joins.specs.Joins.{secretFrom, ipv4OrDhcp, nameFrom, serviceJoin}
 
 -- what a kind reads has at most m elements
@@ -51,7 +51,7 @@ numbers-short (some e) = go (ipv4 (e .value)) refl
     go none q = omega arith
     go (some i) q = good i (ipv4-good (e .value) q)
 
-pub join-within : (at : List ℕ → Option Entry) → Within (laid (serviceJoin at))
+pub join-within : (at : List ℕ → Option Entry) → CountsWithin (laid (serviceJoin at))
 unfolding keysOf
 join-within at =
     record {

@@ -11,7 +11,7 @@ use Rattle.text.specs.Laws.{inside}
 use Rattle.text.specs.Options.{only, orElse}
 use Rattle.text.specs.Words.{word}
 use Rattle.text.specs.declared.Dialect.the-variants as D
-use Rattle.rules.specs.Asking.{lineIn, askedOf}
+use Rattle.rules.specs.Asking.{entryLine, askedOf}
 use Rattle.rules.specs.Reading.{reading}
 use Rattle.rules.specs.declared.Answer.{Answer}
 use Rattle.rules.specs.declared.Answer.the-variants as A
@@ -48,7 +48,7 @@ module _ {name file : List ℕ} {w : ℕ} (s : Service name file w) where
     placed-record : noRecord (settingOf w file) ≡ none
     placed-record =
         let h = unplaced-none (settingOf w file) p in
-        ap₂ (λ (a b : Bool). orElse (only a (some (lineIn (settingOf w file (word "Type"))))) (only b (some (lineIn (settingOf w file (word "Security")))))) (h .wifi) (h .security)
+        ap₂ (λ (a b : Bool). orElse (only a (some (entryLine (settingOf w file (word "Type"))))) (only b (some (entryLine (settingOf w file (word "Security")))))) (h .wifi) (h .security)
 
     -- it has a record
     pub move-joined : serviceJoined name file w ≡ joined (serviceJoin (settingOf w file))

@@ -13,8 +13,8 @@ use reader::judging::base_of;
 use rules::Answer;
 use rules::Group;
 use rules::Refusal;
-use rules::asking;
 use settings::values;
+use tables::asking;
 use text::Dialect;
 use writer::Written;
 

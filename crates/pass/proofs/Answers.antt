@@ -14,8 +14,8 @@ use Rattle.text.specs.Parts.{lines}
 use Rattle.text.specs.declared.Dialect.{Dialect}
 use Rattle.text.specs.declared.Dialect.the-variants.{Iwd, ConnMan}
 use Rattle.names.specs.Names.{Network, networkOf, connmanName}
-use Rattle.rules.specs.Faults.{Section}
-use Rattle.rules.specs.Groups.{Fault}
+use Rattle.rules.specs.Sections.{Section}
+use Rattle.rules.specs.Faults.{Fault}
 use Rattle.rules.specs.Reading.{Name, iwdName, connmanFile, lineFault, grown, sectionsOf, nameIn, groupsFault, verdict, readingOf, reading}
 use Rattle.rules.specs.declared.Reading.{Reading}
 use Rattle.rules.specs.declared.Reading.the-variants.{Accepted, Refused}

@@ -8,8 +8,7 @@ use mathlib.Core.Option.{some}
 use Rattle.text.specs.declared.Dialect.{Dialect}
 use Rattle.text.specs.declared.Dialect.the-variants.{ConnMan}
 use Rattle.rules.specs.Tables.{groupOf}
-use Rattle.rules.specs.Faults.{Entry, Section, serves}
-use Rattle.rules.specs.Groups.{entriesIn}
+use Rattle.rules.specs.Sections.{Entry, Section, serves, entriesIn}
 use Rattle.rules.specs.Reading.{sectionsOf, reading}
 use Rattle.rules.specs.Asking.{serviceAt, asked, askedOf}
 use Rattle.rules.specs.ListedValues.{groupName}

@@ -14,10 +14,10 @@ use Rattle.text.specs.Words.{place}
 use Rattle.text.specs.declared.Dialect.{Dialect}
 use Rattle.lines.specs.Lines.{Line, blank, comment, header, setting, broken, lineOf, valueStart}
 use Rattle.rules.specs.Tables.{groupOf}
-use Rattle.rules.specs.Lookups.{keyNames}
-use Rattle.rules.specs.Faults.{Entry, Section, fault, after, withEntry, withGroup}
-use Rattle.rules.specs.Groups.{Fault}
-use Rattle.rules.specs.Reading.{afterLine, lineFault, grown, settings}
+use Rattle.tables.specs.KeyPlaces.{keyNames}
+use Rattle.rules.specs.Sections.{Entry, Section, withLine, withEntry, withGroup, settings}
+use Rattle.rules.specs.Faults.{fault, Fault}
+use Rattle.rules.specs.Reading.{afterLine, lineFault, grown}
 use Rattle.rules.specs.declared.Group.{Group}
 use Rattle.rules.specs.declared.Group.the-variants as G
 use Rattle.rules.specs.declared.Refusal.{Refusal}
@@ -88,8 +88,8 @@ group-more : (n : List ℕ) (o : Option Group) (l s : ℕ) (gs : List Section) �
 group-more n none l s gs = omega arith
 group-more n (some g) l s gs = omega arith
 
-settings-more : (d : Dialect) (n s v : ℕ) (p : Line) (gs : List Section) → settings (after d n s v p gs) ≤ settings gs + 1
-unfolding after
+settings-more : (d : Dialect) (n s v : ℕ) (p : Line) (gs : List Section) → settings (withLine d n s v p gs) ≤ settings gs + 1
+unfolding withLine
 settings-more d n s v blank gs = omega arith
 settings-more d n s v comment gs = omega arith
 settings-more d n s v (broken b) gs = omega arith

@@ -6,7 +6,7 @@ use mathlib.Core.Option.{Option, none, some}
 use lib.ListN.{replicate}
 use Rattle.text.specs.Parts.{lines}
 use Rattle.text.specs.declared.Dialect.{Dialect}
-use Rattle.rules.specs.Faults.{Section}
+use Rattle.rules.specs.Sections.{Section}
 use Rattle.rules.specs.Reading.{Name, lineFault, grown, sectionsOf, nameIn, readingOf, reading}
 use Rattle.rules.specs.declared.Reading.{Reading}
 use Rattle.rules.specs.declared.Reading.the-variants.{Accepted, Refused}

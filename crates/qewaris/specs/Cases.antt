@@ -14,17 +14,17 @@ use Rattle.utf8.specs.Utf8.{follow, utf8From, text}
 use Rattle.escapes.specs.Escapes.{reading as unescaping, writing, unescape, escape}
 use Rattle.hex.specs.Hex.{nibble, unhex, digit, hex}
 use Rattle.addresses.specs.Addresses.{value, number, address, prefixLength, lengthUpTo, maskLength, netmask, addresses}
-use Rattle.kinds.specs.Kinds.{flag, wordOf, ipv4, entries, colonPairs, mac, key, ssid, string}
+use Rattle.kinds.specs.Kinds.{flag, wordOf, ipv4, entries, colonPairs, mac, key, ssid, string, dhcp, static}
 use Rattle.kinds.specs.Typed.{typed, stringJudged, kindJudged, judged}
 use Rattle.lines.specs.Lines.{bracketOf, settingOf, lineOf, valueStart}
 use Rattle.names.specs.Names.{nameOf, networkOf, stem}
-use Rattle.kinds.specs.Kinds.{dhcp, static}
 use Rattle.records.specs.Record.{Secret, noSecret, passphrase}
 use Rattle.records.specs.declared.Ipv6.the-variants.{Auto}
 use Rattle.joins.specs.Joins.{Joined, joined, iwdJoined}
 use Rattle.rules.specs.Numbers.{Seen, seenOf}
 use Rattle.rules.specs.Tables.{isService, groupOf, keysOf}
-use Rattle.rules.specs.Faults.{fault, after}
+use Rattle.rules.specs.Faults.{fault}
+use Rattle.rules.specs.Sections.{withLine}
 use Rattle.rules.specs.Groups.{serviceFault, fileFault}
 use Rattle.rules.specs.Reading.{lineFault, grown, sectionsOf, reading}
 use Rattle.rules.specs.declared.Refusal.the-variants.{NoPlace}
@@ -99,5 +99,5 @@ abbrev answer : Case → Answer
 answer c = c .2
 
 pub table : map computed cases ≡ map answer cases
-unfolding reading lineFault grown sectionsOf serviceFault fileFault fault after isService groupOf keysOf nameOf networkOf stem isKeyByte isPlain bracketOf settingOf lineOf valueStart typed stringJudged kindJudged judged flag wordOf ipv4 entries colonPairs mac key ssid string value number address prefixLength lengthUpTo maskLength netmask addresses nibble unhex digit hex unescaping writing follow utf8From text nameText moving
+unfolding reading lineFault grown sectionsOf serviceFault fileFault fault withLine isService groupOf keysOf nameOf networkOf stem isKeyByte isPlain bracketOf settingOf lineOf valueStart typed stringJudged kindJudged judged flag wordOf ipv4 entries colonPairs mac key ssid string value number address prefixLength lengthUpTo maskLength netmask addresses nibble unhex digit hex unescaping writing follow utf8From text nameText moving
 table = refl

@@ -12,9 +12,9 @@ use Rattle.text.specs.Parts.{lines}
 use Rattle.text.specs.Words.{word}
 use Rattle.text.specs.declared.Dialect.{Dialect}
 use Rattle.text.specs.declared.Dialect.the-variants.{Iwd, ConnMan}
-use Rattle.rules.specs.AnswerRows.{Row, bare, lined, listed, ownRows}
+use Rattle.rules.specs.AnswerRows.{AnswerRow, bare, lined, hasRow, ownRows}
 use Rattle.rules.specs.Tables.{groupOf, kindOf}
-use Rattle.rules.specs.Faults.{Entry, given}
+use Rattle.rules.specs.Sections.{Entry, given}
 use Rattle.rules.specs.Numbers.{numberOf, seenOf, answerNumber, answerLine}
 use Rattle.rules.specs.Reading.{sectionsOf, reading}
 use Rattle.rules.specs.Asking.{iwdEntry, serviceAt, asked}
@@ -77,22 +77,22 @@ answerOf (move name file w n f) = writtenAnswer (moving name file w n f) .answer
 
 -- the rows of the table that a call can be answered with: "0 accepted"; the file's own; 18, "service number is 0 or
 -- above the count"; 16, with its line, of a service; "The writer asks 19, 16, 17."
-abbrev pub serviceRefusals : List Row
+abbrev pub serviceRefusals : List AnswerRow
 serviceRefusals = ownRows ConnMan ++ (bare 18 ∷ [])
 
-abbrev pub serviceRows : List Row
+abbrev pub serviceRows : List AnswerRow
 serviceRows = bare 0 ∷ serviceRefusals
 
-abbrev pub serviceRecordRows : List Row
+abbrev pub serviceRecordRows : List AnswerRow
 serviceRecordRows = serviceRows ++ (lined 16 ∷ [])
 
-abbrev pub writerRows : List Row
+abbrev pub writerRows : List AnswerRow
 writerRows = bare 0 ∷ bare 19 ∷ bare 16 ∷ bare 17 ∷ []
 
-abbrev pub moveRows : List Row
+abbrev pub moveRows : List AnswerRow
 moveRows = serviceRecordRows ++ (bare 17 ∷ [])
 
-abbrev pub rowsOf : Call → List Row
+abbrev pub rowsOf : Call → List AnswerRow
 rowsOf (check d name file) = bare 0 ∷ ownRows d
 rowsOf (iwd-settings name file s) = bare 0 ∷ ownRows Iwd
 rowsOf (service-settings name file w s) = serviceRows
@@ -120,7 +120,7 @@ linesOf (move name file w n f) = length (lines file)
 -- "an answer from document 01's table": a number that this entry point can give, with line 0 or a line of the file as
 -- the table has it
 abbrev pub Demand-1-table : Type 0
-Demand-1-table = (c : Call) → listed (linesOf c) (rowsOf c) (answerNumber (answerOf c)) (answerLine (answerOf c)) ≡ true
+Demand-1-table = (c : Call) → hasRow (linesOf c) (rowsOf c) (answerNumber (answerOf c)) (answerLine (answerOf c)) ≡ true
 
 -- a refusal of the writer or the move: its number and line, no new bytes, and both buffers as they were
 pub record Unwritten (w : Writing) (n f : List ℕ) (r : Refusal) (l : ℕ) : Type 0 where

@@ -10,8 +10,7 @@ use Rattle.text.specs.Words.{word}
 use Rattle.text.specs.declared.Dialect.{Dialect}
 use Rattle.text.specs.declared.Dialect.the-variants.{Iwd, ConnMan}
 use Rattle.names.specs.Names.{networkOf}
-use Rattle.rules.specs.Faults.{Entry}
-use Rattle.rules.specs.Groups.{entryOf, entriesIn}
+use Rattle.rules.specs.Sections.{Entry, entryOf, entriesIn}
 use Rattle.rules.specs.Numbers.{numberOf, seenOf, answerNumber, answerLine}
 use Rattle.rules.specs.Reading.{sectionsOf, reading}
 use Rattle.rules.specs.Asking.{iwdEntry, serviceAt, asked, askedOf}

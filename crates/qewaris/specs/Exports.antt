@@ -12,7 +12,7 @@ use Rattle.text.specs.Words.{word}
 use Rattle.text.specs.Options.{plain}
 use Rattle.text.specs.declared.Dialect.the-variants.{Iwd, ConnMan}
 use Rattle.kinds.specs.Kinds.{entries}
-use Rattle.rules.specs.AnswerRows.{Row, bare, placed, listed, ownRows}
+use Rattle.rules.specs.AnswerRows.{AnswerRow, bare, placed, hasRow, ownRows}
 use Rattle.rules.specs.Asking.{readAs}
 use Rattle.lookups.specs.Lookups.{Lookup, iwdLookup, globalLookup, serviceLookup, settingValue}
 use Rattle.records.specs.Record.{joined}
@@ -135,7 +135,7 @@ left (service-record name file w) = []
 -- ==== demand 1: "each entry point ends with an answer from document 01's table"
 
 -- the rows that a function can answer with; of a string that is found the line is its setting's
-abbrev pub rows : Call → List Row
+abbrev pub rows : Call → List AnswerRow
 rows (check-iwd name file) = bare 0 ∷ ownRows Iwd
 rows (check-connman name file) = bare 0 ∷ ownRows ConnMan
 rows (iwd-settings-of name file) = bare 0 ∷ ownRows Iwd
@@ -171,7 +171,7 @@ lineCount (write-iwd c n f) = 0
 lineCount (move-service name file w n f) = length (lines file)
 
 abbrev pub Exported-table : Type 0
-Exported-table = (c : Call) → listed (lineCount c) (rows c) (number (answered c)) (line (answered c)) ≡ true
+Exported-table = (c : Call) → hasRow (lineCount c) (rows c) (number (answered c)) (line (answered c)) ≡ true
 
 -- a record that is brought in, whose codes are known, that is well formed and that iwd has a place for, and buffers
 -- with room

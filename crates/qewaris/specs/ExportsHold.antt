@@ -15,13 +15,13 @@ use Rattle.text.specs.Laws.{inside, between-high}
 use Rattle.text.specs.OptionLaws.{Holds}
 use Rattle.text.specs.declared.Dialect.{Dialect}
 use Rattle.text.specs.declared.Dialect.the-variants.{Iwd, ConnMan}
-use Rattle.rules.specs.Faults.{Entry, Section}
+use Rattle.rules.specs.Sections.{Entry, Section}
 use Rattle.rules.specs.Numbers.{numberOf, answerNumber, answerLine}
 use Rattle.rules.specs.Reading.{sectionsOf, reading}
-use Rattle.rules.specs.Asking.{iwdEntry, serviceAt, lineIn, asked, askedOf}
+use Rattle.rules.specs.Asking.{iwdEntry, serviceAt, entryLine, asked, askedOf}
 use Rattle.rules.specs.Tables.{keysOf}
-use Rattle.rules.specs.Places.{EntryStands, group-stands, service-stands}
-use Rattle.rules.specs.AnswerRows.{Row, bare, placed, fits, listed, ownRows}
+use Rattle.rules.specs.EntryPlaces.{EntryStands, group-stands, service-stands}
+use Rattle.rules.specs.AnswerRows.{AnswerRow, bare, placed, isRow, hasRow, ownRows}
 use Rattle.rules.specs.declared.Answer.{Answer}
 use Rattle.rules.specs.declared.Answer.the-variants.{Good, Refused}
 use Rattle.rules.specs.declared.Reading.{Reading}
@@ -68,14 +68,14 @@ number-some N.Malformed = refl
 
 -- ---- the table
 
-reading-given : (k : ℕ) (rs : List Row) (r : Reading) → Given k rs (asked r) →
-    listed k rs (readingAt r .number) (readingAt r .line) ≡ true
+reading-given : (k : ℕ) (rs : List AnswerRow) (r : Reading) → Given k rs (asked r) →
+    hasRow k rs (readingAt r .number) (readingAt r .line) ≡ true
 reading-given k rs (R.Accepted n m) h = h
 reading-given k rs (R.Refused r l) h = h
 
-text-given : (file : List ℕ) (rs : List Row) (a : Answer) (o : Option Entry) →
+text-given : (file : List ℕ) (rs : List AnswerRow) (a : Answer) (o : Option Entry) →
     Given (length (lines file)) (bare 0 ∷ rs) a → Holds (EntryStands file) o →
-    listed (length (lines file)) (placed 0 ∷ rs) (textAt (lookupPlace (lookupOf a o)) .number) (textAt (lookupPlace (lookupOf a o)) .line) ≡ true
+    hasRow (length (lines file)) (placed 0 ∷ rs) (textAt (lookupPlace (lookupOf a o)) .number) (textAt (lookupPlace (lookupOf a o)) .line) ≡ true
 text-given file rs Good none h e = rw (inside {x = 0} 0 (length (lines file)) (omega arith) (omega arith))
 text-given file rs Good (some x) h e =
     rw (inside {x = x .line} 0 (length (lines file)) (omega arith) (between-high {x = x .line} 1 (length (lines file)) (e .line)))
@@ -88,12 +88,12 @@ known-given false w h = refl
 
 module _ (name file : List ℕ) where
   group-text-given : (d : Dialect) (group key : List ℕ) →
-      listed (length (lines file)) (placed 0 ∷ ownRows d) (textAt (lookupPlace (lookupOf (asked (reading d name file)) (iwdEntry (sectionsOf d file) group key))) .number) (textAt (lookupPlace (lookupOf (asked (reading d name file)) (iwdEntry (sectionsOf d file) group key))) .line) ≡ true
+      hasRow (length (lines file)) (placed 0 ∷ ownRows d) (textAt (lookupPlace (lookupOf (asked (reading d name file)) (iwdEntry (sectionsOf d file) group key))) .number) (textAt (lookupPlace (lookupOf (asked (reading d name file)) (iwdEntry (sectionsOf d file) group key))) .line) ≡ true
   group-text-given d group key =
       text-given file (ownRows d) (asked (reading d name file)) (iwdEntry (sectionsOf d file) group key) (asked-given d name file) (group-stands d file group key)
 
   service-text-given : (w : ℕ) (key : List ℕ) →
-      listed (length (lines file)) (placed 0 ∷ serviceRefusals) (textAt (lookupPlace (lookupOf (askedOf w (reading ConnMan name file)) (settingOf w file key))) .number) (textAt (lookupPlace (lookupOf (askedOf w (reading ConnMan name file)) (settingOf w file key))) .line) ≡ true
+      hasRow (length (lines file)) (placed 0 ∷ serviceRefusals) (textAt (lookupPlace (lookupOf (askedOf w (reading ConnMan name file)) (settingOf w file key))) .number) (textAt (lookupPlace (lookupOf (askedOf w (reading ConnMan name file)) (settingOf w file key))) .line) ≡ true
   service-text-given w key =
       text-given file serviceRefusals (askedOf w (reading ConnMan name file)) (settingOf w file key) (asked-service-given name file w) (service-stands ConnMan file w key)
 

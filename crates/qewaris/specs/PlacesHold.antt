@@ -20,11 +20,11 @@ use Rattle.text.specs.declared.Dialect.the-variants.{Iwd, ConnMan}
 use Rattle.kinds.specs.Kinds.{entry, entries}
 use Rattle.kinds.specs.Answers.{startsFrom, endsFrom, entriesAnswer}
 use Rattle.kinds.specs.declared.Entries.{Entries}
-use Rattle.rules.specs.Faults.{Entry}
+use Rattle.rules.specs.Sections.{Entry}
 use Rattle.rules.specs.Reading.{sectionsOf, reading}
-use Rattle.rules.specs.Asking.{iwdEntry, serviceAt, readAs, startIn, asked, askedOf}
+use Rattle.rules.specs.Asking.{iwdEntry, serviceAt, readAs, entryStart, asked, askedOf}
 use Rattle.rules.specs.Tables.{keysOf}
-use Rattle.rules.specs.Places.{EntryStands, group-stands, service-stands}
+use Rattle.rules.specs.EntryPlaces.{EntryStands, group-stands, service-stands}
 use Rattle.rules.specs.Numbers.{numberOf, answerNumber}
 use Rattle.rules.specs.declared.Answer.{Answer}
 use Rattle.rules.specs.declared.Answer.the-variants.{Good, Refused}
@@ -160,7 +160,7 @@ each-entry (p ∷ ps) {es} e =
         ap₂ (λ (x : List ℕ) (y : List (List ℕ)). x ∷ y) q (f t k) ∙ Option·some-injective (a ∷ t) es z
 
 list-stands : (file : List ℕ) (o : Option Entry) → Holds (EntryStands file) o →
-    ListStands file (plain (readAs entries o)) (entriesAt (entriesAnswer (startIn o) (readAs entries o)))
+    ListStands file (plain (readAs entries o)) (entriesAt (entriesAnswer (entryStart o) (readAs entries o)))
 unfolding entries
 list-stands file none h = record { count = refl; each = λ i k. absurd (omega (arith, k)) }
 list-stands file (some e) h = go (entries (e .value)) refl
@@ -181,7 +181,7 @@ unfolding keysOf
 exported-lists name file w e = go (askedOf w (reading ConnMan name file)) e
   where
     stands : (key : List ℕ) →
-        ListStands file (entriesOf file w key) (entriesAt (entriesAnswer (startIn (settingOf w file key)) (readAs entries (settingOf w file key))))
+        ListStands file (entriesOf file w key) (entriesAt (entriesAnswer (entryStart (settingOf w file key)) (readAs entries (settingOf w file key))))
     stands key = list-stands file (settingOf w file key) (service-stands ConnMan file w key)
 
     go : (a : Answer) → answerNumber (serviceAnswerOf a (serviceAt w (sectionsOf ConnMan file)) .answer) ≡ 0 →

@@ -19,14 +19,14 @@ use Rattle.text.specs.declared.Dialect.the-variants.{Iwd, ConnMan}
 use Rattle.kinds.specs.Kinds.{ipv4, wordOf}
 use Rattle.kinds.specs.declared.Word.the-variants as W
 use Rattle.kinds.specs.declared.WordList.the-variants as L
-use Rattle.rules.specs.Faults.{Entry, Section}
-use Rattle.rules.specs.Groups.{isWord}
+use Rattle.rules.specs.Sections.{Entry, Section}
+use Rattle.rules.specs.WordNumbers.{isWord}
 use Rattle.rules.specs.Numbers.{numberOf, answerNumber, answerLine}
 use Rattle.rules.specs.Reading.{sectionsOf, reading}
-use Rattle.rules.specs.Asking.{iwdEntry, serviceAt, readAs, lineIn, asked, askedOf}
-use Rattle.rules.specs.Places.{isLine, EntryStands, service-stands}
-use Rattle.rules.specs.AnswerRows.{Row, bare, lined, fits, listed, ownRows}
-use Rattle.rules.specs.AnswerRowLaws.{listed-more, reading-listed}
+use Rattle.rules.specs.Asking.{iwdEntry, serviceAt, readAs, entryLine, asked, askedOf}
+use Rattle.rules.specs.EntryPlaces.{isLine, EntryStands, service-stands}
+use Rattle.rules.specs.AnswerRows.{AnswerRow, bare, lined, isRow, hasRow, ownRows}
+use Rattle.rules.specs.AnswerRowLaws.{has-row-append, reading-has-row}
 use Rattle.rules.specs.declared.Answer.{Answer}
 use Rattle.rules.specs.declared.Answer.the-variants.{Good, Refused}
 use Rattle.rules.specs.declared.Reading.{Reading}
@@ -51,19 +51,19 @@ use Rattle.qewaris.specs.Demands.{Call, answerOf, serviceRows, serviceRe
 -- ---- an answer and its rows
 
 -- the number and the line of an answer are those of a row
-abbrev pub Given : ℕ → List Row → Answer → Type 0
-Given k rs a = listed k rs (answerNumber a) (answerLine a) ≡ true
+abbrev pub Given : ℕ → List AnswerRow → Answer → Type 0
+Given k rs a = hasRow k rs (answerNumber a) (answerLine a) ≡ true
 
 either-true : (a b : Bool) → b ≡ true → a || b ≡ true
 either-true true b e = refl
 either-true false b e = e
 
 -- good, or refused with a row of rs
-answer-given : (k : ℕ) (rs : List Row) (a : Answer) →
-    ((r : Refusal) (l : ℕ) → a ≡ Refused r l → listed k rs (numberOf r) l ≡ true) → Given k (bare 0 ∷ rs) a
+answer-given : (k : ℕ) (rs : List AnswerRow) (a : Answer) →
+    ((r : Refusal) (l : ℕ) → a ≡ Refused r l → hasRow k rs (numberOf r) l ≡ true) → Given k (bare 0 ∷ rs) a
 answer-given k rs Good h = refl
 answer-given k rs (Refused r l) h =
-    either-true (fits k (numberOf r) l (bare 0)) (listed k rs (numberOf r) l) (h r l refl)
+    either-true (isRow k (numberOf r) l (bare 0)) (hasRow k rs (numberOf r) l) (h r l refl)
 
 -- ---- a file
 
@@ -74,7 +74,7 @@ asked-refused (R.Refused q m) {r} {l} e = let a : q ≡ r = cc in let b : m ≡ 
 pub asked-given : (d : Dialect) (name file : List ℕ) →
     Given (length (lines file)) (bare 0 ∷ ownRows d) (asked (reading d name file))
 asked-given d name file =
-    answer-given (length (lines file)) (ownRows d) (asked (reading d name file)) (λ r l e. reading-listed d name file (asked-refused (reading d name file) e))
+    answer-given (length (lines file)) (ownRows d) (asked (reading d name file)) (λ r l e. reading-has-row d name file (asked-refused (reading d name file) e))
 
 -- ---- a service of it
 
@@ -89,7 +89,7 @@ asked-service-given name file w = go (reading ConnMan name file) (asked-given Co
     go : (x : Reading) → Given (length (lines file)) (bare 0 ∷ ownRows ConnMan) (asked x) →
         Given (length (lines file)) serviceRows (askedOf w x)
     go (R.Accepted n m) h = count (between 1 m w)
-    go (R.Refused r l) h = listed-more (length (lines file)) (bare 0 ∷ ownRows ConnMan) (bare 18 ∷ []) (numberOf r) l h
+    go (R.Refused r l) h = has-row-append (length (lines file)) (bare 0 ∷ ownRows ConnMan) (bare 18 ∷ []) (numberOf r) l h
 
 module _ (file : List ℕ) where
   -- a line of the file, by its number
@@ -98,7 +98,7 @@ module _ (file : List ℕ) where
 
   -- a setting's line, where what it holds is such that an absent one does not hold it
   line-only : (b : Option Entry → Bool) → b none ≡ false → (o : Option Entry) → Holds (EntryStands file) o →
-      Holds OnLine (only (b o) (some (lineIn o)))
+      Holds OnLine (only (b o) (some (entryLine o)))
   line-only b q none h = rw q tt
   line-only b q (some e) h = go (b (some e))
     where
@@ -141,7 +141,7 @@ module _ (file : List ℕ) where
     no-record-line : Holds OnLine (noRecord at)
     unfolding keysOf
     no-record-line =
-        either-line (only (wired at) (some (lineIn (at (word "Type"))))) (only (foreign at) (some (lineIn (at (word "Security")))))
+        either-line (only (wired at) (some (entryLine (at (word "Type"))))) (only (foreign at) (some (entryLine (at (word "Security")))))
         (line-only (λ o. isWord W.Ethernet (readAs (wordOf L.ServiceType) o)) refl (at (word "Type")) (stands (word "Type")))
         (line-only (λ o. foreignSecurity (readAs (wordOf L.Security) o)) refl (at (word "Security")) (stands (word "Security")))
 
@@ -180,7 +180,7 @@ record-given : (k : ℕ) (a : Answer) (o : Option ℕ) (j : Join) → Given k se
     Given k serviceRecordRows (recordAnswer (J.orRefused a (orNoPlace o j)) .answer)
 record-given k Good none j h p = refl
 record-given k Good (some l) j h p = rw p
-record-given k (Refused r l) o j h p = listed-more k serviceRows (lined 16 ∷ []) (numberOf r) l h
+record-given k (Refused r l) o j h p = has-row-append k serviceRows (lined 16 ∷ []) (numberOf r) l h
 
 room-given : (k : ℕ) (b : Bool) (x y : List ℕ) →
     Given k moveRows (writtenAnswer (cond b (writes x y) (refuses ShortBuffer 0)) .answer)
@@ -193,7 +193,7 @@ move-given : (k : ℕ) (a : Answer) (o : Option ℕ) (j : Join) (n f : List ℕ)
 move-given k Good none j n f h p = room-given k (room (nameText j) n && room (fileText j) f) (nameText j) (fileText j)
 move-given k Good (some l) j n f h p = rw p
 move-given k (Refused r l) o j n f h p =
-    listed-more k serviceRecordRows (bare 17 ∷ []) (numberOf r) l (listed-more k serviceRows (lined 16 ∷ []) (numberOf r) l h)
+    has-row-append k serviceRecordRows (bare 17 ∷ []) (numberOf r) l (has-row-append k serviceRows (lined 16 ∷ []) (numberOf r) l h)
 
 pub write-given : (r : JoinRecord) (s : List (List ℕ)) (n f : List ℕ) →
     Given 0 writerRows (writtenAnswer (writing r s n f) .answer)

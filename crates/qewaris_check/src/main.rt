@@ -48,7 +48,7 @@ fn say_reading(r: Reading) {
             say_number(settings);
             say(b"\n");
         }
-        Reading::Refused(refusal, line) => say_refused(rules::numbers::number_of(refusal), line),
+        Reading::Refused(refusal, line) => say_refused(tables::numbers::number_of(refusal), line),
     }
 }
 

@@ -17,7 +17,7 @@ use Rattle.rules.specs.declared.Reading.{Reading}
 use Rattle.rules.specs.declared.Reading.the-variants as R
 use Rattle.rules.specs.declared.Refusal.{Refusal}
 use Rattle.rules.specs.declared.Refusal.the-variants.{ShortBuffer, NoService}
-use Rattle.written.specs.Sizes.{name-short, file-short}
+use Rattle.written.specs.LengthLaws.{name-short, file-short}
 use Rattle.writer.specs.Writing.{writes, refuses, writingOf}
 use Rattle.joins.specs.Joins.{serviceJoin, settingOf}
 use Rattle.mover.specs.Moves.{unplaced, earliest, orUnplaced, orRefused, movingOf, moving}

@@ -65,7 +65,7 @@ fn say_written(w: Written, name: &[u8], file: &[u8])
             say(b"\n");
             say(&file[0..file_len]);
         }
-        Answer::Refused(refusal, line) => say_refused(rules::numbers::number_of(refusal), line),
+        Answer::Refused(refusal, line) => say_refused(tables::numbers::number_of(refusal), line),
     }
 }
 

@@ -10,9 +10,9 @@ use Rattle.text.specs.Words.{same}
 use Rattle.text.specs.Options.{orElse}
 use Rattle.text.specs.Laws.{same-eq}
 use Rattle.text.specs.declared.Dialect.{Dialect}
-use Rattle.rules.specs.Faults.{Section, nameGiven, serves, services}
-use Rattle.rules.specs.Groups.{Fault, sectionFault, servicesFault, entriesIn}
-use Rattle.rules.specs.Reading.{settings}
+use Rattle.rules.specs.Sections.{Section, nameGiven, serves, services, entriesIn, settings}
+use Rattle.rules.specs.Faults.{Fault}
+use Rattle.rules.specs.Groups.{sectionFault, servicesFault}
 use Rattle.reader.specs.History.{allFault}
 use Rattle.reader.specs.Holds.{WellNamed}
 use Rattle.reader.proofs.ServicesFault.{or-none}

@@ -9,8 +9,10 @@ use Rattle.text.specs.declared.Dialect.{Dialect}
 use Rattle.text.specs.declared.Dialect.the-variants.{Iwd}
 use Rattle.names.specs.declared.Suffix.{Suffix}
 use Rattle.rules.specs.Tables.{groupOf}
-use Rattle.rules.specs.Faults.{Entry, Section, serves}
-use Rattle.rules.specs.Groups.{faultAt, entriesIn, fileFault}
+use Rattle.rules.specs.Sections.{Entry, Section, given, serves, entriesIn}
+use Rattle.rules.specs.Faults.{faultAt}
+use Rattle.rules.specs.Groups.{fileFault}
+use Rattle.tables.specs.KeyPlaces.{keyNames}
 use Rattle.rules.specs.declared.Group.{Group}
 use Rattle.rules.specs.declared.Group.the-variants.{Security, Ipv4}
 use Rattle.reader.specs.History.{base, rowOf, latest}

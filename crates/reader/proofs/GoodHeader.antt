@@ -13,7 +13,8 @@ use Rattle.text.specs.declared.Dialect.{Dialect}
 use Rattle.text.specs.declared.Place.{Place}
 use Rattle.lines.specs.Lines as Lines
 use Rattle.rules.specs.Tables.{groupOf}
-use Rattle.rules.specs.Faults.{Section, nameGiven, serves, services, headerFault, fault, after, withGroup}
+use Rattle.rules.specs.Sections.{Section, nameGiven, serves, services, withLine, withGroup}
+use Rattle.rules.specs.Faults.{headerFault, fault}
 use Rattle.rules.specs.GoodEntries.{serves-service}
 use Rattle.rules.specs.declared.Group.{Group}
 use Rattle.rules.specs.declared.Group.the-variants.{Service}
@@ -88,7 +89,7 @@ module _ (d : Dialect) (file : List ℕ) (st : State) (x : List ℕ) (p : Place)
     header-good = heading-good file x (st .services) (partAt file p) (groupOf d (partAt file p)) (sym e ∙ v)
 
     pub header-goes : {s l : ℕ} → Inside (length file) p → 0 < l → {r : State} {y : List ℕ} → Opened st x g s p l r y → Steps d file st x l s 0 (Lines.header (partAt file p)) y (Goes r)
-    unfolding fault after
+    unfolding fault withLine
     header-goes inside k o =
         record {
           says = λ gs h.

@@ -12,8 +12,8 @@ use Rattle.text.specs.Parts.{part}
 use Rattle.text.specs.Words.{same, place}
 use Rattle.text.specs.declared.Dialect.{Dialect}
 use Rattle.rules.specs.Tables.{kindOf}
-use Rattle.rules.specs.Lookups.{keyNames}
-use Rattle.rules.specs.Faults.{Entry, Section, given, withEntry, services}
+use Rattle.rules.specs.Sections.{services, Entry, Section, given, withEntry, settings}
+use Rattle.tables.specs.KeyPlaces.{keyNames}
 use Rattle.rules.specs.declared.Group.{Group}
 use Rattle.reader.specs.Store.{slotCount, Slot, slot, stored}
 use Rattle.reader.specs.History.{nameBase, baseAt, Own, groupAt, rowAfter, latest}

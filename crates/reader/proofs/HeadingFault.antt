@@ -10,13 +10,14 @@ use lib.Dec.{eqb, leb}
 use Rattle.text.specs.declared.Dialect.{Dialect}
 use Rattle.lines.specs.Lines.{header}
 use Rattle.rules.specs.Tables.{groupOf}
-use Rattle.rules.specs.Lookups.{namedAnswer}
-use Rattle.rules.specs.Faults.{Section, nameGiven, serves, services, headerFault, fault}
+use Rattle.tables.specs.KeyPlaces.{namedAnswer}
+use Rattle.rules.specs.Sections.{Section, nameGiven, serves, services}
+use Rattle.rules.specs.Faults.{headerFault, fault}
 use Rattle.rules.specs.GoodEntries.{serves-service}
 use Rattle.rules.specs.declared.Group.{Group}
 use Rattle.rules.specs.declared.Group.the-variants.{Settings, Security, Ipv4, Ipv6, Global, Service}
-use Rattle.rules.specs.declared.Named.{Named}
-use Rattle.rules.specs.declared.Named.the-variants as N
+use Rattle.tables.specs.declared.Named.{Named}
+use Rattle.tables.specs.declared.Named.the-variants as N
 use Rattle.rules.specs.declared.Refusal.{Refusal}
 use Rattle.rules.specs.declared.Refusal.the-variants.{RepeatedGroup, ManyServices}
 use Rattle.reader.specs.Store.{Slot, slot}

@@ -16,7 +16,8 @@ use Rattle.lines.specs.declared.Form.{Form}
 use Rattle.lines.specs.declared.Form.the-variants as F
 use Rattle.lines.proofs.Places.{form-says}
 use Rattle.kinds.specs.declared.Value.{Value}
-use Rattle.rules.specs.Faults.{Section, breakOf, fault}
+use Rattle.rules.specs.Sections.{Section}
+use Rattle.rules.specs.Faults.{breakOf, fault}
 use Rattle.rules.specs.declared.Refusal.{Refusal}
 use Rattle.reader.specs.Says.{NewSetting, SettingIs, SettingSays}
 use Rattle.reader.specs.Steps.{GoodSetting, LineIs, LineSays}

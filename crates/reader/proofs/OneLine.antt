@@ -25,8 +25,9 @@ use Rattle.kinds.specs.declared.Kind.{Kind}
 use Rattle.kinds.specs.declared.Kind.the-variants as K
 use Rattle.kinds.specs.declared.Value.{Value}
 use Rattle.rules.specs.Tables.{kindOf}
-use Rattle.rules.specs.Lookups.{keyNames}
-use Rattle.rules.specs.Faults.{Entry, Section, given, keyFault, valueFault, fault, after, withEntry, services}
+use Rattle.rules.specs.Faults.{keyFault, valueFault, fault}
+use Rattle.rules.specs.Sections.{services, Entry, Section, given, withLine, withEntry}
+use Rattle.tables.specs.KeyPlaces.{keyNames}
 use Rattle.rules.specs.declared.Group.{Group}
 use Rattle.rules.specs.declared.Refusal.{Refusal}
 use Rattle.rules.specs.declared.Refusal.the-variants.{RepeatedKey}
@@ -141,7 +142,7 @@ module _ {d : Dialect} {file : List ℕ} {st : State} {x : List ℕ} {s : ℕ} {
     header-place k = subst (LineIs d file (k .groups) s l) q (line-is (k .holds)) .1
 
     pub step-header : {n : ℕ} {y : List ℕ} {r : Stepped} → Steps d file st x n s 0 (Lines.header (partAt file p)) y r → Steps d file st x n s (valueStart d l) (lineOf d l) y r
-    unfolding after
+    unfolding withLine
     step-header {n} {y} {r} t = record { says = λ gs h. rw (subst (LineIs d file gs s l) q (line-is h) .0) (go gs r (t .says gs h)) }
       where
         go : (gs : List Section) (r : Stepped) → StepIs d file gs n s 0 (Lines.header (partAt file p)) y r → StepIs d file gs n s (valueStart d l) (Lines.header (partAt file p)) y r
@@ -156,7 +157,7 @@ module _ {d : Dialect} {file : List ℕ} {st : State} {x : List ℕ} {s : ℕ} {
   -- ---- a line that is passed over: what `if let` and `let .. else` leave, as the tags of the variants
 
   pub step-passed : {n : ℕ} → OneOf (0 ∷ 1 ∷ 3 ∷ 4 ∷ []) (tagOf the-type f) → OneOf (0 ∷ 1 ∷ 2 ∷ 3 ∷ []) (tagOf the-type f) → OneOf (0 ∷ 1 ∷ 2 ∷ 4 ∷ []) (tagOf the-type f) → Steps d file st x n s (valueStart d l) (lineOf d l) x (Goes st)
-  unfolding fault after
+  unfolding fault withLine
   step-passed {n} a b c = record { says = λ gs h. go f a b c gs h (line-is h) }
     where
       go : (f : Line) → OneOf (0 ∷ 1 ∷ 3 ∷ 4 ∷ []) (tagOf the-type f) → OneOf (0 ∷ 1 ∷ 2 ∷ 3 ∷ []) (tagOf the-type f) → OneOf (0 ∷ 1 ∷ 2 ∷ 4 ∷ []) (tagOf the-type f) → (gs : List Section) → Holds d file st x gs → LineIs d file gs s l f → StepIs d file gs n s (valueStart d l) (lineOf d l) x (Goes st)
@@ -213,5 +214,5 @@ module _ {d : Dialect} {file : List ℕ} {st : State} {x : List ℕ} {s : ℕ} {
             (holds-setting (subst (λ (t : List Section). Holds d file st x t) (t .is) h) (u .key) (λ z. u .new .listed (ap (λ (g : Group). place (u .key) (keyNames g)) (sym (t .group)) ∙ z)) here refl (stands (a .group) kind) free e))
 
       pub step-setting : {y : List ℕ} → y ≡ stored i (record { start = textPlace v .start; end = textPlace v .end; line = n; code = valueCode v }) x → Steps d file st x n s (valueStart d l) (lineOf d l) y (Goes r)
-      unfolding after
+      unfolding withLine
       step-setting z = record { says = λ gs h. let u = good h in (u .good, rw (z, u .is) (held h u (head gs (h .current) (h .current ∙ u .new .in-force)))) }

@@ -16,9 +16,8 @@ use Rattle.text.specs.declared.Dialect.{Dialect}
 use Rattle.text.specs.declared.Dialect.the-variants.{Iwd, ConnMan}
 use Rattle.rules.specs.Tables.{isService, groupOf}
 use Rattle.rules.specs.ListedValues.{groupName}
-use Rattle.rules.specs.Lookups.{keyNames}
-use Rattle.rules.specs.Faults.{Entry, Section, nameGiven, serves, services}
-use Rattle.rules.specs.Groups.{entriesIn}
+use Rattle.rules.specs.Sections.{entriesIn, Entry, Section, nameGiven, serves, services}
+use Rattle.tables.specs.KeyPlaces.{keyNames}
 use Rattle.rules.specs.declared.Group.{Group}
 use Rattle.rules.specs.declared.Group.the-variants.{Settings, Security, Ipv4, Ipv6, Global, Service}
 use Rattle.reader.specs.Store.{slotCount, Slot, slot, stored}

@@ -22,9 +22,10 @@ use Rattle.kinds.specs.declared.Kind.{Kind}
 use Rattle.kinds.specs.declared.Kind.the-variants.{Flag, Named, Netmask}
 use Rattle.kinds.specs.declared.WordList.{WordList}
 use Rattle.kinds.specs.declared.WordList.the-variants as W
-use Rattle.rules.specs.Lookups.{keyNames}
-use Rattle.rules.specs.Faults.{Entry, given}
-use Rattle.rules.specs.Groups.{entryOf, isWord, wordNumber, wordIn, serviceFault}
+use Rattle.rules.specs.Groups.{serviceFault, wordGiven}
+use Rattle.rules.specs.Sections.{Entry, given, entryOf}
+use Rattle.rules.specs.WordNumbers.{isWord, wordNumber}
+use Rattle.tables.specs.KeyPlaces.{keyNames}
 use Rattle.reader.specs.Store.{Slot, slot}
 use Rattle.reader.specs.Keys.{placeOf, groupOf, wordOf as nameOf, kindOf, key-placed, key-kind, key-few}
 use Rattle.reader.specs.Holds.{flagCode, codeOf, Coded, Kept, Row}

@@ -16,9 +16,8 @@ use Rattle.text.specs.declared.Dialect.{Dialect}
 use Rattle.text.specs.declared.Dialect.the-variants.{Iwd, ConnMan}
 use Rattle.kinds.specs.declared.Kind.{Kind}
 use Rattle.rules.specs.Tables.{keysOf, kindOf, isService, groupOf}
-use Rattle.rules.specs.Lookups.{keyNames}
-use Rattle.rules.specs.Faults.{Entry, Section, given, serves, services}
-use Rattle.rules.specs.Groups.{entryOf}
+use Rattle.rules.specs.Sections.{Section, serves, services, Entry, given, entryOf}
+use Rattle.tables.specs.KeyPlaces.{keyNames}
 use Rattle.rules.specs.declared.Group.{Group}
 use Rattle.rules.specs.declared.Group.the-variants.{Settings, Security, Ipv4, Ipv6, Global, Service}
 use Rattle.reader.specs.Store.{lastRow, rowLength, tableLength, Slot, slot, emptySlot, stored}

@@ -13,7 +13,8 @@ use Rattle.text.specs.Words.{same}
 use Rattle.text.specs.declared.Dialect.{Dialect}
 use Rattle.text.specs.declared.Place.{Place}
 use Rattle.rules.specs.Tables.{groupOf}
-use Rattle.rules.specs.Faults.{Section, nameGiven, services}
+use Rattle.tables.specs.KeyPlaces.{keyNames}
+use Rattle.rules.specs.Sections.{Entry, Section, nameGiven, serves, services}
 use Rattle.rules.specs.declared.Group.the-variants.{Service}
 use Rattle.reader.specs.Store.{Slot, slot, stored}
 use Rattle.reader.specs.History.{nameBase, rowOf, baseAt}

@@ -11,8 +11,9 @@ use types.Run.{OneOf, miss}
 use lib.Dec.{eqb}
 use Rattle.text.specs.Options.{orElse}
 use Rattle.text.specs.declared.Dialect.the-variants.{ConnMan}
-use Rattle.rules.specs.Faults.{Section, serves, services}
-use Rattle.rules.specs.Groups.{Fault, faultAt, sectionFault, serviceFault}
+use Rattle.rules.specs.Sections.{Section, serves, services}
+use Rattle.rules.specs.Faults.{Fault, faultAt}
+use Rattle.rules.specs.Groups.{sectionFault, serviceFault}
 use Rattle.rules.specs.GoodEntries.{serves-service}
 use Rattle.rules.specs.declared.Group.{Group}
 use Rattle.rules.specs.declared.Group.the-variants.{Settings, Security, Ipv4, Ipv6, Global, Service}

@@ -21,13 +21,13 @@ use Rattle.kinds.specs.declared.Judgement.{Judgement}
 use Rattle.kinds.specs.declared.Judgement.the-variants as J
 use Rattle.lines.specs.Lines.{setting}
 use Rattle.rules.specs.Tables.{keysOf, kindOf}
-use Rattle.rules.specs.Lookups.{nth, nth-zero, named-nth, keyNames, listedAnswer}
-use Rattle.rules.specs.Faults.{Entry, Section, fault, given, keyFault, valueFault}
-use Rattle.rules.specs.Groups.{entryOf}
+use Rattle.rules.specs.Sections.{Entry, Section, given, entryOf}
+use Rattle.rules.specs.Faults.{fault, keyFault, valueFault}
+use Rattle.tables.specs.KeyPlaces.{atPlace, at-place-zero, at-place-named, keyNames, listedAnswer}
 use Rattle.rules.specs.declared.Group.{Group}
 use Rattle.rules.specs.declared.Group.the-variants.{Settings, Security, Ipv4, Ipv6, Global, Service}
-use Rattle.rules.specs.declared.Listed.{Listed}
-use Rattle.rules.specs.declared.Listed.the-variants as L
+use Rattle.tables.specs.declared.Listed.{Listed}
+use Rattle.tables.specs.declared.Listed.the-variants as L
 use Rattle.rules.specs.declared.Refusal.the-variants.{NoGroup, UnknownKey, RepeatedKey, ValueText, ValueKind}
 use Rattle.reader.specs.Store.{linesFrom, slot}
 use Rattle.reader.specs.History.{nameBase, baseAt, rowAfter, currentOf}
@@ -62,7 +62,7 @@ row-in-force {d} {file} {x} gs {g} {b} h rows =
     (subst (λ (t : ℕ). Row d file x t (h .section .group) (h .section .entries)) (h .row)
     (row-here (h .section) (h .rest) (subst (λ (t : List Section). Rows d file x t) (h .is) rows))))
 
-listed-key : (m : ℕ) (o : Option Kind) {n : ℕ} {x : Kind} → listedAnswer m o ≡ L.Key n x → (m ≡ n) × (o ≡ some x)
+listed-key : (m : ℕ) (o : Option Kind) {n : ℕ} {x : Kind} → listedAnswer m o ≡ L.Is n x → (m ≡ n) × (o ≡ some x)
 listed-key m none e = let z : _≡_ {A = ℕ} 0 1 = cc in absurd (omega arith)
 listed-key m (some y) e = (cc, cc)
 
@@ -72,7 +72,7 @@ listed-unknown m (some y) e = let z : _≡_ {A = ℕ} 0 1 = cc in absurd (omega 
 
 -- a key that has a kind has a place
 kind-placed : (g : Group) (k : List ℕ) {x : Kind} → kindOf g k ≡ some x → place k (keyNames g) ≡ 0 → ⊥
-kind-placed g k {x} e z = Option·none-ne-some x (sym (nth-zero (keysOf g)) ∙ ap (λ (p : ℕ). nth p (keysOf g)) (sym z) ∙ named-nth k (keysOf g) ∙ e)
+kind-placed g k {x} e z = Option·none-ne-some x (sym (at-place-zero (keysOf g)) ∙ ap (λ (p : ℕ). atPlace p (keysOf g)) (sym z) ∙ at-place-named k (keysOf g) ∙ e)
 
 text-broken : (p : Place) (y : Judged) → judgementAt p y ≡ J.BrokenText → y ≡ brokenText
 text-broken p (good t) e = let z : _≡_ {A = ℕ} 0 1 = cc in absurd (omega arith)
@@ -108,7 +108,7 @@ module _ (d : Dialect) (file x : List ℕ) (c : Current) (key value : Place) whe
     pub setting-unknown : r ≡ L.Unknown → SettingSays d file x c key value (Refused UnknownKey)
     setting-unknown w = record { says = λ gs e rows. faulty gs e ∙ rw (listed-unknown (place (partAt file key) (keyNames g)) (kindOf g (partAt file key)) (sym p ∙ w)) }
 
-    module _ {n : ℕ} {kind : Kind} (w : r ≡ L.Key n kind) where
+    module _ {n : ℕ} {kind : Kind} (w : r ≡ L.Is n kind) where
       known : (place (partAt file key) (keyNames g) ≡ n) × (kindOf g (partAt file key) ≡ some kind)
       known = listed-key (place (partAt file key) (keyNames g)) (kindOf g (partAt file key)) (sym p ∙ w)
 

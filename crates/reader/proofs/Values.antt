@@ -13,14 +13,14 @@ use Rattle.text.specs.Laws.{part-none}
 use Rattle.text.specs.declared.Dialect.{Dialect}
 use Rattle.text.specs.declared.Dialect.the-variants.{ConnMan}
 use Rattle.kinds.specs.declared.Kind.{Kind}
-use Rattle.rules.specs.Faults.{Entry, Section, serves, services}
-use Rattle.rules.specs.Asking.{firstOr, serviceAt, readAs, lineIn, startIn}
+use Rattle.rules.specs.Asking.{firstOr, serviceAt, readAs, entryLine, entryStart}
 use Rattle.reader.specs.Store.{lastRow, rowLength, Slot}
 use Rattle.reader.specs.History.{rowOf, base, rowAfter, latest, numbered}
 use Rattle.reader.specs.Holds.{OfText, Kept, Row, Table}
 use Rattle.rules.specs.GoodEntries.{serves-service}
 use Rattle.rules.specs.declared.Group.{Group}
 use Rattle.rules.specs.declared.Group.the-variants.{Settings, Security, Ipv4, Ipv6, Global, Service}
+use Rattle.rules.specs.Sections.{Entry, Section, serves, services}
 use Rattle.reader.proofs.Rows.{group-at}
 use Rattle.reader.proofs.Backwards.{services-reverse}
 
@@ -30,11 +30,11 @@ module _ (d : Dialect) (k : Option Kind) (file : List ℕ) (s : Slot) where
   kept-read f e t none q = rw (ap (λ (u : Slot). u .start) q, ap (λ (u : Slot). u .end) q, part-none file 0) e
   kept-read f e t (some x) h = ap f (h .value t)
 
-  pub kept-line : (o : Option Entry) → Kept d k file s o → s .line ≡ lineIn o
+  pub kept-line : (o : Option Entry) → Kept d k file s o → s .line ≡ entryLine o
   kept-line none q = ap (λ (t : Slot). t .line) q
   kept-line (some x) h = h .line
 
-  pub kept-start : OfText k → (o : Option Entry) → Kept d k file s o → s .start ≡ startIn o
+  pub kept-start : OfText k → (o : Option Entry) → Kept d k file s o → s .start ≡ entryStart o
   kept-start t none q = ap (λ (u : Slot). u .start) q
   kept-start t (some x) h = h .start t
 

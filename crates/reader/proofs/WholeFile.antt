@@ -4,9 +4,10 @@ use native.Mathlib.Omega.{arith}
 use mathlib.Core.Path.{_≡_, refl, ap, sym, _∙_}
 use mathlib.Core.List.{List, reverse}
 use mathlib.Core.Option.{Option, none, some}
-use Rattle.rules.specs.Faults.{Section, services}
-use Rattle.rules.specs.Groups.{Fault}
-use Rattle.rules.specs.Reading.{Name, iwdName, connmanFile, settings, groupsFault, verdict}
+use Rattle.rules.specs.Reading.{Name, iwdName, connmanFile, groupsFault, verdict}
+use Rattle.rules.specs.Sections.{Section, services, settings}
+use Rattle.rules.specs.Faults.{Fault}
+use Rattle.tables.specs.KeyPlaces.{keyNames}
 use Rattle.rules.specs.declared.Reading.{Reading}
 use Rattle.rules.specs.declared.Reading.the-variants.{Accepted}
 use Rattle.reader.specs.Holds.{Holds}

@@ -10,7 +10,9 @@ use Rattle.text.specs.Parts.{part}
 use Rattle.text.specs.Options.{orElse}
 use Rattle.kinds.specs.declared.Word.{Word}
 use Rattle.kinds.specs.declared.Word.the-variants.{Wifi, Ethernet, Psk, None}
-use Rattle.rules.specs.Groups.{Fault, faultAt, wordNumber, lackOrClash}
+use Rattle.rules.specs.Groups.{lackOrClash}
+use Rattle.rules.specs.Faults.{Fault, faultAt}
+use Rattle.rules.specs.WordNumbers.{wordNumber}
 use Rattle.rules.specs.declared.Refusal.{Refusal}
 use Rattle.reader.specs.Store.{tableLength, rowLength, lastRow, Slot, slot}
 use Rattle.reader.specs.Keys.{placeOf}

@@ -6,9 +6,9 @@ use mathlib.Core.Option.{Option, none, some}
 use lib.ListN.{length}
 use Rattle.text.specs.declared.Dialect.{Dialect}
 use Rattle.text.specs.declared.Dialect.the-variants as D
-use Rattle.rules.specs.Lookups.{keyNames}
-use Rattle.rules.specs.Faults.{Section}
-use Rattle.rules.specs.Groups.{faultAt}
+use Rattle.tables.specs.KeyPlaces.{keyNames}
+use Rattle.rules.specs.Sections.{Section}
+use Rattle.rules.specs.Faults.{faultAt}
 use Rattle.rules.specs.Reading.{Name, iwdName, connmanFile, groupsFault, verdict}
 use Rattle.rules.specs.declared.Group.{Group}
 use Rattle.rules.specs.declared.Group.the-variants.{Service}

@@ -4,7 +4,7 @@ use mathlib.Core.Bool.{Bool, cond, not, _&&_}
 use mathlib.Core.List.{List}
 use mathlib.Core.Option.{Option, none, some}
 use lib.Dec.{eqb, leb}
-use Rattle.rules.specs.Faults.{serves}
+use Rattle.rules.specs.Sections.{serves}
 use Rattle.rules.specs.declared.Group.{Group}
 use Rattle.rules.specs.declared.Refusal.the-variants.{UnknownGroup, RepeatedGroup, ManyServices}
 use Rattle.reader.specs.History.{base}

@@ -13,10 +13,10 @@ use Rattle.kinds.specs.Typed.{Typed, judged, good}
 use Rattle.kinds.specs.declared.Kind.{Kind}
 use Rattle.kinds.specs.declared.Kind.the-variants as K
 use Rattle.rules.specs.Tables.{groupOf, kindOf}
-use Rattle.rules.specs.Lookups.{keyNames}
-use Rattle.rules.specs.Faults.{Entry, Section, nameGiven, services}
-use Rattle.rules.specs.Groups.{Fault, entryOf, wordNumber}
-use Rattle.rules.specs.Reading.{settings}
+use Rattle.rules.specs.WordNumbers.{wordNumber}
+use Rattle.rules.specs.Sections.{Entry, Section, nameGiven, services, entryOf, settings}
+use Rattle.rules.specs.Faults.{Fault}
+use Rattle.tables.specs.KeyPlaces.{keyNames}
 use Rattle.rules.specs.declared.Group.{Group}
 use Rattle.rules.specs.declared.Group.the-variants.{Service}
 use Rattle.reader.specs.Store.{tableLength, Slot, slot, emptySlot}

@@ -16,9 +16,10 @@ use Rattle.kinds.specs.declared.Value.{Value}
 use Rattle.kinds.specs.declared.Value.the-variants as X
 use Rattle.kinds.specs.declared.Judgement.the-variants as J
 use Rattle.rules.specs.Tables.{kindOf}
-use Rattle.rules.specs.Lookups.{keyNames}
-use Rattle.rules.specs.Faults.{Section, fault, given}
-use Rattle.rules.specs.Groups.{wordNumber}
+use Rattle.rules.specs.Faults.{fault}
+use Rattle.rules.specs.WordNumbers.{wordNumber}
+use Rattle.rules.specs.Sections.{Section, given}
+use Rattle.tables.specs.KeyPlaces.{keyNames}
 use Rattle.rules.specs.declared.Group.{Group}
 use Rattle.reader.specs.History.{currentOf}
 use Rattle.reader.specs.Holds.{Rows, flagCode}

@@ -11,8 +11,9 @@ use Rattle.text.specs.declared.Place.{Place}
 use Rattle.lines.specs.Lines.{blank, comment, setting, lineOf, valueStart}
 use Rattle.lines.specs.Lines as Lines
 use Rattle.kinds.specs.declared.Value.{Value}
-use Rattle.rules.specs.Lookups.{keyNames}
-use Rattle.rules.specs.Faults.{Section, serves, fault, after}
+use Rattle.tables.specs.KeyPlaces.{keyNames}
+use Rattle.rules.specs.Sections.{Section, serves, withLine}
+use Rattle.rules.specs.Faults.{fault}
 use Rattle.rules.specs.declared.Group.{Group}
 use Rattle.reader.specs.Store.{Slot, stored}
 use Rattle.reader.specs.History.{base, nameBase, currentOf}
@@ -68,7 +69,7 @@ pub record Known (d : Dialect) (file : List ℕ) (st : State) (x : List ℕ) : T
   pub holds : Holds d file st x groups
 
 abbrev pub StepIs : Dialect → List ℕ → List Section → ℕ → ℕ → ℕ → Lines.Line → List ℕ → Stepped → Type 0
-StepIs d file gs n s v p y (Goes st) = (fault d gs p ≡ none) × Holds d file st y (after d n s v p gs)
+StepIs d file gs n s v p y (Goes st) = (fault d gs p ≡ none) × Holds d file st y (withLine d n s v p gs)
 StepIs d file gs n s v p y (Stops r) = fault d gs p ≡ some r
 
 pub record Steps (d : Dialect) (file : List ℕ) (st : State) (x : List ℕ) (n s v : ℕ) (p : Lines.Line) (y : List ℕ) (r : Stepped) : Type 0 where

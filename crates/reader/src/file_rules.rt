@@ -1,7 +1,8 @@
 // The rules over an iwd file as a whole, asked at its end.
 ghost use mathlib.Core.Path.{_≡_};
 ghost use lib.ListN.{length};
-ghost use Rattle.rules.specs.Groups.{isOpen, faultAt};
+ghost use Rattle.rules.specs.Groups.{isOpen};
+ghost use Rattle.rules.specs.Faults.{faultAt};
 ghost use Rattle.reader.specs.Closing.{pendingOf};
 ghost use Rattle.reader.specs.FileRule.{slotsSecret, slotsSecretless, slotsGatewayless, slotsAddressless, slotsFileLacks, slotsFileClashes, slotsFile};
 ghost use Rattle.reader.specs.Store.{tableLength};

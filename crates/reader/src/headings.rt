@@ -3,7 +3,7 @@ ghost use mathlib.Core.Path.{_≡_};
 ghost use Prim.Native.Nat.{_<_};
 ghost use lib.ListN.{length};
 ghost use Rattle.rules.specs.Tables.{groupOf};
-ghost use Rattle.rules.specs.Faults.{serves};
+ghost use Rattle.rules.specs.Sections.{serves};
 ghost use Rattle.reader.specs.Holds.{Spans};
 ghost use Rattle.reader.specs.Headings.{slotsNamed, slotsOpen, slotsHeading};
 ghost use Rattle.reader.specs.Store.{tableLength};
@@ -13,8 +13,8 @@ use crate::Places;
 use crate::judging::base_of;
 use crate::services::service_named;
 use rules::Group;
-use rules::Named;
 use rules::Refusal;
+use tables::Named;
 use text::Dialect;
 
 pub fn is_service(g: Group) -> bool
@@ -66,7 +66,7 @@ pub fn heading(d: Dialect, file: &[u8], x: &Places, services: usize, name: &[u8]
     requires spans { ⌜ Spans (now file) (now x) services ⌝ }
     ensures { λ r. ⌜ r ≡ slotsHeading (now (file .entry)) (now (x .entry)) services (now (name .entry)) (groupOf d (now (name .entry))) ⌝ }
 {
-    match rules::tables::group_of(d, name) {
+    match tables::groups::group_of(d, name) {
         Named::Is(g) => open_group(file, x, services, name, g),
         Named::Unknown => Heading::Refused(Refusal::UnknownGroup),
     }

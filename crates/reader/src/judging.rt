@@ -20,8 +20,8 @@ use kinds::Judgement;
 use lines::Break;
 use lines::Form;
 use rules::Group;
-use rules::Listed;
 use rules::Refusal;
+use tables::Listed;
 use text::Dialect;
 use text::Place;
 
@@ -59,8 +59,8 @@ pub fn setting_line(
     };
     let start = key.start;
     let end = key.end;
-    let listed = rules::tables::key_of(g, &file[start..end]);
-    let Listed::Key(n, kind) = listed else {
+    let listed = tables::keys::key_of(g, &file[start..end]);
+    let Listed::Is(n, kind) = listed else {
         return Line::Refused(Refusal::UnknownKey);
     };
     let i = row + n;

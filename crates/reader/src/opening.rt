@@ -6,7 +6,7 @@ ghost use lib.Dec.{leb};
 ghost use lib.ListN.{length};
 ghost use Rattle.text.specs.Parts.{Inside, partAt};
 ghost use Rattle.lines.specs.Lines.{header};
-ghost use Rattle.rules.specs.Faults.{serves};
+ghost use Rattle.rules.specs.Sections.{serves};
 ghost use Rattle.reader.specs.Store.{tableLength, Fits};
 ghost use Rattle.reader.specs.Steps.{Opened, Known, Steps};
 use crate::Current;

@@ -2,7 +2,7 @@
 ghost use mathlib.Core.Path.{_≡_};
 ghost use mathlib.Core.Bool.{_||_, _&&_};
 ghost use lib.ListN.{length};
-ghost use Rattle.rules.specs.Groups.{wordNumber};
+ghost use Rattle.rules.specs.WordNumbers.{wordNumber};
 ghost use Rattle.reader.specs.Holds.{Spans, among};
 ghost use Rattle.reader.specs.Closing.{InTable, KeyIn, keySlot, bytesOf, isTaken, slotIs};
 ghost use Rattle.reader.specs.Store.{tableLength};

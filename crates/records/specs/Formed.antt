@@ -106,16 +106,16 @@ credentialFormed Passphrase n p k = passphraseFormed n p && zeros k
 credentialFormed Key n p k = held 0 0 n p
 
 -- without an address, and with one
-abbrev pub unnumbered : List ℕ → ℕ → Bool → List ℕ → Bool
-unnumbered a n h g = (zeros a && eqb n 0) && (not h && zeros g)
+abbrev pub unaddressed : List ℕ → ℕ → Bool → List ℕ → Bool
+unaddressed a n h g = (zeros a && eqb n 0) && (not h && zeros g)
 
-abbrev pub numbered : ℕ → Bool → List ℕ → Bool
-numbered n h g = between 1 32 n && (h || zeros g)
+abbrev pub addressed : ℕ → Bool → List ℕ → Bool
+addressed n h g = between 1 32 n && (h || zeros g)
 
 abbrev pub ipv4Formed : Method → List ℕ → ℕ → Bool → List ℕ → Bool
-ipv4Formed Dhcp a n h g = unnumbered a n h g
-ipv4Formed Off a n h g = unnumbered a n h g
-ipv4Formed Static a n h g = numbered n h g
+ipv4Formed Dhcp a n h g = unaddressed a n h g
+ipv4Formed Off a n h g = unaddressed a n h g
+ipv4Formed Static a n h g = addressed n h g
 
 abbrev pub serversFormed : ℕ → List (List ℕ) → Bool
 serversFormed n s = between 0 4 n && zeroRows (drop n s)

@@ -18,8 +18,8 @@ use Rattle.addresses.specs.Laws.{address-length, are-cons}
 use Rattle.kinds.specs.Kinds.{IPv4, dhcp, off, static}
 use Rattle.kinds.specs.declared.Method.{Method}
 use Rattle.kinds.specs.declared.Method.the-variants.{Dhcp, Off, Static}
-use Rattle.records.specs.Record.{Secret, noSecret, passphrase, key, credentialOf, passphraseOf, keyOf, methodOf, addressOf, lengthOf, hasGateway, gatewayOf, secretOf, ipv4Of}
-use Rattle.records.specs.Formed.{passphraseText, GoodKey, GoodSecret, GoodIpv4, GoodServers, zeros, zeroRows, held, passphraseFormed, credentialFormed, unnumbered, ipv4Formed, serversFormed}
+use Rattle.records.specs.Record.{Secret, noSecret, passphrase, key, credentialOf, passphraseOf, keyOf, methodOf, addressOf, lengthOf, hasGateway, gatewayOf, secretOf, ipv4In}
+use Rattle.records.specs.Formed.{passphraseText, GoodKey, GoodSecret, GoodIpv4, GoodServers, zeros, zeroRows, held, passphraseFormed, credentialFormed, unaddressed, ipv4Formed, serversFormed}
 use Rattle.records.specs.declared.Credential.{Credential}
 use Rattle.records.specs.declared.Credential.the-variants.{None, Passphrase, Key}
 
@@ -154,29 +154,29 @@ ipv4-formed off g = refl
 ipv4-formed (static a n none) g = rw (inside {x = n} 1 32 (g .low) (g .high))
 ipv4-formed (static a n (some y)) g = rw (inside {x = n} 1 32 (g .low) (g .high))
 
-pub ipv4-joined : (x : IPv4) → ipv4Of (methodOf x) (addressOf x) (lengthOf x) (hasGateway x) (gatewayOf x) ≡ x
+pub ipv4-joined : (x : IPv4) → ipv4In (methodOf x) (addressOf x) (lengthOf x) (hasGateway x) (gatewayOf x) ≡ x
 ipv4-joined dhcp = refl
 ipv4-joined off = refl
 ipv4-joined (static a n none) = refl
 ipv4-joined (static a n (some y)) = refl
 
 pub record Ipv4Back (m : Method) (a : List ℕ) (n : ℕ) (h : Bool) (g : List ℕ) : Type 0 where
-  pub method : methodOf (ipv4Of m a n h g) ≡ m
-  pub address : addressOf (ipv4Of m a n h g) ≡ a
-  pub size : lengthOf (ipv4Of m a n h g) ≡ n
-  pub routed : hasGateway (ipv4Of m a n h g) ≡ h
-  pub gateway : gatewayOf (ipv4Of m a n h g) ≡ g
-  pub good : GoodIpv4 (ipv4Of m a n h g)
+  pub method : methodOf (ipv4In m a n h g) ≡ m
+  pub address : addressOf (ipv4In m a n h g) ≡ a
+  pub size : lengthOf (ipv4In m a n h g) ≡ n
+  pub routed : hasGateway (ipv4In m a n h g) ≡ h
+  pub gateway : gatewayOf (ipv4In m a n h g) ≡ g
+  pub good : GoodIpv4 (ipv4In m a n h g)
 
 module _ (a : List ℕ) (n : ℕ) (g : List ℕ) (la : isAddress a ≡ true) (lg : isAddress g ≡ true) where
-  record Unnumbered (h : Bool) : Type 0 where
+  record Unaddressed (h : Bool) : Type 0 where
     address : noAddress ≡ a
     size : 0 ≡ n
     routed : false ≡ h
     gateway : noAddress ≡ g
 
-  is-unnumbered : (h : Bool) → unnumbered a n h g ≡ true → Unnumbered h
-  is-unnumbered h e =
+  is-unaddressed : (h : Bool) → unaddressed a n h g ≡ true → Unaddressed h
+  is-unaddressed h e =
       let s = and-true (zeros a && eqb n 0) (not h && zeros g) e in
       let t = and-true (zeros a) (eqb n 0) (s .0) in
       let u = and-true (not h) (zeros g) (s .1) in
@@ -184,10 +184,10 @@ module _ (a : List ℕ) (n : ℕ) (g : List ℕ) (la : isAddress a ≡ true) (lg
 
   pub ipv4-back : (m : Method) (h : Bool) → ipv4Formed m a n h g ≡ true → Ipv4Back m a n h g
   ipv4-back Dhcp h e =
-      let u = is-unnumbered h e in
+      let u = is-unaddressed h e in
       record { method = refl; address = u .address; size = u .size; routed = u .routed; gateway = u .gateway; good = tt }
   ipv4-back Off h e =
-      let u = is-unnumbered h e in
+      let u = is-unaddressed h e in
       record { method = refl; address = u .address; size = u .size; routed = u .routed; gateway = u .gateway; good = tt }
   ipv4-back Static true e =
       let s = and-true (between 1 32 n) true e in

@@ -111,10 +111,10 @@ abbrev pub gatewayIf : Bool → List ℕ → Option (List ℕ)
 gatewayIf false g = none
 gatewayIf true g = some g
 
-abbrev pub ipv4Of : Method → List ℕ → ℕ → Bool → List ℕ → IPv4
-ipv4Of Dhcp a n h g = dhcp
-ipv4Of Off a n h g = off
-ipv4Of Static a n h g = static a n (gatewayIf h g)
+abbrev pub ipv4In : Method → List ℕ → ℕ → Bool → List ℕ → IPv4
+ipv4In Dhcp a n h g = dhcp
+ipv4In Off a n h g = off
+ipv4In Static a n h g = static a n (gatewayIf h g)
 
 abbrev pub joined : JoinRecord → List (List ℕ) → Join
 joined r s =
@@ -122,7 +122,7 @@ joined r s =
       name = take (r .«name_len») (r .name);
       credential = secretOf (r .credential) (take (r .«passphrase_len») (r .passphrase)) (r .key);
       hidden = r .hidden;
-      ipv4 = ipv4Of (r .ipv4) (r .address) (r .length) (r .«has_gateway») (r .gateway);
+      ipv4 = ipv4In (r .ipv4) (r .address) (r .length) (r .«has_gateway») (r .gateway);
       servers = take (r .«server_count») s;
       domain = take (r .«domain_len») (r .domain);
       ipv6 = r .ipv6;

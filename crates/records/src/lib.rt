@@ -5,7 +5,7 @@
 ghost use mathlib.Core.Path.{_≡_};
 ghost use Prim.Native.Nat.{_≤_};
 ghost use lib.ListN.{length};
-ghost use Rattle.records.specs.Formed.{zeros, held, passphraseFormed, credentialFormed, unnumbered, numbered, ipv4Formed, serversFormed, domainFormed, formed};
+ghost use Rattle.records.specs.Formed.{zeros, held, passphraseFormed, credentialFormed, unaddressed, addressed, ipv4Formed, serversFormed, domainFormed, formed};
 use kinds::Method;
 
 pub enum Credential {
@@ -100,8 +100,8 @@ fn is_no_address(a: [u8; 4]) -> bool
 }
 
 // Whether the places of an address a, its length n and a gateway g, which h says is given, are not in use.
-fn is_unnumbered(a: [u8; 4], n: u8, h: bool, g: [u8; 4]) -> bool
-    ensures { λ r. ⌜ r ≡ unnumbered a n h g ⌝ }
+fn is_unaddressed(a: [u8; 4], n: u8, h: bool, g: [u8; 4]) -> bool
+    ensures { λ r. ⌜ r ≡ unaddressed a n h g ⌝ }
 {
     if !is_no_address(a) {
         return false;
@@ -116,8 +116,8 @@ fn is_unnumbered(a: [u8; 4], n: u8, h: bool, g: [u8; 4]) -> bool
 }
 
 // Whether a length n and a gateway g, which h says is given, are good beside an address.
-fn is_numbered(n: u8, h: bool, g: [u8; 4]) -> bool
-    ensures { λ r. ⌜ r ≡ numbered n h g ⌝ }
+fn is_addressed(n: u8, h: bool, g: [u8; 4]) -> bool
+    ensures { λ r. ⌜ r ≡ addressed n h g ⌝ }
 {
     if n < 1 {
         return false;
@@ -133,9 +133,9 @@ fn is_ipv4(m: Method, a: [u8; 4], n: u8, h: bool, g: [u8; 4]) -> bool
     ensures { λ r. ⌜ r ≡ ipv4Formed m a n h g ⌝ }
 {
     match m {
-        Method::Dhcp => is_unnumbered(a, n, h, g),
-        Method::Off => is_unnumbered(a, n, h, g),
-        Method::Static => is_numbered(n, h, g),
+        Method::Dhcp => is_unaddressed(a, n, h, g),
+        Method::Off => is_unaddressed(a, n, h, g),
+        Method::Static => is_addressed(n, h, g),
     }
 }
 

@@ -1,3 +1,2 @@
-pub mod Agreeing
-pub mod Typed
+pub mod TypedArrays
 pub mod ReadBack

@@ -15,8 +15,9 @@ use Rattle.writer.specs.Writing.{Writing, writes, refuses, writing, onFront, Wr
 use Rattle.writer.specs.declared.Written.{Written}
 use Rattle.joins.specs.declared.RecordAnswer.{RecordAnswer}
 use Rattle.round_trip.specs.Structs.{writing-record, writing-servers}
-use Rattle.round_trip.specs.Same.{sameRecord, sameServers, isGood, sameAnswer, same-record-refl, same-servers-refl}
-use Rattle.round_trip.specs.Back.{readSame, ReadsBack}
+use Rattle.comparing.specs.Same.{sameRecord, sameServers}
+use Rattle.comparing.specs.SameLaws.{same-record-refl, same-servers-refl}
+use Rattle.round_trip.specs.Back.{isGood, sameAnswer, readSame, RoundTrips}
 use Rattle.round_trip.proofs.Agreeing.{differs, agrees}
 
 -- ---- an answer x and its servers t, which are y and u, against a record and servers
@@ -69,7 +70,7 @@ texts (writes p q) h e =
 texts (refuses k l) h e = let g : Good ≡ Refused k l = sym e ∙ ap (λ (z : Written). z .answer) (h .answer) in let z : _≡_ {A = ℕ} 0 1 = cc in absurd (omega arith)
 
 module _ (r : JoinRecord) (s : List (List ℕ)) (t : Arrays r s) {n f x y : List ℕ} {a : Written} (w : Writes (writing r s n f) n f x y a) where
-  pub back-refused : {k : Refusal} {l : ℕ} → a .answer ≡ Refused k l → ReadsBack r s n f x y (record { written = a; same = false })
+  pub back-refused : {k : Refusal} {l : ℕ} → a .answer ≡ Refused k l → RoundTrips r s n f x y (record { written = a; same = false })
   back-refused e = record { writes = w; compared = rw e; same = rw e }
 
   module _ (e : a .answer ≡ Good) where
@@ -89,5 +90,5 @@ module _ (r : JoinRecord) (s : List (List ℕ)) (t : Arrays r s) {n f x y : List
         ∙ ap₂ (λ (p : RecordAnswer) (q : List (List ℕ)). sameAnswer p q r s) (writing-record r s t n f (these .is)) (writing-servers r s t n f (these .is) (replicate 4 noAddress))
         ∙ rw (same-record-refl r) (same-servers-refl s)
 
-    pub back-good : {b : Bool} → b ≡ readSame (take (a .«name_len») x) (take (a .«file_len») y) r s → ReadsBack r s n f x y (record { written = a; same = b })
+    pub back-good : {b : Bool} → b ≡ readSame (take (a .«name_len») x) (take (a .«file_len») y) r s → RoundTrips r s n f x y (record { written = a; same = b })
     back-good h = record { writes = w; compared = rw e h; same = h ∙ back-same ∙ sym (ap isGood e) }

@@ -12,13 +12,14 @@ use Rattle.kinds.specs.Typed.{judged}
 use Rattle.kinds.specs.declared.Kind.{Kind}
 use Rattle.lines.specs.Rendering.{HeaderText, SettingText}
 use Rattle.rules.specs.Tables.{groupOf, kindOf}
-use Rattle.rules.specs.Faults.{Entry, Section, nameGiven, serves, valueFault}
+use Rattle.rules.specs.Sections.{Entry, Section, nameGiven, serves}
+use Rattle.rules.specs.Faults.{valueFault}
 use Rattle.rules.specs.declared.Group.{Group}
-use Rattle.written.specs.Written.{Row, Block}
+use Rattle.written.specs.Written.{WrittenRow, Block}
 
 -- ---- a file's groups without the places of their lines
 
-abbrev pub bare : List Entry → List Row
+abbrev pub bare : List Entry → List WrittenRow
 bare [] = []
 bare (x ∷ xs) = (x .key, x .value) ∷ bare xs
 
@@ -27,7 +28,7 @@ bareBlocks [] = []
 bareBlocks (g ∷ gs) = record { name = g .name; rows = bare (g .entries) } ∷ bareBlocks gs
 
 -- the groups that have a setting: "only those with a line"
-abbrev pub orSkipped : List ℕ → List Row → List Block → List Block
+abbrev pub orSkipped : List ℕ → List WrittenRow → List Block → List Block
 orSkipped n [] bs = bs
 orSkipped n (r ∷ rs) bs = record { name = n; rows = r ∷ rs } ∷ bs
 
@@ -38,12 +39,12 @@ kept (b ∷ bs) = orSkipped (b .name) (b .rows) (kept bs)
 -- ---- what is asked of them
 
 -- the value of the setting with a key
-abbrev pub valueIn : List ℕ → List Row → Option (List ℕ)
-valueIn k [] = none
-valueIn k (r ∷ rs) = cond (same k (r .0)) (some (r .1)) (valueIn k rs)
+abbrev pub rowValue : List ℕ → List WrittenRow → Option (List ℕ)
+rowValue k [] = none
+rowValue k (r ∷ rs) = cond (same k (r .0)) (some (r .1)) (rowValue k rs)
 
 -- the settings of the group with a name
-abbrev pub rowsIn : List ℕ → List Block → List Row
+abbrev pub rowsIn : List ℕ → List Block → List WrittenRow
 rowsIn n [] = []
 rowsIn n (b ∷ bs) = cond (same n (b .name)) (b .rows) (rowsIn n bs)
 
@@ -55,20 +56,20 @@ rowCount (b ∷ bs) = length (b .rows) + rowCount bs
 -- ---- groups that are good to write
 
 -- a setting of group g
-pub record GoodRow (d : Dialect) (g : Group) (r : Row) : Type 0 where
+pub record GoodRow (d : Dialect) (g : Group) (r : WrittenRow) : Type 0 where
   pub kind : Kind
   pub listed : kindOf g (r .0) ≡ some kind
   pub good : valueFault (judged d kind (r .1)) ≡ none
   pub text : SettingText d (r .0) (r .1)
 
-abbrev pub GoodRows : Dialect → Group → List Row → Type 0
+abbrev pub GoodRows : Dialect → Group → List WrittenRow → Type 0
 GoodRows d g [] = Unit
 GoodRows d g (r ∷ rs) = GoodRow d g r × GoodRows d g rs
 
 -- no key stands twice; done are the settings before
-abbrev pub keysApart : List Row → List Row → Bool
+abbrev pub keysApart : List WrittenRow → List WrittenRow → Bool
 keysApart done [] = true
-keysApart done (r ∷ rs) = not (isSome (valueIn (r .0) done)) && keysApart (done ++ (r ∷ [])) rs
+keysApart done (r ∷ rs) = not (isSome (rowValue (r .0) done)) && keysApart (done ++ (r ∷ [])) rs
 
 pub record GoodBlock (d : Dialect) (b : Block) : Type 0 where
   pub group : Group

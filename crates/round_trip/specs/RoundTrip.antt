@@ -15,7 +15,7 @@ use Rattle.kinds.specs.Kinds.{flag, string}
 use Rattle.names.specs.Names.{networkOf}
 use Rattle.names.specs.Laws.{network-file-name}
 use Rattle.rules.specs.Tables.{keysOf}
-use Rattle.rules.specs.Faults.{Section}
+use Rattle.rules.specs.Sections.{Section}
 use Rattle.rules.specs.Groups.{has}
 use Rattle.rules.specs.Reading.{iwdName, sectionsOf, reading}
 use Rattle.rules.specs.Asking.{iwdEntry, readAs, asked}
@@ -27,13 +27,13 @@ use Rattle.rules.specs.declared.Reading.the-variants.{Accepted}
 use Rattle.records.specs.Record.{Join, laid, laidServers}
 use Rattle.records.specs.Formed.{WellFormed}
 use Rattle.written.specs.Written.{numberRows, blocksOf, fileText, suffixFor, nameText, hasPlace}
-use Rattle.written.specs.Sizes.{file-short}
+use Rattle.written.specs.LengthLaws.{file-short}
 use Rattle.joins.specs.Joins.{Joined, joined, secretFrom, orFalse, enabledIpv6, iwdSecret, iwdIpv4, iwdJoin, networkName, orRefused, iwdJoined, recordAnswer, serversAfter, iwdRecord, iwdRecordServers}
-use Rattle.round_trip.specs.Blocks.{bareBlocks, kept, valueIn, rowsIn, rowCount}
+use Rattle.round_trip.specs.Blocks.{bareBlocks, kept, rowValue, rowsIn, rowCount}
 use Rattle.round_trip.specs.Readings.{file-obeys, file-blocks}
-use Rattle.round_trip.specs.Lookups.{read-rows, has-rows, settings-rows}
-use Rattle.round_trip.specs.Groups.{blocks-good, names-apart, number-value, server-value, domain-value}
-use Rattle.round_trip.specs.Parts.{hidden-back, secret-back, ipv4-back, servers-back, domain-back, ipv6-back, numbers-obey, rules-obey}
+use Rattle.round_trip.specs.RowLookups.{read-rows, has-rows, settings-rows}
+use Rattle.round_trip.specs.GoodGroups.{blocks-good, names-apart, number-value, server-value, domain-value}
+use Rattle.round_trip.specs.PartsRead.{hidden-rows-read, secret-rows-read, number-rows-read, server-rows-read, domain-rows-read, ipv6-rows-read, numbers-obey, rules-obey}
 
 -- the groups of the file that is written
 abbrev groupsOf : Join → List Section
@@ -51,21 +51,21 @@ module _ (j : Join) (w : WellFormed j) where
   blocks = file-blocks Iwd (blocksOf j) (blocks-good j w) (names-apart j)
 
   reads : (n k : List ℕ) {A : Type 0} (f : List ℕ → Option A) →
-      readAs f (iwdEntry (groupsOf j) n k) ≡ andThen (valueIn k (rowsIn n (blocksOf j))) f
+      readAs f (iwdEntry (groupsOf j) n k) ≡ andThen (rowValue k (rowsIn n (blocksOf j))) f
   reads n k f = read-rows (groupsOf j) (blocksOf j) (names-apart j) blocks n k f
 
-  holds : (n k : List ℕ) → has n k (groupsOf j) ≡ isSome (valueIn k (rowsIn n (blocksOf j)))
+  holds : (n k : List ℕ) → has n k (groupsOf j) ≡ isSome (rowValue k (rowsIn n (blocksOf j)))
   holds n k = has-rows (groupsOf j) (blocksOf j) (names-apart j) blocks n k
 
   -- the keys of the group IPv4 but for its last two
   module _ (k : List ℕ) (a : same k (word "DNS") ≡ false) (b : same k (word "DomainName") ≡ false) where
     number-reads : {A : Type 0} (f : List ℕ → Option A) →
-        readAs f (iwdEntry (groupsOf j) (word "IPv4") k) ≡ andThen (valueIn k (numberRows (j .ipv4))) f
+        readAs f (iwdEntry (groupsOf j) (word "IPv4") k) ≡ andThen (rowValue k (numberRows (j .ipv4))) f
     number-reads f =
         reads (word "IPv4") k f
         ∙ ap (λ (o : Option (List ℕ)). andThen o f) (number-value (j .ipv4) (j .servers) (j .domain) k a b)
 
-    number-holds : has (word "IPv4") k (groupsOf j) ≡ isSome (valueIn k (numberRows (j .ipv4)))
+    number-holds : has (word "IPv4") k (groupsOf j) ≡ isSome (rowValue k (numberRows (j .ipv4)))
     number-holds = holds (word "IPv4") k ∙ ap isSome (number-value (j .ipv4) (j .servers) (j .domain) k a b)
 
   -- each part of the record
@@ -73,28 +73,28 @@ module _ (j : Join) (w : WellFormed j) where
   unfolding keysOf
   secret-read =
       ap₂ secretFrom (reads (word "Security") (word "Passphrase") (K.passphrase Iwd)) (reads (word "Security") (word "PreSharedKey") K.key)
-      ∙ secret-back (j .credential) (w .credential)
+      ∙ secret-rows-read (j .credential) (w .credential)
 
   hidden-read : orFalse (readAs (flag Iwd) (iwdEntry (groupsOf j) (word "Settings") (word "Hidden"))) ≡ j .hidden
-  hidden-read = ap orFalse (reads (word "Settings") (word "Hidden") (flag Iwd)) ∙ hidden-back (j .hidden)
+  hidden-read = ap orFalse (reads (word "Settings") (word "Hidden") (flag Iwd)) ∙ hidden-rows-read (j .hidden)
 
   ipv4-read : hasPlace (j .ipv4) ≡ true → iwdIpv4 (iwdEntry (groupsOf j) (word "IPv4")) ≡ j .ipv4
   unfolding keysOf
   ipv4-read p =
-      rw (number-reads (word "Address") refl refl address, number-reads (word "Netmask") refl refl netmask, number-reads (word "Gateway") refl refl address) (ipv4-back (j .ipv4) (w .ipv4) p)
+      rw (number-reads (word "Address") refl refl address, number-reads (word "Netmask") refl refl netmask, number-reads (word "Gateway") refl refl address) (number-rows-read (j .ipv4) (w .ipv4) p)
 
   servers-read : plain (readAs (addresses Spaces) (iwdEntry (groupsOf j) (word "IPv4") (word "DNS"))) ≡ j .servers
   servers-read =
       ap plain (reads (word "IPv4") (word "DNS") (addresses Spaces) ∙ ap (λ (o : Option (List ℕ)). andThen o (addresses Spaces)) (server-value (j .ipv4) (j .servers) (j .domain)))
-      ∙ servers-back (j .servers) (w .servers)
+      ∙ server-rows-read (j .servers) (w .servers)
 
   domain-read : plain (readAs (string Iwd 1 253) (iwdEntry (groupsOf j) (word "IPv4") (word "DomainName"))) ≡ j .domain
   domain-read =
       ap plain (reads (word "IPv4") (word "DomainName") (string Iwd 1 253) ∙ ap (λ (o : Option (List ℕ)). andThen o (string Iwd 1 253)) (domain-value (j .ipv4) (j .servers) (j .domain)))
-      ∙ domain-back (j .domain) (w .domain)
+      ∙ domain-rows-read (j .domain) (w .domain)
 
   ipv6-read : enabledIpv6 (readAs (flag Iwd) (iwdEntry (groupsOf j) (word "IPv6") (word "Enabled"))) ≡ j .ipv6
-  ipv6-read = ap enabledIpv6 (reads (word "IPv6") (word "Enabled") (flag Iwd)) ∙ ipv6-back (j .ipv6)
+  ipv6-read = ap enabledIpv6 (reads (word "IPv6") (word "Enabled") (flag Iwd)) ∙ ipv6-rows-read (j .ipv6)
 
   join-read : hasPlace (j .ipv4) ≡ true → iwdJoin (networkName (networkOf (nameText j))) (iwdEntry (groupsOf j)) ≡ j
   unfolding keysOf

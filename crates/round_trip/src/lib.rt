@@ -1,12 +1,8 @@
 // The round trip: what the writer writes reads back as the record that was written.
 //
-// specs/Blocks has groups of settings by names, keys and values alone, and Readings and Lookups what a reading of them gives.
-// Values, Groups and Parts are of the settings of a record. The theorem is in specs/RoundTrip, and of structs in specs/Structs.
-// `reads_back` says it of the code (specs/Back); records are compared by specs/Same.
-pub mod comparing;
-
+// The theorem is in specs/RoundTrip, and of structs in specs/Structs. `reads_back` says it of the code (specs/Back).
 ghost use mathlib.Core.Path.{_≡_};
-ghost use Rattle.round_trip.specs.Back.{readSame, ReadsBack};
+ghost use Rattle.round_trip.specs.Back.{readSame, RoundTrips};
 use records::JoinRecord;
 use rules::Answer;
 use writer::Written;
@@ -37,7 +33,7 @@ fn is_record(name: &[u8], file: &[u8], r: JoinRecord, servers: [[u8; 4]; 4]) -> 
 // whether the record that they give and its servers are those that were written, in every place: they are whenever
 // something is written. A refusal leaves both buffers as they were, and nothing is read.
 pub fn reads_back(r: JoinRecord, servers: [[u8; 4]; 4], name: &mut [u8], file: &mut [u8]) -> Back
-    ensures { λ b. ⌜ ReadsBack r servers (now (name .entry)) (now (file .entry)) (now (name .exit)) (now (file .exit)) b ⌝ }
+    ensures { λ b. ⌜ RoundTrips r servers (now (name .entry)) (now (file .entry)) (now (name .exit)) (now (file .exit)) b ⌝ }
 {
     let written = writer::write_iwd(r, servers, name, file);
     let answer = written.answer;

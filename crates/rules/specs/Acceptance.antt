@@ -13,9 +13,9 @@ use Rattle.text.specs.Parts.{lines}
 use Rattle.text.specs.Options.{orElse}
 use Rattle.text.specs.declared.Dialect.{Dialect}
 use Rattle.lines.specs.Lines.{lineOf}
-use Rattle.rules.specs.Faults.{Section, services, fault}
-use Rattle.rules.specs.Groups.{Fault, faultAt}
-use Rattle.rules.specs.Reading.{afterLine, lineFault, grown, sectionsOf, settings, Name, nameIn, groupsFault, verdict, readingOf, reading}
+use Rattle.rules.specs.Sections.{Section, services, settings}
+use Rattle.rules.specs.Faults.{fault, Fault, faultAt}
+use Rattle.rules.specs.Reading.{afterLine, lineFault, grown, sectionsOf, Name, nameIn, groupsFault, verdict, readingOf, reading}
 use Rattle.rules.specs.declared.Refusal.{Refusal}
 use Rattle.rules.specs.declared.Refusal.the-variants.{Size, FileName}
 use Rattle.rules.specs.declared.Reading.{Reading}
@@ -58,7 +58,7 @@ none-obey d n s gs (l ∷ ls) e =
     go (some r) q f k = absurd (Option·none-ne-some _ (sym k))
 
 -- a line that is faulty after lines that are not
-pub record FaultyLine (d : Dialect) (n s : ℕ) (gs : List Section) (ls : List (List ℕ)) (f : Fault) : Type 0 where
+pub record FirstFaulty (d : Dialect) (n s : ℕ) (gs : List Section) (ls : List (List ℕ)) (f : Fault) : Type 0 where
   pub before : List (List ℕ)
   pub line : List ℕ
   pub rest : List (List ℕ)
@@ -76,16 +76,16 @@ faulty-some d n s gs (b ∷ before) l rest f o e q =
     rw (o .0) (faulty-some d (suc n) (s + length b + 1) (afterLine d n s b gs) before l rest f (o .1) e (omega (arith, q)))
 
 some-faulty : (d : Dialect) (n s : ℕ) (gs : List Section) (ls : List (List ℕ)) (f : Fault) →
-    lineFault d n s gs ls ≡ some f → FaultyLine d n s gs ls f
+    lineFault d n s gs ls ≡ some f → FirstFaulty d n s gs ls f
 unfolding lineFault grown
 some-faulty d n s gs [] f e = absurd (Option·none-ne-some f e)
 some-faulty d n s gs (l ∷ ls) f e =
     go (fault d gs (lineOf d l)) refl (λ k. some-faulty d (suc n) (s + length l + 1) (afterLine d n s l gs) ls f k) e
   where
     go : (o : Option Refusal) → fault d gs (lineOf d l) ≡ o →
-        (lineFault d (suc n) (s + length l + 1) (afterLine d n s l gs) ls ≡ some f → FaultyLine d (suc n) (s + length l + 1) (afterLine d n s l gs) ls f) →
+        (lineFault d (suc n) (s + length l + 1) (afterLine d n s l gs) ls ≡ some f → FirstFaulty d (suc n) (s + length l + 1) (afterLine d n s l gs) ls f) →
         orElse (faultAt n o) (lineFault d (suc n) (s + length l + 1) (afterLine d n s l gs) ls) ≡ some f →
-        FaultyLine d n s gs (l ∷ ls) f
+        FirstFaulty d n s gs (l ∷ ls) f
     go none q g k =
         let h = g k in
         record { before = l ∷ h .before; line = h .line; rest = h .rest; is = ap (λ (r : List (List ℕ)). l ∷ r) (h .is); obey = (q, h .obey); faulty = h .faulty; number = omega (arith, h .number) }
@@ -117,7 +117,7 @@ pub data Offends (d : Dialect) (name file : List ℕ) : Refusal → ℕ → Type
   too-long : 16384 < length file → Offends d name file Size 0
   misnamed : length file ≤ 16384 → nameIn d name ≡ none → Offends d name file FileName 0
   in-line : length file ≤ 16384 → {k : Name} → nameIn d name ≡ some k → {f : Fault} →
-      FaultyLine d 1 0 [] (lines file) f → Offends d name file (f .refusal) (f .line)
+      FirstFaulty d 1 0 [] (lines file) f → Offends d name file (f .refusal) (f .line)
   in-group : length file ≤ 16384 → {k : Name} → nameIn d name ≡ some k → LinesObey d 1 0 [] (lines file) →
       {f : Fault} → groupsFault k (sectionsOf d file) ≡ some f → Offends d name file (f .refusal) (f .line)
 

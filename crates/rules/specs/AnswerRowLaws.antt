@@ -24,14 +24,15 @@ use Rattle.kinds.specs.declared.Kind.{Kind}
 use Rattle.names.specs.Names.{Network, networkOf, connmanName}
 use Rattle.names.specs.declared.Suffix.{Suffix}
 use Rattle.rules.specs.Tables.{groupOf, kindOf}
-use Rattle.rules.specs.Faults.{Entry, Section, given, nameGiven, serves, services, headerFault, valueFault, keyFault, settingFault, fault}
-use Rattle.rules.specs.Groups.{Fault, faultAt, lackOrClash, lacks, clashes, serviceFault, sectionFault, servicesFault, fileLacks, fileClashes, fileFault}
+use Rattle.rules.specs.Sections.{Entry, Section, given, nameGiven, serves, services}
+use Rattle.rules.specs.Faults.{headerFault, valueFault, keyFault, settingFault, fault, Fault, faultAt}
+use Rattle.rules.specs.Groups.{lackOrClash, lacks, clashes, serviceFault, sectionFault, servicesFault, fileLacks, fileClashes, fileFault}
 use Rattle.rules.specs.Reading.{Name, iwdName, connmanFile, nameIn, grown, sectionsOf, groupsFault, reading}
 use Rattle.rules.specs.Numbers.{numberOf}
-use Rattle.rules.specs.Acceptance.{FaultyLine, Offends, too-long, misnamed, in-line, in-group, refused-offends}
+use Rattle.rules.specs.Acceptance.{FirstFaulty, Offends, too-long, misnamed, in-line, in-group, refused-offends}
 use Rattle.rules.specs.GoodEntries.{iwd-plain}
-use Rattle.rules.specs.Places.{isLine, SectionStands, sections-stand}
-use Rattle.rules.specs.AnswerRows.{Row, bare, lined, placed, fits, listed, ownRows}
+use Rattle.rules.specs.EntryPlaces.{isLine, SectionStands, sections-stand}
+use Rattle.rules.specs.AnswerRows.{AnswerRow, bare, lined, placed, isRow, hasRow, ownRows}
 use Rattle.rules.specs.declared.Group.{Group}
 use Rattle.rules.specs.declared.Reading.the-variants as R
 use Rattle.rules.specs.declared.Refusal.{Refusal}
@@ -47,32 +48,32 @@ or-right : (a b : Bool) → b ≡ true → a || b ≡ true
 or-right true b e = refl
 or-right false b e = e
 
-pub listed-more : (k : ℕ) (rs ss : List Row) (n l : ℕ) → listed k rs n l ≡ true → listed k (rs ++ ss) n l ≡ true
-listed-more k [] ss n l e = absurd (true≢false (sym e))
-listed-more k (r ∷ rs) ss n l e = go (fits k n l r) e (λ q. listed-more k rs ss n l q)
+pub has-row-append : (k : ℕ) (rs ss : List AnswerRow) (n l : ℕ) → hasRow k rs n l ≡ true → hasRow k (rs ++ ss) n l ≡ true
+has-row-append k [] ss n l e = absurd (true≢false (sym e))
+has-row-append k (r ∷ rs) ss n l e = go (isRow k n l r) e (λ q. has-row-append k rs ss n l q)
   where
-    go : (b : Bool) → b || listed k rs n l ≡ true → (listed k rs n l ≡ true → listed k (rs ++ ss) n l ≡ true) →
-        b || listed k (rs ++ ss) n l ≡ true
+    go : (b : Bool) → b || hasRow k rs n l ≡ true → (hasRow k rs n l ≡ true → hasRow k (rs ++ ss) n l ≡ true) →
+        b || hasRow k (rs ++ ss) n l ≡ true
     go true q f = refl
     go false q f = f q
 
 -- whether a number has a row with a line
-abbrev hasLine : ℕ → List Row → Bool
+abbrev hasLine : ℕ → List AnswerRow → Bool
 hasLine n [] = false
 hasLine n (bare m ∷ rs) = hasLine n rs
 hasLine n (lined m ∷ rs) = eqb n m || hasLine n rs
 hasLine n (placed m ∷ rs) = hasLine n rs
 
-line-listed : (k : ℕ) (rs : List Row) (n l : ℕ) → between 1 k l ≡ true → hasLine n rs ≡ true → listed k rs n l ≡ true
-line-listed k [] n l h e = absurd (true≢false (sym e))
-line-listed k (bare m ∷ rs) n l h e = or-right (fits k n l (bare m)) (listed k rs n l) (line-listed k rs n l h e)
-line-listed k (lined m ∷ rs) n l h e = go (eqb n m) e (λ q. line-listed k rs n l h q)
+line-has-row : (k : ℕ) (rs : List AnswerRow) (n l : ℕ) → between 1 k l ≡ true → hasLine n rs ≡ true → hasRow k rs n l ≡ true
+line-has-row k [] n l h e = absurd (true≢false (sym e))
+line-has-row k (bare m ∷ rs) n l h e = or-right (isRow k n l (bare m)) (hasRow k rs n l) (line-has-row k rs n l h e)
+line-has-row k (lined m ∷ rs) n l h e = go (eqb n m) e (λ q. line-has-row k rs n l h q)
   where
-    go : (b : Bool) → b || hasLine n rs ≡ true → (hasLine n rs ≡ true → listed k rs n l ≡ true) →
-        (b && between 1 k l) || listed k rs n l ≡ true
+    go : (b : Bool) → b || hasLine n rs ≡ true → (hasLine n rs ≡ true → hasRow k rs n l ≡ true) →
+        (b && between 1 k l) || hasRow k rs n l ≡ true
     go true q f = rw h
     go false q f = f q
-line-listed k (placed m ∷ rs) n l h e = or-right (fits k n l (placed m)) (listed k rs n l) (line-listed k rs n l h e)
+line-has-row k (placed m ∷ rs) n l h e = or-right (isRow k n l (placed m)) (hasRow k rs n l) (line-has-row k rs n l h e)
 
 -- ---- lines
 
@@ -82,146 +83,146 @@ no-extension t e = subst (LineReads ConnMan t) e (line-reads ConnMan t)
 
 module _ (k l : ℕ) (here : between 1 k l ≡ true) where
   abbrev Own : Dialect → Refusal → Type 0
-  Own d r = listed k (ownRows d) (numberOf r) l ≡ true
+  Own d r = hasRow k (ownRows d) (numberOf r) l ≡ true
 
   -- a refusal of both dialects
   either : (d : Dialect) (r : Refusal) →
       hasLine (numberOf r) (ownRows Iwd) && hasLine (numberOf r) (ownRows ConnMan) ≡ true → Own d r
   either Iwd r e =
-      line-listed k (ownRows Iwd) (numberOf r) l here (and-true (hasLine (numberOf r) (ownRows Iwd)) (hasLine (numberOf r) (ownRows ConnMan)) e .0)
+      line-has-row k (ownRows Iwd) (numberOf r) l here (and-true (hasLine (numberOf r) (ownRows Iwd)) (hasLine (numberOf r) (ownRows ConnMan)) e .0)
   either ConnMan r e =
-      line-listed k (ownRows ConnMan) (numberOf r) l here (and-true (hasLine (numberOf r) (ownRows Iwd)) (hasLine (numberOf r) (ownRows ConnMan)) e .1)
+      line-has-row k (ownRows ConnMan) (numberOf r) l here (and-true (hasLine (numberOf r) (ownRows Iwd)) (hasLine (numberOf r) (ownRows ConnMan)) e .1)
 
   -- only ConnMan has services to count, and only iwd has extensions
-  header-listed : (d : Dialect) (n : List ℕ) (o : Option Group) (gs : List Section) → groupOf d n ≡ o →
+  header-has-row : (d : Dialect) (n : List ℕ) (o : Option Group) (gs : List Section) → groupOf d n ≡ o →
       Holds (Own d) (headerFault n o gs)
-  header-listed d n none gs q = either d N.UnknownGroup refl
-  header-listed d n (some g) gs q = go d q (nameGiven n gs)
+  header-has-row d n none gs q = either d N.UnknownGroup refl
+  header-has-row d n (some g) gs q = go d q (nameGiven n gs)
     where
       many : (d : Dialect) → groupOf d n ≡ some g → (a b : Bool) → serves g ≡ a →
           Holds (Own d) (cond (a && b) (some ManyServices) none)
       many d q false b p = tt
       many d q true false p = tt
       many Iwd q true true p = absurd (true≢false (sym p ∙ iwd-plain n g q))
-      many ConnMan q true true p = line-listed k (ownRows ConnMan) 13 l here refl
+      many ConnMan q true true p = line-has-row k (ownRows ConnMan) 13 l here refl
 
       go : (d : Dialect) → groupOf d n ≡ some g → (a : Bool) →
           Holds (Own d) (cond a (some RepeatedGroup) (cond (serves g && leb 8 (services gs)) (some ManyServices) none))
       go d q true = either d RepeatedGroup refl
       go d q false = many d q (serves g) (leb 8 (services gs)) refl
 
-  value-listed : (d : Dialect) (j : Judged) → Holds (Own d) (valueFault j)
-  value-listed d (good t) = tt
-  value-listed d brokenText = either d N.ValueText refl
-  value-listed d brokenKind = either d N.ValueKind refl
+  value-has-row : (d : Dialect) (j : Judged) → Holds (Own d) (valueFault j)
+  value-has-row d (good t) = tt
+  value-has-row d brokenText = either d N.ValueText refl
+  value-has-row d brokenKind = either d N.ValueKind refl
 
-  key-listed : (d : Dialect) (key v : List ℕ) (o : Option Kind) (es : List Entry) →
+  key-has-row : (d : Dialect) (key v : List ℕ) (o : Option Kind) (es : List Entry) →
       Holds (Own d) (keyFault d key v o es)
-  key-listed d key v none es = either d N.UnknownKey refl
-  key-listed d key v (some x) es = go (given key es)
+  key-has-row d key v none es = either d N.UnknownKey refl
+  key-has-row d key v (some x) es = go (given key es)
     where
       go : (b : Bool) → Holds (Own d) (cond b (some RepeatedKey) (valueFault (judged d x v)))
       go true = either d RepeatedKey refl
-      go false = value-listed d (judged d x v)
+      go false = value-has-row d (judged d x v)
 
-  setting-listed : (d : Dialect) (key v : List ℕ) (gs : List Section) → Holds (Own d) (settingFault d key v gs)
-  setting-listed d key v [] = either d N.NoGroup refl
-  setting-listed d key v (g ∷ gs) = key-listed d key v (kindOf (g .group) key) (g .entries)
+  setting-has-row : (d : Dialect) (key v : List ℕ) (gs : List Section) → Holds (Own d) (settingFault d key v gs)
+  setting-has-row d key v [] = either d N.NoGroup refl
+  setting-has-row d key v (g ∷ gs) = key-has-row d key v (kindOf (g .group) key) (g .entries)
 
-  extension-listed : (d : Dialect) (t : List ℕ) → lineOf d t ≡ broken B.Extension → Own d N.Extension
-  extension-listed Iwd t e = line-listed k (ownRows Iwd) 4 l here refl
-  extension-listed ConnMan t e = absurd (no-extension t e)
+  extension-has-row : (d : Dialect) (t : List ℕ) → lineOf d t ≡ broken B.Extension → Own d N.Extension
+  extension-has-row Iwd t e = line-has-row k (ownRows Iwd) 4 l here refl
+  extension-has-row ConnMan t e = absurd (no-extension t e)
 
-  fault-listed : (d : Dialect) (gs : List Section) (t : List ℕ) (x : Line) → lineOf d t ≡ x →
+  fault-has-row : (d : Dialect) (gs : List Section) (t : List ℕ) (x : Line) → lineOf d t ≡ x →
       Holds (Own d) (fault d gs x)
   unfolding fault
-  fault-listed d gs t blank e = tt
-  fault-listed d gs t comment e = tt
-  fault-listed d gs t (broken B.Unrecognized) e = either d N.Unrecognized refl
-  fault-listed d gs t (broken B.Extension) e = extension-listed d t e
-  fault-listed d gs t (broken B.BadHeader) e = either d N.BadHeader refl
-  fault-listed d gs t (header n) e = header-listed d n (groupOf d n) gs refl
-  fault-listed d gs t (setting key v) e = setting-listed d key v gs
+  fault-has-row d gs t blank e = tt
+  fault-has-row d gs t comment e = tt
+  fault-has-row d gs t (broken B.Unrecognized) e = either d N.Unrecognized refl
+  fault-has-row d gs t (broken B.Extension) e = extension-has-row d t e
+  fault-has-row d gs t (broken B.BadHeader) e = either d N.BadHeader refl
+  fault-has-row d gs t (header n) e = header-has-row d n (groupOf d n) gs refl
+  fault-has-row d gs t (setting key v) e = setting-has-row d key v gs
 
 -- ---- groups
 
 -- a fault of a group, which has the line l
 module _ (k l : ℕ) where
   iwd-rule : (a b : Bool) →
-      Holds (λ f. listed k (ownRows Iwd) (numberOf (f .refusal)) (f .line) ≡ true) (faultAt 0 (lackOrClash a b))
+      Holds (λ f. hasRow k (ownRows Iwd) (numberOf (f .refusal)) (f .line) ≡ true) (faultAt 0 (lackOrClash a b))
   iwd-rule true b = refl
   iwd-rule false true = refl
   iwd-rule false false = tt
 
   service-rule : between 1 k l ≡ true → (a b : Bool) →
-      Holds (λ f. listed k (ownRows ConnMan) (numberOf (f .refusal)) (f .line) ≡ true) (faultAt l (lackOrClash a b))
-  service-rule h true b = line-listed k (ownRows ConnMan) 14 l h refl
-  service-rule h false true = line-listed k (ownRows ConnMan) 15 l h refl
+      Holds (λ f. hasRow k (ownRows ConnMan) (numberOf (f .refusal)) (f .line) ≡ true) (faultAt l (lackOrClash a b))
+  service-rule h true b = line-has-row k (ownRows ConnMan) 14 l h refl
+  service-rule h false true = line-has-row k (ownRows ConnMan) 15 l h refl
   service-rule h false false = tt
 
 module _ (file : List ℕ) where
   abbrev OwnFault : Dialect → Fault → Type 0
-  OwnFault d f = listed (length (lines file)) (ownRows d) (numberOf (f .refusal)) (f .line) ≡ true
+  OwnFault d f = hasRow (length (lines file)) (ownRows d) (numberOf (f .refusal)) (f .line) ≡ true
 
-  file-listed : (s : Suffix) (gs : List Section) → Holds (OwnFault Iwd) (fileFault s gs)
+  file-has-row : (s : Suffix) (gs : List Section) → Holds (OwnFault Iwd) (fileFault s gs)
   unfolding fileFault
-  file-listed s gs = iwd-rule (length (lines file)) 0 (fileLacks s gs) (fileClashes s gs)
+  file-has-row s gs = iwd-rule (length (lines file)) 0 (fileLacks s gs) (fileClashes s gs)
 
-  section-listed : (g : Section) → SectionStands file g → Holds (OwnFault ConnMan) (sectionFault g)
+  section-has-row : (g : Section) → SectionStands file g → Holds (OwnFault ConnMan) (sectionFault g)
   unfolding serviceFault
-  section-listed g h = go (serves (g .group))
+  section-has-row g h = go (serves (g .group))
     where
       go : (b : Bool) →
           Holds (OwnFault ConnMan) (cond b (faultAt (g .line) (lackOrClash (lacks (g .entries)) (clashes (g .entries)))) none)
       go true = service-rule (length (lines file)) (g .line) (h .line) (lacks (g .entries)) (clashes (g .entries))
       go false = tt
 
-  services-listed : (gs : List Section) → Each (SectionStands file) gs → Holds (OwnFault ConnMan) (servicesFault gs)
-  services-listed [] h = tt
-  services-listed (g ∷ gs) h =
-      go (sectionFault g) (section-listed g (h .0)) (servicesFault gs) (services-listed gs (h .1))
+  services-has-row : (gs : List Section) → Each (SectionStands file) gs → Holds (OwnFault ConnMan) (servicesFault gs)
+  services-has-row [] h = tt
+  services-has-row (g ∷ gs) h =
+      go (sectionFault g) (section-has-row g (h .0)) (servicesFault gs) (services-has-row gs (h .1))
     where
       go : (a : Option Fault) → Holds (OwnFault ConnMan) a → (b : Option Fault) → Holds (OwnFault ConnMan) b →
           Holds (OwnFault ConnMan) (orElse a b)
       go none p b q = q
       go (some f) p b q = p
 
-  groups-listed : (d : Dialect) (name : List ℕ) {n : Name} → nameIn d name ≡ some n →
+  groups-has-row : (d : Dialect) (name : List ℕ) {n : Name} → nameIn d name ≡ some n →
       Holds (OwnFault d) (groupsFault n (sectionsOf d file))
-  groups-listed Iwd name {n} e = go (networkOf name) e
+  groups-has-row Iwd name {n} e = go (networkOf name) e
     where
       go : (o : Option Network) → mapped (λ x. iwdName (x .suffix)) o ≡ some n →
           Holds (OwnFault Iwd) (groupsFault n (sectionsOf Iwd file))
       go none q = absurd (Option·none-ne-some n q)
       go (some x) q =
-          rw (← Option·some-injective (iwdName (x .suffix)) n q) (file-listed (x .suffix) (sectionsOf Iwd file))
-  groups-listed ConnMan name {n} e = go (connmanName name) e
+          rw (← Option·some-injective (iwdName (x .suffix)) n q) (file-has-row (x .suffix) (sectionsOf Iwd file))
+  groups-has-row ConnMan name {n} e = go (connmanName name) e
     where
       go : (b : Bool) → only b (some connmanFile) ≡ some n →
           Holds (OwnFault ConnMan) (groupsFault n (sectionsOf ConnMan file))
       go true q =
-          rw (← Option·some-injective connmanFile n q) (services-listed (sectionsOf ConnMan file) (sections-stand ConnMan file))
+          rw (← Option·some-injective connmanFile n q) (services-has-row (sectionsOf ConnMan file) (sections-stand ConnMan file))
       go false q = absurd (Option·none-ne-some n q)
 
 -- ---- the file
 
 -- the line of a faulty line is a line of the file
-faulty-line : (d : Dialect) (file : List ℕ) {f : Fault} → FaultyLine d 1 0 [] (lines file) f →
+faulty-line : (d : Dialect) (file : List ℕ) {f : Fault} → FirstFaulty d 1 0 [] (lines file) f →
     isLine file (f .line) ≡ true
 faulty-line d file {f} w =
     let n : length (lines file) ≡ length (w .before) + length (w .line ∷ w .rest) = ap length (w .is) ∙ length-append (w .before) (w .line ∷ w .rest) in
     inside {x = f .line} 1 (length (lines file)) (omega (arith, w .number)) (omega (arith, w .number, n))
 
-offends-listed : (d : Dialect) (name file : List ℕ) {r : Refusal} {l : ℕ} → Offends d name file r l →
-    listed (length (lines file)) (ownRows d) (numberOf r) l ≡ true
-offends-listed Iwd name file (too-long h) = refl
-offends-listed ConnMan name file (too-long h) = refl
-offends-listed Iwd name file (misnamed h n) = refl
-offends-listed ConnMan name file (misnamed h n) = refl
-offends-listed d name file (in-line h n {f} w) =
-    holds-some (λ r. listed (length (lines file)) (ownRows d) (numberOf r) (f .line) ≡ true) (fault-listed (length (lines file)) (f .line) (faulty-line d file w) d (grown d 1 0 [] (w .before)) (w .line) (lineOf d (w .line)) refl) (w .faulty)
-offends-listed d name file (in-group h n o e) = holds-some (OwnFault file d) (groups-listed file d name n) e
+offends-has-row : (d : Dialect) (name file : List ℕ) {r : Refusal} {l : ℕ} → Offends d name file r l →
+    hasRow (length (lines file)) (ownRows d) (numberOf r) l ≡ true
+offends-has-row Iwd name file (too-long h) = refl
+offends-has-row ConnMan name file (too-long h) = refl
+offends-has-row Iwd name file (misnamed h n) = refl
+offends-has-row ConnMan name file (misnamed h n) = refl
+offends-has-row d name file (in-line h n {f} w) =
+    holds-some (λ r. hasRow (length (lines file)) (ownRows d) (numberOf r) (f .line) ≡ true) (fault-has-row (length (lines file)) (f .line) (faulty-line d file w) d (grown d 1 0 [] (w .before)) (w .line) (lineOf d (w .line)) refl) (w .faulty)
+offends-has-row d name file (in-group h n o e) = holds-some (OwnFault file d) (groups-has-row file d name n) e
 
-pub reading-listed : (d : Dialect) (name file : List ℕ) {r : Refusal} {l : ℕ} → reading d name file ≡ R.Refused r l →
-    listed (length (lines file)) (ownRows d) (numberOf r) l ≡ true
-reading-listed d name file e = offends-listed d name file (refused-offends d name file e)
+pub reading-has-row : (d : Dialect) (name file : List ℕ) {r : Refusal} {l : ℕ} → reading d name file ≡ R.Refused r l →
+    hasRow (length (lines file)) (ownRows d) (numberOf r) l ≡ true
+reading-has-row d name file e = offends-has-row d name file (refused-offends d name file e)

@@ -9,23 +9,23 @@ use Rattle.text.specs.declared.Dialect.the-variants.{Iwd, ConnMan}
 
 -- a row: a number, and its line, which is 0 or that of a line of the file; of a string that is found the line is its
 -- setting's, and of "an absent one .. line 0"
-pub data Row : Type 0 where
-  bare : ℕ → Row
-  lined : ℕ → Row
-  placed : ℕ → Row
+pub data AnswerRow : Type 0 where
+  bare : ℕ → AnswerRow
+  lined : ℕ → AnswerRow
+  placed : ℕ → AnswerRow
 
 -- whether the number n and the line l, of a file of k lines, are those of a row
-abbrev pub fits : ℕ → ℕ → ℕ → Row → Bool
-fits k n l (bare m) = eqb n m && eqb l 0
-fits k n l (lined m) = eqb n m && between 1 k l
-fits k n l (placed m) = eqb n m && between 0 k l
+abbrev pub isRow : ℕ → ℕ → ℕ → AnswerRow → Bool
+isRow k n l (bare m) = eqb n m && eqb l 0
+isRow k n l (lined m) = eqb n m && between 1 k l
+isRow k n l (placed m) = eqb n m && between 0 k l
 
-abbrev pub listed : ℕ → List Row → ℕ → ℕ → Bool
-listed k [] n l = false
-listed k (r ∷ rs) n l = fits k n l r || listed k rs n l
+abbrev pub hasRow : ℕ → List AnswerRow → ℕ → ℕ → Bool
+hasRow k [] n l = false
+hasRow k (r ∷ rs) n l = isRow k n l r || hasRow k rs n l
 
 -- "the file's own refusals": 4 is iwd's, 13 ConnMan's; of 14 and 15 "service header; iwd 0"
-abbrev pub ownRows : Dialect → List Row
+abbrev pub ownRows : Dialect → List AnswerRow
 ownRows Iwd =
     bare 1
     ∷ bare 2

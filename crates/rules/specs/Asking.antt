@@ -4,8 +4,7 @@ use mathlib.Core.Bool.{cond}
 use mathlib.Core.List.{List, [], _∷_}
 use mathlib.Core.Option.{Option, none, some}
 use Rattle.text.specs.Bytes.{between}
-use Rattle.rules.specs.Faults.{Entry, Section, serves}
-use Rattle.rules.specs.Groups.{entryOf, entriesIn}
+use Rattle.rules.specs.Sections.{Entry, Section, serves, entryOf, entriesIn}
 use Rattle.rules.specs.declared.Refusal.the-variants.{NoService}
 use Rattle.rules.specs.declared.Reading.{Reading}
 use Rattle.rules.specs.declared.Reading.the-variants as R
@@ -31,13 +30,13 @@ abbrev pub readAs : {A : Type 0} → (List ℕ → Option A) → Option Entry �
 readAs f none = none
 readAs f (some x) = f (x .value)
 
-abbrev pub lineIn : Option Entry → ℕ
-lineIn none = 0
-lineIn (some x) = x .line
+abbrev pub entryLine : Option Entry → ℕ
+entryLine none = 0
+entryLine (some x) = x .line
 
-abbrev pub startIn : Option Entry → ℕ
-startIn none = 0
-startIn (some x) = x .start
+abbrev pub entryStart : Option Entry → ℕ
+entryStart none = 0
+entryStart (some x) = x .start
 
 -- the answer to what is asked of a file, and of service w of it: "18: service number is 0 or above the count", after "the file's own refusals"
 abbrev pub asked : Reading → Answer

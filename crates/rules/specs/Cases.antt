@@ -17,7 +17,8 @@ use Rattle.lines.specs.Lines.{bracketOf, settingOf, lineOf, valueStart}
 use Rattle.names.specs.Names.{nameOf, networkOf}
 use Rattle.rules.specs.Numbers.{Seen, seenOf}
 use Rattle.rules.specs.Tables.{isService, groupOf, keysOf}
-use Rattle.rules.specs.Faults.{fault, after}
+use Rattle.rules.specs.Faults.{fault}
+use Rattle.rules.specs.Sections.{withLine}
 use Rattle.rules.specs.Groups.{serviceFault, fileFault}
 use Rattle.rules.specs.Reading.{lineFault, grown, sectionsOf, reading}
 
@@ -71,5 +72,5 @@ abbrev answer : Case → Seen
 answer c = c .3
 
 pub table : map of cases ≡ map answer cases
-unfolding reading lineFault grown sectionsOf serviceFault fileFault fault after isService groupOf keysOf nameOf networkOf isKeyByte isPlain bracketOf settingOf lineOf valueStart typed stringJudged kindJudged judged flag wordOf ipv4 entries colonPairs mac key ssid string value number address prefixLength lengthUpTo maskLength netmask addresses nibble unhex unescaping follow utf8From text
+unfolding reading lineFault grown sectionsOf serviceFault fileFault fault withLine isService groupOf keysOf nameOf networkOf isKeyByte isPlain bracketOf settingOf lineOf valueStart typed stringJudged kindJudged judged flag wordOf ipv4 entries colonPairs mac key ssid string value number address prefixLength lengthUpTo maskLength netmask addresses nibble unhex unescaping follow utf8From text
 table = refl

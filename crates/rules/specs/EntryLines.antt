@@ -12,8 +12,7 @@ use Rattle.text.specs.OptionLaws.{Holds}
 use Rattle.text.specs.declared.Dialect.{Dialect}
 use Rattle.lines.specs.Lines.{Line, blank, comment, header, setting, broken, lineOf, valueStart}
 use Rattle.rules.specs.Tables.{groupOf}
-use Rattle.rules.specs.Faults.{Entry, Section, serves, after, withGroup}
-use Rattle.rules.specs.Groups.{entryOf, entriesIn}
+use Rattle.rules.specs.Sections.{Entry, Section, serves, withLine, withGroup, entryOf, entriesIn}
 use Rattle.rules.specs.Reading.{afterLine, grown, sectionsOf}
 use Rattle.rules.specs.Asking.{firstOr, serviceAt}
 use Rattle.rules.specs.declared.Group.{Group}
@@ -38,8 +37,8 @@ group-counted n none l s gs h = h
 group-counted n (some g) l s gs h = (tt, h)
 
 after-counted : (d : Dialect) (n s v : ℕ) (p : Line) (gs : List Section) → 1 ≤ n → AllCounted gs →
-    AllCounted (after d n s v p gs)
-unfolding after
+    AllCounted (withLine d n s v p gs)
+unfolding withLine
 after-counted d n s v blank gs l h = h
 after-counted d n s v comment gs l h = h
 after-counted d n s v (broken b) gs l h = h

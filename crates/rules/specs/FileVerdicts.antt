@@ -13,12 +13,12 @@ use Rattle.text.specs.Occurrences.{Count}
 use Rattle.text.specs.OccurrenceLaws.{first-unique, Compared, alike, later, sooner, compare, everywhere-none, first-bad-unique}
 use Rattle.text.specs.declared.Dialect.{Dialect}
 use Rattle.lines.specs.Lines.{Line, lineOf, valueStart}
-use Rattle.rules.specs.Faults.{Section, serves, services, fault}
-use Rattle.rules.specs.Groups.{Fault, faultAt}
-use Rattle.rules.specs.Reading.{Name, iwdName, connmanFile, afterLine, lineFault, grown, settings}
-use Rattle.rules.specs.LineOrder.{IsSetting, ServiceHeader, Allowed, RowApplies, rowsOf, FirstRow, LinesAllowed, FaultyLine}
+use Rattle.rules.specs.Sections.{Section, serves, services, settings}
+use Rattle.rules.specs.Faults.{fault, Fault, faultAt}
+use Rattle.rules.specs.Reading.{Name, iwdName, connmanFile, afterLine, lineFault, grown}
+use Rattle.rules.specs.LineOrder.{IsSetting, ServiceHeader, Allowed, RowApplies, lineRows, FirstRow, LinesAllowed, FaultyLine}
 use Rattle.rules.specs.GroupRules.{SoundService, FaultyService}
-use Rattle.rules.specs.SectionLaws.{SectionsStand, services-count, settings-count, sections-more}
+use Rattle.rules.specs.SectionLaws.{SectionsRead, services-count, settings-count, sections-more}
 use Rattle.rules.specs.LineVerdicts.{LineVerdict, line-verdict, allowed-faultless}
 use Rattle.rules.specs.ServiceVerdicts.{faulty-sound, faulty-unique}
 use Rattle.rules.specs.GroupVerdicts.{GroupsVerdict}
@@ -32,7 +32,7 @@ LinesVerdict d ls (some f) = FaultyLine d ls (f .refusal) (f .line)
 
 -- the verdict, and where no line is faulty the groups as they stand in the lines
 abbrev Walked : Dialect → List Line → List Section → Option Fault → Type 0
-Walked d ls gs none = LinesAllowed d ls × SectionsStand d gs ls
+Walked d ls gs none = LinesAllowed d ls × SectionsRead d gs ls
 Walked d ls gs (some f) = FaultyLine d ls (f .refusal) (f .line)
 
 allowed-more : (d : Dialect) (before : List Line) (l : Line) → LinesAllowed d before → Allowed d before l →
@@ -53,7 +53,7 @@ abbrev faultBehind : Dialect → ℕ → ℕ → List Section → List ℕ → L
 faultBehind d n s gs l ls = lineFault d (suc n) (s + length l + 1) (afterLine d n s l gs) ls
 
 walk : (d : Dialect) (n s : ℕ) (gs : List Section) (before : List Line) (ls : List (List ℕ)) →
-    n ≡ suc (length before) → LinesAllowed d before → SectionsStand d gs before →
+    n ≡ suc (length before) → LinesAllowed d before → SectionsRead d gs before →
     Walked d (before ++ map (lineOf d) ls) (grown d n s gs ls) (lineFault d n s gs ls)
 unfolding lineFault grown
 walk d n s gs before [] e h k = rw (append-nil before) (h, k)
@@ -96,11 +96,11 @@ module _ (d : Dialect) (ls : List (List ℕ)) where
       go none w = w .0
       go (some f) w = w
 
-  pub lines-stand : lineFault d 1 0 [] ls ≡ none → SectionsStand d (grown d 1 0 [] ls) (map (lineOf d) ls)
+  pub lines-stand : lineFault d 1 0 [] ls ≡ none → SectionsRead d (grown d 1 0 [] ls) (map (lineOf d) ls)
   lines-stand e = go (lineFault d 1 0 [] ls) walked e
     where
       go : (o : Option Fault) → Walked d (map (lineOf d) ls) (grown d 1 0 [] ls) o → o ≡ none →
-          SectionsStand d (grown d 1 0 [] ls) (map (lineOf d) ls)
+          SectionsRead d (grown d 1 0 [] ls) (map (lineOf d) ls)
       go none w e = w .1
       go (some f) w e = let z : _≡_ {A = ℕ} 0 1 = cc in absurd (omega arith)
 
@@ -119,7 +119,7 @@ lines-unique d ls none none v w = refl
 lines-unique d ls none (some g) v w = absurd (everywhere-none (lines-apart d) v w)
 lines-unique d ls (some f) none v w = absurd (everywhere-none (lines-apart d) w v)
 lines-unique d ls (some f) (some g) v w =
-    fault-is (first-bad-unique (lines-apart d) (λ a x c r q h k. first-unique (RowApplies d a x) (rowsOf x) h k) v w)
+    fault-is (first-bad-unique (lines-apart d) (λ a x c r q h k. first-unique (RowApplies d a x) (lineRows x) h k) v w)
 
 services-apart : (d : Dialect) (a : List Line) (x : Line) (c : List Line) (r : Refusal) → SoundService d a x c →
     FaultyService d a x c r → ⊥
@@ -165,7 +165,7 @@ services-reverse (g ∷ gs) =
     go true = omega arith
     go false = omega arith
 
-module _ (d : Dialect) (gs : List Section) (ls : List Line) (s : SectionsStand d gs ls) where
+module _ (d : Dialect) (gs : List Section) (ls : List Line) (s : SectionsRead d gs ls) where
   pub settings-counted : Count IsSetting ls (settings (reverse gs))
   settings-counted = rw (settings-reverse gs) (settings-count d gs ls s)
 

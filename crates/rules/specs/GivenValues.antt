@@ -17,11 +17,11 @@ use Rattle.kinds.specs.ValueRuleLaws.{typed-value}
 use Rattle.kinds.specs.declared.Kind.{Kind}
 use Rattle.kinds.specs.declared.Kind.the-variants as Kind
 use Rattle.rules.specs.Tables.{isService, groupOf, kindOf}
-use Rattle.rules.specs.Faults.{Entry, Section, given, serves}
-use Rattle.rules.specs.Groups.{entryOf, entriesIn, has}
+use Rattle.rules.specs.Sections.{Entry, Section, given, serves, entryOf, entriesIn}
+use Rattle.rules.specs.Groups.{has}
 use Rattle.rules.specs.Reading.{sectionsOf, reading}
 use Rattle.rules.specs.Asking.{iwdEntry, serviceAt, readAs}
-use Rattle.rules.specs.ListedValues.{KindValue, valued, dialectOf, ValueOf, readBy, valueOf, groupName, groupValue}
+use Rattle.rules.specs.ListedValues.{KindValue, valued, groupDialect, ValueOf, readBy, valueOf, groupName, groupValue}
 use Rattle.rules.specs.GoodEntries.{Asked, group-asked, service-asked}
 use Rattle.rules.specs.GoodValues.{GoodValue, group-value, service-value}
 use Rattle.rules.specs.declared.Group.{Group}
@@ -72,35 +72,35 @@ typed-valued d Kind.Ssid v = refl
 typed-valued d Kind.Passphrase v = refl
 typed-valued d (Kind.Text low high) v = refl
 
-pub group-dialect : (d : Dialect) (n : List ℕ) {g : Group} → groupOf d n ≡ some g → dialectOf g ≡ d
+pub group-dialect : (d : Dialect) (n : List ℕ) {g : Group} → groupOf d n ≡ some g → groupDialect g ≡ d
 unfolding groupOf
 group-dialect Iwd n {g} e =
     go (same n (word "Settings")) (same n (word "Security")) (same n (word "IPv4")) (same n (word "IPv6")) e
   where
     go : (a b c d : Bool) →
         cond a (some Settings) (cond b (some Security) (cond c (some Ipv4) (cond d (some Ipv6) none))) ≡ some g →
-        dialectOf g ≡ Iwd
-    go true b c d q = ap dialectOf (sym (Option·some-injective Settings g q))
-    go false true c d q = ap dialectOf (sym (Option·some-injective Security g q))
-    go false false true d q = ap dialectOf (sym (Option·some-injective Ipv4 g q))
-    go false false false true q = ap dialectOf (sym (Option·some-injective Ipv6 g q))
+        groupDialect g ≡ Iwd
+    go true b c d q = ap groupDialect (sym (Option·some-injective Settings g q))
+    go false true c d q = ap groupDialect (sym (Option·some-injective Security g q))
+    go false false true d q = ap groupDialect (sym (Option·some-injective Ipv4 g q))
+    go false false false true q = ap groupDialect (sym (Option·some-injective Ipv6 g q))
     go false false false false q = absurd (Option·none-ne-some g q)
 group-dialect ConnMan n {g} e = go (same n (word "global")) (isService n) e
   where
-    go : (a b : Bool) → cond a (some Global) (only b (some Service)) ≡ some g → dialectOf g ≡ ConnMan
-    go true b q = ap dialectOf (sym (Option·some-injective Global g q))
-    go false true q = ap dialectOf (sym (Option·some-injective Service g q))
+    go : (a b : Bool) → cond a (some Global) (only b (some Service)) ≡ some g → groupDialect g ≡ ConnMan
+    go true b q = ap groupDialect (sym (Option·some-injective Global g q))
+    go false true q = ap groupDialect (sym (Option·some-injective Service g q))
     go false false q = absurd (Option·none-ne-some g q)
 
 -- the one name of a group that is no service names it
-pub named-group : (g : Group) → serves g ≡ false → groupOf (dialectOf g) (groupName g) ≡ some g
+pub group-of-name : (g : Group) → serves g ≡ false → groupOf (groupDialect g) (groupName g) ≡ some g
 unfolding groupOf
-named-group Settings s = refl
-named-group Security s = refl
-named-group Ipv4 s = refl
-named-group Ipv6 s = refl
-named-group Global s = refl
-named-group Service s = absurd (true≢false s)
+group-of-name Settings s = refl
+group-of-name Security s = refl
+group-of-name Ipv4 s = refl
+group-of-name Ipv6 s = refl
+group-of-name Global s = refl
+group-of-name Service s = absurd (true≢false s)
 
 -- ---- one key
 
@@ -158,10 +158,10 @@ service-gives name file a w key =
 
 -- in the group that is no service, by its own name
 pub value-gives : (g : Group) → serves g ≡ false
-    → (name file : List ℕ) {n m : ℕ} → reading (dialectOf g) name file ≡ Accepted n m
+    → (name file : List ℕ) {n m : ℕ} → reading (groupDialect g) name file ≡ Accepted n m
     → (key : List ℕ)
-    → Gives (dialectOf g) (kindOf g key) (iwdEntry (sectionsOf (dialectOf g) file) (groupName g) key) (groupValue g (iwdEntry (sectionsOf (dialectOf g) file)) key)
-value-gives g s name file a key = group-gives (dialectOf g) name file a (groupName g) (named-group g s) key
+    → Gives (groupDialect g) (kindOf g key) (iwdEntry (sectionsOf (groupDialect g) file) (groupName g) key) (groupValue g (iwdEntry (sectionsOf (groupDialect g) file)) key)
+value-gives g s name file a key = group-gives (groupDialect g) name file a (groupName g) (group-of-name g s) key
 
 -- ---- absent exactly when the key is not given
 

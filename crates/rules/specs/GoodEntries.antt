@@ -15,8 +15,8 @@ use Rattle.kinds.specs.Typed.{judged}
 use Rattle.kinds.specs.declared.Kind.{Kind}
 use Rattle.lines.specs.Lines.{Line, blank, comment, header, setting, broken, lineOf, valueStart}
 use Rattle.rules.specs.Tables.{groupOf, kindOf}
-use Rattle.rules.specs.Faults.{Entry, Section, given, serves, services, breakOf, keyFault, valueFault, headerFault, fault, after, withEntry, withGroup}
-use Rattle.rules.specs.Groups.{entryOf, entriesIn}
+use Rattle.rules.specs.Sections.{Entry, Section, given, serves, services, withLine, withEntry, withGroup, entryOf, entriesIn}
+use Rattle.rules.specs.Faults.{breakOf, keyFault, valueFault, headerFault, fault}
 use Rattle.rules.specs.Reading.{afterLine, grown, sectionsOf, reading}
 use Rattle.rules.specs.Asking.{firstOr, serviceAt}
 use Rattle.rules.specs.Acceptance.{LinesObey, Obeys, accepted-obeys}
@@ -67,8 +67,8 @@ group-more d n l s gs none q h = h
 group-more d n l s gs (some g) q h = (record { named = q; entries = tt }, h)
 
 after-good : (d : Dialect) (n s v : ℕ) (p : Line) (gs : List Section) → fault d gs p ≡ none → AllGood d gs →
-    AllGood d (after d n s v p gs)
-unfolding fault after
+    AllGood d (withLine d n s v p gs)
+unfolding fault withLine
 after-good d n s v blank gs f h = h
 after-good d n s v comment gs f h = h
 after-good d n s v (broken b) gs f h = h

@@ -9,8 +9,8 @@ use Rattle.utf8.specs.Utf8.{valueText}
 use Rattle.kinds.specs.Typed.{Typed, Judged, good, brokenText, brokenKind, byKind, typed, stringBroken, kindJudged, judged}
 use Rattle.kinds.specs.declared.Kind.{Kind}
 use Rattle.rules.specs.Tables.{groupOf, kindOf}
-use Rattle.rules.specs.Faults.{Entry, valueFault}
-use Rattle.rules.specs.Groups.{entryOf, entriesIn}
+use Rattle.rules.specs.Sections.{Entry, entryOf, entriesIn}
+use Rattle.rules.specs.Faults.{valueFault}
 use Rattle.rules.specs.Reading.{sectionsOf, reading}
 use Rattle.rules.specs.Asking.{serviceAt}
 use Rattle.rules.specs.GoodEntries.{GoodEntry, Asked, group-asked, service-asked}

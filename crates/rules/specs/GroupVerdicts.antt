@@ -20,15 +20,16 @@ use Rattle.text.specs.declared.Dialect.{Dialect}
 use Rattle.lines.specs.Lines.{Line, blank, comment, header, setting, broken}
 use Rattle.names.specs.declared.Suffix.{Suffix}
 use Rattle.names.specs.declared.Suffix.the-variants as S
-use Rattle.rules.specs.Faults.{Section}
-use Rattle.rules.specs.Groups.{Fault, faultAt, lackOrClash, serviceFault, sectionFault, servicesFault, entriesIn, has, hasSecret, isOpen, fileLacks, fileClashes, fileFault}
+use Rattle.rules.specs.Sections.{Section, entriesIn}
+use Rattle.rules.specs.Faults.{Fault, faultAt}
+use Rattle.rules.specs.Groups.{lackOrClash, serviceFault, sectionFault, servicesFault, has, hasSecret, isOpen, fileLacks, fileClashes, fileFault}
 use Rattle.rules.specs.Reading.{Name, iwdName, connmanFile, groupsFault}
 use Rattle.rules.specs.GroupKeys.{GroupIs}
 use Rattle.rules.specs.LineOrder.{IsHeader, NamesGroup, GivesKey, LinesAllowed}
 use Rattle.rules.specs.GroupRules.{groupLines, ServiceLacks, ServiceClashes, SoundService, FaultyService, In, EitherKey, FileLacks, FileClashes, GroupsSound, FaultyGroup}
 use Rattle.rules.specs.TableLaws.{serves-tells}
 use Rattle.rules.specs.HereLaws.{that-header}
-use Rattle.rules.specs.SectionLaws.{entryPairs, linePairs, pairs-tell, given-tells, SectionStands, SectionsStand}
+use Rattle.rules.specs.SectionLaws.{entryPairs, linePairs, pairs-tell, given-tells, SectionRead, SectionsRead}
 use Rattle.rules.specs.ServiceVerdicts.{Ruled, ruled, service-ruled}
 use Rattle.rules.specs.declared.Group.the-variants.{Service}
 use Rattle.rules.specs.declared.Refusal.{Refusal}
@@ -120,7 +121,7 @@ module _ (d : Dialect) where
         headed : IsHeader (f .at)
         headed = that-header (λ n. GroupIs d n Service) (f .at) (f .bad .0)
 
-  section-verdict : (g : Section) (before earlier since : List Line) → SectionStands d g before earlier since →
+  section-verdict : (g : Section) (before earlier since : List Line) → SectionRead d g before earlier since →
       Everywhere (SoundService d) earlier → ServicesVerdict (earlier ++ header (g .name) ∷ since) (sectionFault g)
   section-verdict g before earlier since a h =
       go (serves-tells d (g .name) (g .group) (a .grouped)) (serviceFault (g .entries))
@@ -156,7 +157,7 @@ module _ (d : Dialect) where
       go none e = e
       go (some f) e = refl
 
-  services-verdict : (gs : List Section) (before : List Line) → SectionsStand d gs before →
+  services-verdict : (gs : List Section) (before : List Line) → SectionsRead d gs before →
       ServicesVerdict before (servicesFault (reverse gs))
   services-verdict [] before s = no-service before (s .0)
   services-verdict (g ∷ gs) before s =
@@ -204,7 +205,7 @@ lines-in-first n (setting j v ∷ a) c h = lines-in-first n a c (λ k. h (inr k)
 lines-in-first n (broken b ∷ a) c h = lines-in-first n a c (λ k. h (inr k))
 
 -- the settings of the group with a name are those of these lines
-entries-lines : (d : Dialect) (n : List ℕ) (gs : List Section) (before : List Line) → SectionsStand d gs before →
+entries-lines : (d : Dialect) (n : List ℕ) (gs : List Section) (before : List Line) → SectionsRead d gs before →
     (hs : List Section) (tail : List Line) → groupLines tail ≡ [] →
     entryPairs (entriesIn n hs) ≡ linePairs (linesIn n tail) →
     entryPairs (entriesIn n (reverse gs ++ hs)) ≡ linePairs (linesIn n (before ++ tail))
@@ -236,7 +237,7 @@ module _ (g k : String) where
       go (holds e) f h = record { before = []; rest = ls; is = ap (λ (n : List ℕ). header n ∷ ls) (sym e); gives = h }
       go (fails e) f h = in-more (header m) ls (f h)
 
-module _ (d : Dialect) (gs : List Section) (ls : List Line) (s : SectionsStand d gs ls) (allowed : LinesAllowed d ls) where
+module _ (d : Dialect) (gs : List Section) (ls : List Line) (s : SectionsRead d gs ls) (allowed : LinesAllowed d ls) where
   in-lines : (g k : String) → In g k ls → Some (GivesKey (word k)) (linesIn (word g) ls)
   in-lines g k h =
       let once = allowed (h .before) (header (word g)) (h .rest) (h .is) .once in
@@ -278,7 +279,7 @@ abbrev pub GroupsVerdict : Dialect → Name → List Line → Option Fault → T
 GroupsVerdict d k ls none = GroupsSound d k ls
 GroupsVerdict d k ls (some f) = FaultyGroup d k ls (f .refusal) (f .line)
 
-module _ (d : Dialect) (gs : List Section) (ls : List Line) (s : SectionsStand d gs ls) (a : LinesAllowed d ls) where
+module _ (d : Dialect) (gs : List Section) (ls : List Line) (s : SectionsRead d gs ls) (a : LinesAllowed d ls) where
   file-verdict : (x : Suffix) → GroupsVerdict d (iwdName x) ls (fileFault x (reverse gs))
   unfolding fileFault
   file-verdict x =

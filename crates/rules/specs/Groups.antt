@@ -3,28 +3,20 @@ use Prim.Native.Nat.{ℕ}
 use mathlib.Core.Bool.{Bool, true, false, cond, not, _&&_, _||_}
 use mathlib.Core.List.{List, [], _∷_}
 use mathlib.Core.Option.{Option, none, some}
-use lib.Dec.{eqb}
-use Rattle.text.specs.Words.{word, same}
+use Rattle.text.specs.Words.{word}
 use Rattle.text.specs.Options.{andThen, orElse}
 use Rattle.kinds.specs.Kinds.{wordOf}
 use Rattle.kinds.specs.declared.Word.{Word}
-use Rattle.kinds.specs.declared.Word.the-variants.{Wifi, Ethernet, Off, Auto, Disabled, Enabled, Preferred, Psk, Ieee8021x, None, Wep}
+use Rattle.kinds.specs.declared.Word.the-variants.{Wifi, Ethernet, Psk, None}
 use Rattle.kinds.specs.declared.WordList.{WordList}
 use Rattle.kinds.specs.declared.WordList.the-variants as W
 use Rattle.names.specs.declared.Suffix.{Suffix}
 use Rattle.names.specs.declared.Suffix.the-variants as S
-use Rattle.rules.specs.Faults.{Entry, Section, given, serves}
+use Rattle.rules.specs.Sections.{Entry, Section, given, entryOf, entriesIn, serves}
+use Rattle.rules.specs.WordNumbers.{isWord}
+use Rattle.rules.specs.Faults.{Fault, faultAt}
 use Rattle.rules.specs.declared.Refusal.{Refusal}
 use Rattle.rules.specs.declared.Refusal.the-variants.{Missing, Contradiction}
-
--- a refusal and its line
-pub record Fault : Type 0 where
-  pub refusal : Refusal
-  pub line : ℕ
-
-abbrev pub faultAt : ℕ → Option Refusal → Option Fault
-faultAt l none = none
-faultAt l (some r) = some (record { refusal = r; line = l })
 
 -- 14 before 15
 abbrev pub lackOrClash : Bool → Bool → Option Refusal
@@ -32,37 +24,15 @@ lackOrClash lacks clashes = cond lacks (some Missing) (cond clashes (some Contra
 
 -- ---- a service
 
--- the setting with a key
-abbrev pub entryOf : List ℕ → List Entry → Option Entry
-entryOf k [] = none
-entryOf k (x ∷ xs) = cond (same k (x .key)) (some x) (entryOf k xs)
-
--- whether a setting is given and is the word w
-abbrev pub wordNumber : Word → ℕ
-wordNumber Wifi = 1
-wordNumber Ethernet = 2
-wordNumber Off = 3
-wordNumber Auto = 4
-wordNumber Disabled = 5
-wordNumber Enabled = 6
-wordNumber Preferred = 7
-wordNumber Psk = 8
-wordNumber Ieee8021x = 9
-wordNumber None = 10
-wordNumber Wep = 11
-
-abbrev pub isWord : Word → Option Word → Bool
-isWord w none = false
-isWord w (some x) = eqb (wordNumber x) (wordNumber w)
-
-abbrev pub wordIn : WordList → List ℕ → List Entry → Option Word
-wordIn l k es = andThen (entryOf k es) (λ x. wordOf l (x .value))
+-- the word that the setting with a key gives
+abbrev pub wordGiven : WordList → List ℕ → List Entry → Option Word
+wordGiven l k es = andThen (entryOf k es) (λ x. wordOf l (x .value))
 
 abbrev pub typeIs : Word → List Entry → Bool
-typeIs w es = isWord w (wordIn W.ServiceType (word "Type") es)
+typeIs w es = isWord w (wordGiven W.ServiceType (word "Type") es)
 
 abbrev pub securityIs : Word → List Entry → Bool
-securityIs w es = isWord w (wordIn W.Security (word "Security") es)
+securityIs w es = isWord w (wordGiven W.Security (word "Security") es)
 
 -- "ConnMan 14: Type missing; wifi with neither Name nor SSID; Security psk without Passphrase."
 abbrev pub lacks : List Entry → Bool
@@ -96,11 +66,7 @@ servicesFault (g ∷ gs) = orElse (sectionFault g) (servicesFault gs)
 
 -- ---- an iwd file
 
--- the settings of the group with a name
-abbrev pub entriesIn : List ℕ → List Section → List Entry
-entriesIn n [] = []
-entriesIn n (g ∷ gs) = cond (same n (g .name)) (g .entries) (entriesIn n gs)
-
+-- whether the group with a name has a key
 abbrev pub has : List ℕ → List ℕ → List Section → Bool
 has n k gs = given k (entriesIn n gs)
 

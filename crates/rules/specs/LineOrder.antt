@@ -153,18 +153,18 @@ bracketRows = R.Extension ∷ R.BadHeader ∷ R.UnknownGroup ∷ R.RepeatedGroup
 abbrev pub otherRows : List Refusal
 otherRows = R.Unrecognized ∷ R.NoGroup ∷ R.UnknownKey ∷ R.RepeatedKey ∷ R.ValueText ∷ R.ValueKind ∷ []
 
-abbrev pub rowsOf : Line → List Refusal
-rowsOf blank = otherRows
-rowsOf comment = otherRows
-rowsOf (header name) = bracketRows
-rowsOf (setting key value) = otherRows
-rowsOf (broken B.Unrecognized) = otherRows
-rowsOf (broken B.Extension) = bracketRows
-rowsOf (broken B.BadHeader) = bracketRows
+abbrev pub lineRows : Line → List Refusal
+lineRows blank = otherRows
+lineRows comment = otherRows
+lineRows (header name) = bracketRows
+lineRows (setting key value) = otherRows
+lineRows (broken B.Unrecognized) = otherRows
+lineRows (broken B.Extension) = bracketRows
+lineRows (broken B.BadHeader) = bracketRows
 
 -- "first that applies"
 abbrev pub FirstRow : Dialect → List Line → Line → Refusal → Type 0
-FirstRow d before l r = First (RowApplies d before l) (rowsOf l) r
+FirstRow d before l r = First (RowApplies d before l) (lineRows l) r
 
 -- ---- all lines of a file
 

@@ -20,12 +20,13 @@ use Rattle.lines.specs.Lines.{Line, blank, comment, header, setting, broken}
 use Rattle.lines.specs.declared.Break.{Break}
 use Rattle.lines.specs.declared.Break.the-variants as B
 use Rattle.rules.specs.Tables.{groupOf, kindOf}
-use Rattle.rules.specs.Faults.{Section, breakOf, headerFault, valueFault, keyFault, settingFault, fault}
+use Rattle.rules.specs.Sections.{Section}
+use Rattle.rules.specs.Faults.{breakOf, headerFault, valueFault, keyFault, settingFault, fault}
 use Rattle.rules.specs.GroupKeys.{GroupIs}
-use Rattle.rules.specs.LineOrder.{NamesGroup, GivesKey, Here, KeyHere, EightServices, AllowedSetting, Allowed, RowApplies, rowsOf, FirstRow}
+use Rattle.rules.specs.LineOrder.{NamesGroup, GivesKey, Here, KeyHere, EightServices, AllowedSetting, Allowed, RowApplies, lineRows, FirstRow}
 use Rattle.rules.specs.TableLaws.{key-kind, kind-key, group-named, named-group, serves-tells}
 use Rattle.rules.specs.HereLaws.{here-headed, since-without, kind-unique, key-known}
-use Rattle.rules.specs.SectionLaws.{pairs-tell, given-tells, SectionsStand, named-tells, eight-tells}
+use Rattle.rules.specs.SectionLaws.{pairs-tell, given-tells, SectionsRead, named-tells, eight-tells}
 use Rattle.rules.specs.declared.Group.{Group}
 use Rattle.rules.specs.declared.Group.the-variants.{Service}
 use Rattle.rules.specs.declared.Refusal.{Refusal}
@@ -48,7 +49,7 @@ break-first d before B.BadHeader = inr ((λ e. let z : _≡_ {A = ℕ} 0 1 = cc 
 
 -- ---- a header
 
-header-verdict : (d : Dialect) (gs : List Section) (before : List Line) → SectionsStand d gs before →
+header-verdict : (d : Dialect) (gs : List Section) (before : List Line) → SectionsRead d gs before →
     (n : List ℕ) (o : Option Group) → groupOf d n ≡ o → LineVerdict d before (header n) (headerFault n o gs)
 header-verdict d gs before s n none q =
     inr (never, inr (never, inl ((λ g h. Option·none-ne-some g (sym q ∙ group-named d n g h)), refl)))
@@ -66,7 +67,7 @@ header-verdict d gs before s n (some g) q =
 
 -- ---- a setting
 
-module _ (d : Dialect) (g : Section) (gs : List Section) (before : List Line) (s : SectionsStand d (g ∷ gs) before) (k v : List ℕ) where
+module _ (d : Dialect) (g : Section) (gs : List Section) (before : List Line) (s : SectionsRead d (g ∷ gs) before) (k v : List ℕ) where
   abbrev here : Here d before
   here = record {
     earlier = s .0;
@@ -124,14 +125,14 @@ module _ (d : Dialect) (g : Section) (gs : List Section) (before : List Line) (s
   key-verdict (some kind) q =
       listed-verdict kind q (pairs-tell (λ j u. k ≡ j) (g .entries) (s .1) (s .2 .entries) (given-tells k (g .entries)))
 
-setting-verdict : (d : Dialect) (gs : List Section) (before : List Line) → SectionsStand d gs before →
+setting-verdict : (d : Dialect) (gs : List Section) (before : List Line) → SectionsRead d gs before →
     (k v : List ℕ) → LineVerdict d before (setting k v) (settingFault d k v gs)
 setting-verdict d [] before s k v = inr (never, inl (s .0, refl))
 setting-verdict d (g ∷ gs) before s k v = key-verdict d g gs before s k v (kindOf (g .group) k) refl
 
 -- ---- a line
 
-pub line-verdict : (d : Dialect) (gs : List Section) (before : List Line) → SectionsStand d gs before →
+pub line-verdict : (d : Dialect) (gs : List Section) (before : List Line) → SectionsRead d gs before →
     (l : Line) → LineVerdict d before l (fault d gs l)
 unfolding fault
 line-verdict d gs before s blank = tt
@@ -143,7 +144,7 @@ line-verdict d gs before s (setting k v) = setting-verdict d gs before s k v
 -- ---- no row applies to a line that is allowed
 
 abbrev NoRow : Dialect → List Line → Line → Type 0
-NoRow d before l = Each (λ r. ¬ RowApplies d before l r) (rowsOf l)
+NoRow d before l = Each (λ r. ¬ RowApplies d before l r) (lineRows l)
 
 setting-no-row : (d : Dialect) (before : List Line) (k v : List ℕ) → AllowedSetting d before k v →
     NoRow d before (setting k v)
@@ -168,4 +169,4 @@ no-row d before (broken b) a = absurd a
 
 pub allowed-faultless : (d : Dialect) (before : List Line) (l : Line) (r : Refusal) → Allowed d before l →
     FirstRow d before l r → ⊥
-allowed-faultless d before l r a f = none-first (RowApplies d before l) (rowsOf l) r (no-row d before l a) f
+allowed-faultless d before l r a f = none-first (RowApplies d before l) (lineRows l) r (no-row d before l a) f

@@ -15,7 +15,7 @@ use Rattle.kinds.specs.declared.Word.{Word}
 use Rattle.kinds.specs.declared.Kind.{Kind}
 use Rattle.kinds.specs.declared.Kind.the-variants as Kind
 use Rattle.rules.specs.Tables.{kindOf}
-use Rattle.rules.specs.Faults.{Entry}
+use Rattle.rules.specs.Sections.{Entry}
 use Rattle.rules.specs.Asking.{readAs}
 use Rattle.rules.specs.declared.Group.{Group}
 use Rattle.rules.specs.declared.Group.the-variants.{Settings, Security, Ipv4, Ipv6, Global, Service}
@@ -51,13 +51,13 @@ valued d Kind.Passphrase = K.passphrase d
 valued d (Kind.Text low high) = K.string d low high
 
 -- "iwd groups: Settings .. Security .. IPv4 .. IPv6 ..", "ConnMan groups: `global` .. `service_` .."
-abbrev pub dialectOf : Group → Dialect
-dialectOf Settings = Iwd
-dialectOf Security = Iwd
-dialectOf Ipv4 = Iwd
-dialectOf Ipv6 = Iwd
-dialectOf Global = ConnMan
-dialectOf Service = ConnMan
+abbrev pub groupDialect : Group → Dialect
+groupDialect Settings = Iwd
+groupDialect Security = Iwd
+groupDialect Ipv4 = Iwd
+groupDialect Ipv6 = Iwd
+groupDialect Global = ConnMan
+groupDialect Service = ConnMan
 
 -- of a key that is not listed there is no value at all
 abbrev pub ValueOf : Option Kind → Type 0
@@ -70,7 +70,7 @@ readBy d (some k) e = readAs (valued d k) e
 
 -- the value of key k, at giving the settings of a group g by their keys: none where that one is absent
 abbrev pub valueOf : (g : Group) → (List ℕ → Option Entry) → (k : List ℕ) → Option (ValueOf (kindOf g k))
-valueOf g at k = readBy (dialectOf g) (kindOf g k) (at k)
+valueOf g at k = readBy (groupDialect g) (kindOf g k) (at k)
 
 -- a group that is no service has one name
 abbrev pub groupName : Group → List ℕ

@@ -12,15 +12,16 @@ use Rattle.text.specs.declared.Dialect.the-variants.{Iwd, ConnMan}
 use Rattle.lines.specs.Lines.{lineOf, valueStart}
 use Rattle.names.specs.Names.{Network, networkOf, connmanName}
 use Rattle.names.specs.declared.Suffix.{Suffix}
-use Rattle.rules.specs.Faults.{Section, services, fault, after}
-use Rattle.rules.specs.Groups.{Fault, faultAt, servicesFault, fileFault}
+use Rattle.rules.specs.Sections.{Section, settings, services, withLine}
+use Rattle.rules.specs.Faults.{Fault, faultAt, fault}
+use Rattle.rules.specs.Groups.{servicesFault, fileFault}
 use Rattle.rules.specs.declared.Refusal.the-variants.{Size, FileName}
 use Rattle.rules.specs.declared.Reading.{Reading}
 use Rattle.rules.specs.declared.Reading.the-variants.{Accepted, Refused}
 
 -- the groups after a line, whose number is n and which starts at s
 abbrev pub afterLine : Dialect → ℕ → ℕ → List ℕ → List Section → List Section
-afterLine d n s l gs = after d n s (valueStart d l) (lineOf d l) gs
+afterLine d n s l gs = withLine d n s (valueStart d l) (lineOf d l) gs
 
 -- the first faulty line, each judged after those before it
 unfoldable pub lineFault : Dialect → ℕ → ℕ → List Section → List (List ℕ) → Option Fault
@@ -35,11 +36,6 @@ grown d n s gs (l ∷ ls) = grown d (suc n) (s + length l + 1) (afterLine d n s 
 -- the groups of a file, in file order
 unfoldable pub sectionsOf : Dialect → List ℕ → List Section
 sectionsOf d file = reverse (grown d 1 0 [] (lines file))
-
--- "the number of setting lines"
-abbrev pub settings : List Section → ℕ
-settings [] = 0
-settings (g ∷ gs) = length (g .entries) + settings gs
 
 -- what a file's name says: of an iwd file its suffix
 pub data Name : Type 0 where

@@ -16,11 +16,11 @@ use Rattle.text.specs.declared.Dialect.{Dialect}
 use Rattle.lines.specs.Lines.{Line, blank, comment, header, setting, broken, lineOf}
 use Rattle.lines.specs.LineRuleLaws.{file-lines, lines-file}
 use Rattle.lines.specs.declared.Break.the-variants as B
-use Rattle.rules.specs.Faults.{services}
-use Rattle.rules.specs.Groups.{Fault}
-use Rattle.rules.specs.Reading.{Name, iwdName, connmanFile, nameIn, lineFault, grown, sectionsOf, settings, groupsFault, verdict, readingOf, reading}
+use Rattle.rules.specs.Sections.{services, settings}
+use Rattle.rules.specs.Faults.{Fault}
+use Rattle.rules.specs.Reading.{Name, iwdName, connmanFile, nameIn, lineFault, grown, sectionsOf, groupsFault, verdict, readingOf, reading}
 use Rattle.rules.specs.Numbers.{numberOf}
-use Rattle.rules.specs.LineOrder.{IsSetting, ServiceHeader, RowApplies, rowsOf, LinesAllowed, FaultyLine}
+use Rattle.rules.specs.LineOrder.{IsSetting, ServiceHeader, RowApplies, lineRows, LinesAllowed, FaultyLine}
 use Rattle.rules.specs.GroupRules.{Faulty, missing, contradicts, FaultyGroup}
 use Rattle.rules.specs.FileRules.{Admitted, AcceptedFile, RefusedAtLine, RefusedAtGroup, RefusedFile, too-long, misnamed, at-line, at-group, Answers}
 use Rattle.rules.specs.NameLaws.{named-is, is-named, unnamed, none-named}
@@ -33,40 +33,40 @@ use Rattle.rules.specs.declared.Reading.the-variants.{Accepted, Refused}
 
 -- ---- the reading's answer is one by the rules
 
-abbrev linesOf : Dialect → List ℕ → List Line
-linesOf d file = map (lineOf d) (lines file)
+abbrev textLines : Dialect → List ℕ → List Line
+textLines d file = map (lineOf d) (lines file)
 
 abbrev firstFault : Dialect → List ℕ → Option Fault
 firstFault d file = lineFault d 1 0 [] (lines file)
 
 module _ (d : Dialect) (name file : List ℕ) where
   groups-judged : (k : Name) → firstFault d file ≡ none →
-      GroupsVerdict d k (linesOf d file) (groupsFault k (sectionsOf d file))
+      GroupsVerdict d k (textLines d file) (groupsFault k (sectionsOf d file))
   unfolding sectionsOf
   groups-judged k e =
-      groups-verdict d (grown d 1 0 [] (lines file)) (linesOf d file) (lines-stand d (lines file) e)
-      (subst (LinesVerdict d (linesOf d file)) e (lines-verdict d (lines file))) k
+      groups-verdict d (grown d 1 0 [] (lines file)) (textLines d file) (lines-stand d (lines file) e)
+      (subst (LinesVerdict d (textLines d file)) e (lines-verdict d (lines file))) k
 
-  module _ {k : Name} (a : Admitted d name file k (linesOf d file)) where
-    group-answer : firstFault d file ≡ none → LinesAllowed d (linesOf d file) → (o : Option Fault) →
-        GroupsVerdict d k (linesOf d file) o → Answers d name file (verdict o (sectionsOf d file))
+  module _ {k : Name} (a : Admitted d name file k (textLines d file)) where
+    group-answer : firstFault d file ≡ none → LinesAllowed d (textLines d file) → (o : Option Fault) →
+        GroupsVerdict d k (textLines d file) o → Answers d name file (verdict o (sectionsOf d file))
     unfolding sectionsOf
     group-answer e h none v = record {
       kind = k;
-      ls = linesOf d file;
+      ls = textLines d file;
       admitted = a;
       allowed = h;
       sound = v;
-      settings = settings-counted d (grown d 1 0 [] (lines file)) (linesOf d file) (lines-stand d (lines file) e);
-      services = services-counted d (grown d 1 0 [] (lines file)) (linesOf d file) (lines-stand d (lines file) e);
+      settings = settings-counted d (grown d 1 0 [] (lines file)) (textLines d file) (lines-stand d (lines file) e);
+      services = services-counted d (grown d 1 0 [] (lines file)) (textLines d file) (lines-stand d (lines file) e);
     }
     group-answer e h (some f) v =
-        at-group (record { kind = k; ls = linesOf d file; admitted = a; allowed = h; faulty = v })
+        at-group (record { kind = k; ls = textLines d file; admitted = a; allowed = h; faulty = v })
 
-    line-answer : (o : Option Fault) → firstFault d file ≡ o → LinesVerdict d (linesOf d file) o →
+    line-answer : (o : Option Fault) → firstFault d file ≡ o → LinesVerdict d (textLines d file) o →
         Answers d name file (verdict (orElse o (groupsFault k (sectionsOf d file))) (sectionsOf d file))
     line-answer none e v = group-answer e v (groupsFault k (sectionsOf d file)) (groups-judged k e)
-    line-answer (some f) e v = at-line (record { kind = k; ls = linesOf d file; admitted = a; faulty = v })
+    line-answer (some f) e v = at-line (record { kind = k; ls = textLines d file; admitted = a; faulty = v })
 
   pub reading-answers : Answers d name file (reading d name file)
   unfolding reading
@@ -86,17 +86,17 @@ module _ (d : Dialect) (name file : List ℕ) where
   -- ---- and an answer by the rules is the reading's
 
   module _ {k : Name} {ls : List Line} (a : Admitted d name file k ls) where
-    lines-are : linesOf d file ≡ ls
+    lines-are : textLines d file ≡ ls
     lines-are = lines-file d file ls (a .lines)
 
     line-decides : (o : Option Fault) → LinesVerdict d ls o → firstFault d file ≡ o
     line-decides o v =
-        lines-unique d (linesOf d file) (firstFault d file) o (lines-verdict d (lines file)) (rw lines-are v)
+        lines-unique d (textLines d file) (firstFault d file) o (lines-verdict d (lines file)) (rw lines-are v)
 
     group-decides : LinesAllowed d ls → (o : Option Fault) → GroupsVerdict d k ls o →
         groupsFault k (sectionsOf d file) ≡ o
     group-decides h o v =
-        groups-unique d k (linesOf d file) (groupsFault k (sectionsOf d file)) o
+        groups-unique d k (textLines d file) (groupsFault k (sectionsOf d file)) o
         (groups-judged k (line-decides none h)) (rw lines-are v)
 
     admitted-reading : reading d name file ≡ verdict (orElse (firstFault d file) (groupsFault k (sectionsOf d file))) (sectionsOf d file)
@@ -110,8 +110,8 @@ module _ (d : Dialect) (name file : List ℕ) where
       let q = lines-are (h .admitted) in
       let s = lines-stand d (lines file) e in
       let gs = grown d 1 0 [] (lines file) in
-      let i = settings-counted d gs (linesOf d file) s in
-      let j = services-counted d gs (linesOf d file) s in
+      let i = settings-counted d gs (textLines d file) s in
+      let j = services-counted d gs (textLines d file) s in
       let c : settings (reverse gs) ≡ n = count-unique IsSetting (rw q at i) (h .settings) in
       let b : services (reverse gs) ≡ m = count-unique (ServiceHeader d) (rw q at j) (h .services) in
       admitted-reading (h .admitted) ∙ rw (e, group-decides (h .admitted) (h .allowed) none (h .sound)) (ap₂ Accepted c b)
@@ -135,7 +135,7 @@ module _ (d : Dialect) (name file : List ℕ) where
 
 -- ---- which numbers a line has, and which a group
 
-rows-numbered : (l : Line) → Each (λ r. numberOf r ≤ 13) (rowsOf l)
+rows-numbered : (l : Line) → Each (λ r. numberOf r ≤ 13) (lineRows l)
 rows-numbered blank = omega arith
 rows-numbered comment = omega arith
 rows-numbered (header n) = omega arith
@@ -146,7 +146,7 @@ rows-numbered (broken B.BadHeader) = omega arith
 
 line-numbered : (d : Dialect) (ls : List Line) (r : Refusal) (n : ℕ) → FaultyLine d ls r n → numberOf r ≤ 13
 line-numbered d ls r n h =
-    first-each (RowApplies d (h .before) (h .at)) (λ q. numberOf q ≤ 13) (rowsOf (h .at)) (rows-numbered (h .at)) (h .bad)
+    first-each (RowApplies d (h .before) (h .at)) (λ q. numberOf q ≤ 13) (lineRows (h .at)) (rows-numbered (h .at)) (h .bad)
 
 rule-numbered : {L C : Type 0} {r : Refusal} → Faulty L C r → 14 ≤ numberOf r
 rule-numbered (missing h) = omega arith

@@ -16,8 +16,9 @@ use Rattle.lines.specs.declared.Break.the-variants as B
 use Rattle.kinds.specs.Typed.{Judged, good, brokenText, brokenKind, judged}
 use Rattle.kinds.specs.declared.Kind.{Kind}
 use Rattle.rules.specs.Tables.{groupOf, kindOf}
-use Rattle.rules.specs.Faults.{Entry, Section, given, nameGiven, serves, services, headerFault, valueFault, keyFault, settingFault, fault}
-use Rattle.rules.specs.Groups.{Fault, faultAt, lackOrClash, lacks, clashes, serviceFault, sectionFault, servicesFault, fileLacks, fileClashes, fileFault}
+use Rattle.rules.specs.Sections.{Entry, Section, given, nameGiven, serves, services}
+use Rattle.rules.specs.Faults.{headerFault, valueFault, keyFault, settingFault, fault, Fault, faultAt}
+use Rattle.rules.specs.Groups.{lackOrClash, lacks, clashes, serviceFault, sectionFault, servicesFault, fileLacks, fileClashes, fileFault}
 use Rattle.rules.specs.Reading.{Name, iwdName, connmanFile, nameIn, afterLine, lineFault, sectionsOf, groupsFault, verdict, readingOf, reading}
 use Rattle.rules.specs.Numbers.{numberOf}
 use Rattle.rules.specs.declared.Group.{Group}

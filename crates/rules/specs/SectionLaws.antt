@@ -20,8 +20,8 @@ use Rattle.kinds.specs.Typed.{judged}
 use Rattle.kinds.specs.declared.Kind.{Kind}
 use Rattle.lines.specs.Lines.{Line, blank, comment, header, setting, broken}
 use Rattle.rules.specs.Tables.{groupOf, kindOf}
-use Rattle.rules.specs.Faults.{Entry, Section, given, nameGiven, services, breakOf, headerFault, valueFault, keyFault, fault, withGroup, after}
-use Rattle.rules.specs.Reading.{settings}
+use Rattle.rules.specs.Sections.{Entry, Section, given, nameGiven, services, withGroup, withLine, settings}
+use Rattle.rules.specs.Faults.{breakOf, headerFault, valueFault, keyFault, fault}
 use Rattle.rules.specs.GroupKeys.{GroupIs}
 use Rattle.rules.specs.LineOrder.{SettingThat, IsHeader, NamesGroup, ServiceHeader, IsSetting, EightServices}
 use Rattle.rules.specs.TableLaws.{serves-tells}
@@ -32,14 +32,14 @@ use Rattle.rules.specs.declared.Refusal.the-variants as R
 
 -- ---- keys and values
 
-abbrev pub Pair : Type 0
-Pair = List ℕ × List ℕ
+abbrev pub KeyValue : Type 0
+KeyValue = List ℕ × List ℕ
 
-abbrev pub entryPairs : List Entry → List Pair
+abbrev pub entryPairs : List Entry → List KeyValue
 entryPairs [] = []
 entryPairs (e ∷ es) = (e .key, e .value) ∷ entryPairs es
 
-abbrev pub linePairs : List Line → List Pair
+abbrev pub linePairs : List Line → List KeyValue
 linePairs [] = []
 linePairs (blank ∷ ls) = linePairs ls
 linePairs (comment ∷ ls) = linePairs ls
@@ -47,11 +47,11 @@ linePairs (header n ∷ ls) = linePairs ls
 linePairs (setting k v ∷ ls) = (k, v) ∷ linePairs ls
 linePairs (broken b ∷ ls) = linePairs ls
 
-abbrev pub KeyIn : List ℕ → List Pair → Type 0
+abbrev pub KeyIn : List ℕ → List KeyValue → Type 0
 KeyIn k ps = Some (λ p. k ≡ p .0) ps
 
 -- no key is given twice
-abbrev pub Once : List Pair → Type 0
+abbrev pub Once : List KeyValue → Type 0
 Once [] = Unit
 Once (p ∷ ps) = (¬ KeyIn (p .0) ps) × Once ps
 
@@ -99,18 +99,18 @@ line-pairs-append [] b = refl
 line-pairs-append (blank ∷ a) b = line-pairs-append a b
 line-pairs-append (comment ∷ a) b = line-pairs-append a b
 line-pairs-append (header n ∷ a) b = line-pairs-append a b
-line-pairs-append (setting k v ∷ a) b = ap (λ (r : List Pair). (k, v) ∷ r) (line-pairs-append a b)
+line-pairs-append (setting k v ∷ a) b = ap (λ (r : List KeyValue). (k, v) ∷ r) (line-pairs-append a b)
 line-pairs-append (broken c ∷ a) b = line-pairs-append a b
 
 entry-pairs-append : (es : List Entry) (e : Entry) →
     entryPairs (es ++ (e ∷ [])) ≡ entryPairs es ++ ((e .key, e .value) ∷ [])
 entry-pairs-append [] e = refl
-entry-pairs-append (x ∷ es) e = ap (λ (r : List Pair). (x .key, x .value) ∷ r) (entry-pairs-append es e)
+entry-pairs-append (x ∷ es) e = ap (λ (r : List KeyValue). (x .key, x .value) ∷ r) (entry-pairs-append es e)
 
-once-append : (k v : List ℕ) (ps : List Pair) → Once ps → ¬ KeyIn k ps → Once (ps ++ ((k, v) ∷ []))
+once-append : (k v : List ℕ) (ps : List KeyValue) → Once ps → ¬ KeyIn k ps → Once (ps ++ ((k, v) ∷ []))
 once-append k v [] o n = ((λ z. z), tt)
 once-append k v (p ∷ ps) o n =
-    ((λ h. go (some-either (λ (q : Pair). p .0 ≡ q .0) ps ((k, v) ∷ []) h)), once-append k v ps (o .1) (λ h. n (inr h)))
+    ((λ h. go (some-either (λ (q : KeyValue). p .0 ≡ q .0) ps ((k, v) ∷ []) h)), once-append k v ps (o .1) (λ h. n (inr h)))
   where
     go : KeyIn (p .0) ps ⊎ ((p .0 ≡ k) ⊎ ⊥) → ⊥
     go (inl h) = o .0 h
@@ -120,7 +120,7 @@ once-append k v (p ∷ ps) o n =
 -- ---- the groups stand in the lines
 
 -- a group stands in the lines before: its header behind the earlier lines, and its settings since
-pub record SectionStands (d : Dialect) (g : Section) (before earlier since : List Line) : Type 0 where
+pub record SectionRead (d : Dialect) (g : Section) (before earlier since : List Line) : Type 0 where
   pub is : before ≡ earlier ++ header (g .name) ∷ since
   pub latest : Each (λ l. ¬ IsHeader l) since
   pub grouped : groupOf d (g .name) ≡ some (g .group)
@@ -129,12 +129,12 @@ pub record SectionStands (d : Dialect) (g : Section) (before earlier since : Lis
   pub line : g .line ≡ suc (length earlier)
 
 -- the groups, the latest first
-abbrev pub SectionsStand : Dialect → List Section → List Line → Type 0
-SectionsStand d [] before = Each (λ l. ¬ IsHeader l) before × (linePairs before ≡ [])
-SectionsStand d (g ∷ gs) before =
-    (earlier : List Line) × (since : List Line) × SectionStands d g before earlier since × SectionsStand d gs earlier
+abbrev pub SectionsRead : Dialect → List Section → List Line → Type 0
+SectionsRead d [] before = Each (λ l. ¬ IsHeader l) before × (linePairs before ≡ [])
+SectionsRead d (g ∷ gs) before =
+    (earlier : List Line) × (since : List Line) × SectionRead d g before earlier since × SectionsRead d gs earlier
 
-pub named-tells : (d : Dialect) (gs : List Section) (before : List Line) → SectionsStand d gs before →
+pub named-tells : (d : Dialect) (gs : List Section) (before : List Line) → SectionsRead d gs before →
     (n : List ℕ) → Tells (Some (NamesGroup n) before) (nameGiven n gs)
 named-tells d [] before s n = fails (headless (λ m. n ≡ m) before (s .0))
 named-tells d (g ∷ gs) before s n =
@@ -160,7 +160,7 @@ no-services d ls h =
     count-none (ServiceHeader d) ls
     (each-weaken (λ l. ¬ IsHeader l) (λ l. ¬ ServiceHeader d l) (λ l n s. n (that-header (λ m. GroupIs d m Service) l s)) ls h)
 
-pub services-count : (d : Dialect) (gs : List Section) (before : List Line) → SectionsStand d gs before →
+pub services-count : (d : Dialect) (gs : List Section) (before : List Line) → SectionsRead d gs before →
     Count (ServiceHeader d) before (services gs)
 services-count d [] before s = no-services d before (s .0)
 services-count d (g ∷ gs) before s =
@@ -179,7 +179,7 @@ services-count d (g ∷ gs) before s =
         subst (Count (ServiceHeader d) (s .0 ++ header (g .name) ∷ s .1)) (sym q)
         (count-append (ServiceHeader d) c (count-other h rest))
 
-pub eight-tells : (d : Dialect) (gs : List Section) (before : List Line) → SectionsStand d gs before →
+pub eight-tells : (d : Dialect) (gs : List Section) (before : List Line) → SectionsRead d gs before →
     Tells (EightServices d before) (leb 8 (services gs))
 eight-tells d gs before s =
     tells (leb 8 (services gs))
@@ -200,7 +200,7 @@ pairs-long : (es : List Entry) → length (entryPairs es) ≡ length es
 pairs-long [] = refl
 pairs-long (e ∷ es) = ap suc (pairs-long es)
 
-pub settings-count : (d : Dialect) (gs : List Section) (before : List Line) → SectionsStand d gs before →
+pub settings-count : (d : Dialect) (gs : List Section) (before : List Line) → SectionsRead d gs before →
     Count IsSetting before (settings gs)
 settings-count d [] before s = rw (s .1) at (pairs-count before)
 settings-count d (g ∷ gs) before s =
@@ -231,7 +231,7 @@ not-given k es e h = go (given-tells k es) e
 module _ (d : Dialect) (before earlier since : List Line) (l : Line) (p : ¬ IsHeader l) where
   stands-more : (g h : Section) → h .name ≡ g .name → h .group ≡ g .group → h .line ≡ g .line →
       entryPairs (h .entries) ≡ entryPairs (g .entries) ++ linePairs (l ∷ []) → Once (linePairs since ++ linePairs (l ∷ [])) →
-      SectionStands d g before earlier since → SectionStands d h (before ++ (l ∷ [])) earlier (since ++ (l ∷ []))
+      SectionRead d g before earlier since → SectionRead d h (before ++ (l ∷ [])) earlier (since ++ (l ∷ []))
   stands-more g h n o i e u a = record {
     is =
         ap (λ (r : List Line). r ++ (l ∷ [])) (a .is)
@@ -239,14 +239,14 @@ module _ (d : Dialect) (before earlier since : List Line) (l : Line) (p : ¬ IsH
         ∙ ap (λ (m : List ℕ). earlier ++ header m ∷ (since ++ (l ∷ []))) (sym n);
     latest = each-append (λ b. ¬ IsHeader b) since (l ∷ []) (a .latest) (p, tt);
     grouped = ap (groupOf d) n ∙ a .grouped ∙ ap some (sym o);
-    entries = e ∙ ap (λ (r : List Pair). r ++ linePairs (l ∷ [])) (a .entries) ∙ sym (line-pairs-append since (l ∷ []));
+    entries = e ∙ ap (λ (r : List KeyValue). r ++ linePairs (l ∷ [])) (a .entries) ∙ sym (line-pairs-append since (l ∷ []));
     once = rw (line-pairs-append since (l ∷ [])) u;
     line = i ∙ a .line;
   }
 
 plain-more : (d : Dialect) (gs : List Section) (before : List Line) (l : Line) → ¬ IsHeader l →
     linePairs (l ∷ []) ≡ [] →
-    SectionsStand d gs before → SectionsStand d gs (before ++ (l ∷ []))
+    SectionsRead d gs before → SectionsRead d gs (before ++ (l ∷ []))
 plain-more d [] before l p q s =
     (each-append (λ b. ¬ IsHeader b) before (l ∷ []) (s .0) (p, tt), line-pairs-append before (l ∷ []) ∙ ap₂ _++_ (s .1) q)
 plain-more d (g ∷ gs) before l p q s = (
@@ -260,15 +260,15 @@ plain-more d (g ∷ gs) before l p q s = (
 
 group-more : (d : Dialect) (gs : List Section) (before : List Line) (n : List ℕ) (l s : ℕ) (o : Option Group) →
     groupOf d n ≡ o → l ≡ suc (length before) → headerFault n o gs ≡ none →
-    SectionsStand d gs before → SectionsStand d (withGroup n o l s gs) (before ++ (header n ∷ []))
+    SectionsRead d gs before → SectionsRead d (withGroup n o l s gs) (before ++ (header n ∷ []))
 group-more d gs before n l s none q i f h = absurd (Option·none-ne-some R.UnknownGroup (sym f))
 group-more d gs before n l s (some g) q i f h =
     (before, [], record { is = refl; latest = tt; grouped = q; entries = refl; once = tt; line = i }, h)
 
 pub sections-more : (d : Dialect) (gs : List Section) (before : List Line) (n s at : ℕ) (l : Line) →
     n ≡ suc (length before) → fault d gs l ≡ none →
-    SectionsStand d gs before → SectionsStand d (after d n s at l gs) (before ++ (l ∷ []))
-unfolding fault after
+    SectionsRead d gs before → SectionsRead d (withLine d n s at l gs) (before ++ (l ∷ []))
+unfolding fault withLine
 sections-more d gs before n s at blank i f h = plain-more d gs before blank (λ z. z) refl h
 sections-more d gs before n s at comment i f h = plain-more d gs before comment (λ z. z) refl h
 sections-more d gs before n s at (broken b) i f h = absurd (Option·none-ne-some (breakOf b) (sym f))

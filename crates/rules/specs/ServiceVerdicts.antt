@@ -19,29 +19,30 @@ use Rattle.kinds.specs.declared.Word.the-variants.{Wifi, Ethernet, Psk, None}
 use Rattle.kinds.specs.declared.WordList.{WordList}
 use Rattle.kinds.specs.declared.WordList.the-variants as W
 use Rattle.lines.specs.Lines.{Line}
-use Rattle.rules.specs.Faults.{Entry, given}
-use Rattle.rules.specs.Groups.{lackOrClash, entryOf, isWord, wordIn, lacks, clashes, serviceFault}
+use Rattle.rules.specs.Sections.{Entry, given, entryOf}
+use Rattle.rules.specs.Groups.{lackOrClash, wordGiven, lacks, clashes, serviceFault}
+use Rattle.rules.specs.WordNumbers.{isWord}
 use Rattle.rules.specs.GroupRules.{Has, HasValue, Faulty, missing, contradicts, ServiceLacks, ServiceClashes}
-use Rattle.rules.specs.SectionLaws.{Pair, Once, entryPairs, linePairs, pairs-tell, given-tells}
+use Rattle.rules.specs.SectionLaws.{KeyValue, Once, entryPairs, linePairs, pairs-tell, given-tells}
 use Rattle.rules.specs.declared.Refusal.{Refusal}
 
 -- ---- a word that is spelled in one way only
 
 -- no row of the table stands for the word; only the row of the text v does
-abbrev absent : Word → List (List ℕ × Word) → Bool
-absent w [] = true
-absent w (row ∷ t) = not (isWord w (some (row .1))) && absent w t
+abbrev unlisted : Word → List (List ℕ × Word) → Bool
+unlisted w [] = true
+unlisted w (row ∷ t) = not (isWord w (some (row .1))) && unlisted w t
 
 abbrev spelled : Word → List ℕ → List (List ℕ × Word) → Bool
 spelled w v [] = false
 spelled w v (row ∷ t) =
-    cond (same (row .0) v) (isWord w (some (row .1)) && absent w t) (not (isWord w (some (row .1))) && spelled w v t)
+    cond (same (row .0) v) (isWord w (some (row .1)) && unlisted w t) (not (isWord w (some (row .1))) && spelled w v t)
 
-absent-named : (w : Word) (u : List ℕ) (t : List (List ℕ × Word)) → absent w t ≡ true → isWord w (named u t) ≡ false
-absent-named w u [] h = refl
-absent-named w u (row ∷ t) h =
-    let p = and-true (not (isWord w (some (row .1)))) (absent w t) h in
-    go (same u (row .0)) (not-true (isWord w (some (row .1))) (p .0)) (absent-named w u t (p .1))
+unlisted-named : (w : Word) (u : List ℕ) (t : List (List ℕ × Word)) → unlisted w t ≡ true → isWord w (named u t) ≡ false
+unlisted-named w u [] h = refl
+unlisted-named w u (row ∷ t) h =
+    let p = and-true (not (isWord w (some (row .1)))) (unlisted w t) h in
+    go (same u (row .0)) (not-true (isWord w (some (row .1))) (p .0)) (unlisted-named w u t (p .1))
   where
     go : (b : Bool) → isWord w (some (row .1)) ≡ false → isWord w (named u t) ≡ false →
         isWord w (cond b (some (row .1)) (named u t)) ≡ false
@@ -54,15 +55,15 @@ spelled-tells w v [] h u = absurd (false≢true h)
 spelled-tells w v (row ∷ t) h u = go (same-tells (row .0) v) (same-tells u (row .0)) h (λ k. spelled-tells w v t k u)
   where
     go : {a b : Bool} → Tells (row .0 ≡ v) a → Tells (u ≡ row .0) b →
-        cond a (isWord w (some (row .1)) && absent w t) (not (isWord w (some (row .1))) && spelled w v t) ≡ true →
+        cond a (isWord w (some (row .1)) && unlisted w t) (not (isWord w (some (row .1))) && spelled w v t) ≡ true →
         (spelled w v t ≡ true → Tells (u ≡ v) (isWord w (named u t))) →
         Tells (u ≡ v) (isWord w (cond b (some (row .1)) (named u t)))
     go (holds p) (holds q) h k =
-        let e = and-true (isWord w (some (row .1))) (absent w t) h in
+        let e = and-true (isWord w (some (row .1))) (unlisted w t) h in
         subst (Tells (u ≡ v)) (sym (e .0)) (holds (q ∙ p))
     go (holds p) (fails q) h k =
-        let e = and-true (isWord w (some (row .1))) (absent w t) h in
-        subst (Tells (u ≡ v)) (sym (absent-named w u t (e .1))) (fails (λ i. q (i ∙ sym p)))
+        let e = and-true (isWord w (some (row .1))) (unlisted w t) h in
+        subst (Tells (u ≡ v)) (sym (unlisted-named w u t (e .1))) (fails (λ i. q (i ∙ sym p)))
     go (fails p) (holds q) h k =
         let e = and-true (not (isWord w (some (row .1)))) (spelled w v t) h in
         subst (Tells (u ≡ v)) (sym (not-true (isWord w (some (row .1))) (e .0))) (fails (λ i. p (sym q ∙ i)))
@@ -71,26 +72,26 @@ spelled-tells w v (row ∷ t) h u = go (same-tells (row .0) v) (same-tells u (ro
 -- ---- whether a key is given a word
 
 -- one of the pairs is the key with the value
-abbrev Said : List ℕ → List ℕ → List Pair → Type 0
+abbrev Said : List ℕ → List ℕ → List KeyValue → Type 0
 Said k v ps = Some (λ p. (k ≡ p .0) × (v ≡ p .1)) ps
 
 module _ (w : Word) (t : WordList) (v : List ℕ) (f : (u : List ℕ) → Tells (u ≡ v) (isWord w (wordOf t u))) (k : List ℕ) where
   word-tells : (es : List Entry) → Once (entryPairs es) →
-      Tells (Said k v (entryPairs es)) (isWord w (wordIn t k es))
+      Tells (Said k v (entryPairs es)) (isWord w (wordGiven t k es))
   word-tells [] o = fails (λ z. z)
   word-tells (x ∷ es) o = go (same-tells k (x .key)) (word-tells es (o .1))
     where
       first : k ≡ x .key → Said k v (entryPairs (x ∷ es)) → x .value ≡ v
       first e (inl h) = sym (h .1)
       first e (inr h) =
-          let value : (p : Pair) → (k ≡ p .0) × (v ≡ p .1) → x .key ≡ p .0 = λ p i. sym e ∙ i .0 in
-          absurd (o .0 (some-weaken (λ (p : Pair). (k ≡ p .0) × (v ≡ p .1)) (λ (p : Pair). x .key ≡ p .0) value (entryPairs es) h))
+          let value : (p : KeyValue) → (k ≡ p .0) × (v ≡ p .1) → x .key ≡ p .0 = λ p i. sym e ∙ i .0 in
+          absurd (o .0 (some-weaken (λ (p : KeyValue). (k ≡ p .0) × (v ≡ p .1)) (λ (p : KeyValue). x .key ≡ p .0) value (entryPairs es) h))
 
       further : ¬ (k ≡ x .key) → Said k v (entryPairs (x ∷ es)) → Said k v (entryPairs es)
       further n (inl h) = absurd (n (h .0))
       further n (inr h) = h
 
-      go : {b : Bool} → Tells (k ≡ x .key) b → Tells (Said k v (entryPairs es)) (isWord w (wordIn t k es)) →
+      go : {b : Bool} → Tells (k ≡ x .key) b → Tells (Said k v (entryPairs es)) (isWord w (wordGiven t k es)) →
           Tells (Said k v (entryPairs (x ∷ es))) (isWord w (andThen (cond b (some x) (entryOf k es)) (λ y. wordOf t (y .value))))
       go (holds e) r = tells-alike (λ i. inl (e, sym i)) (first e) (f (x .value))
       go (fails n) r = tells-alike (λ h. inr h) (further n) r
@@ -124,7 +125,7 @@ module _ (es : List Entry) (ls : List Line) (q : entryPairs es ≡ linePairs ls)
   has-key k = pairs-tell (λ j u. word k ≡ j) es ls q (given-tells (word k) es)
 
   has-value : (k v : String) (w : Word) (t : WordList) → spelled w (word v) (wordsOf t) ≡ true →
-      Tells (HasValue k v ls) (isWord w (wordIn t (word k) es))
+      Tells (HasValue k v ls) (isWord w (wordGiven t (word k) es))
   unfolding wordOf
   has-value k v w t h =
       pairs-tell (λ j u. (word k ≡ j) × (word v ≡ u)) es ls q

@@ -17,7 +17,7 @@ use Rattle.text.specs.declared.Dialect.{Dialect}
 use Rattle.text.specs.declared.Dialect.the-variants.{Iwd, ConnMan}
 use Rattle.kinds.specs.declared.Kind.{Kind}
 use Rattle.rules.specs.Tables.{iwdGroups, isService, groupOf, keysOf, kindOf}
-use Rattle.rules.specs.Faults.{serves}
+use Rattle.rules.specs.Sections.{serves}
 use Rattle.rules.specs.GoodEntries.{serves-service}
 use Rattle.rules.specs.GroupKeys.{InTable, ServiceName, GroupIs, KeyIs}
 use Rattle.rules.specs.declared.Group.{Group}

@@ -1,12 +1,7 @@
-// The rules over a file: its groups, keys and kinds as tables, and the refusals by name.
+// The rules over a file, in definitions alone: its groups, keys and kinds as tables, the refusals by name, and what a reading
+// answers. Crate `tables` has the tables in code.
 //
 // This is document 01's "The numbers a caller sees", its lists of groups and keys, and "Rules over a group".
-pub mod asking;
-pub mod key_kinds;
-pub mod numbers;
-pub mod tables;
-
-use kinds::Kind;
 
 // The refusals, in the order of document 01's numbers 1 to 19.
 pub enum Refusal {
@@ -51,22 +46,4 @@ pub enum Group {
     Ipv6,
     Global,
     Service,
-}
-
-// The group that a header names, or that it names none.
-pub enum Named {
-    Is(Group),
-    Unknown,
-}
-
-// The kind of the key at a place, or that there is none.
-pub enum KindAt {
-    Is(Kind),
-    Unknown,
-}
-
-// A key by its place among the keys of its group, from 1, and its kind.
-pub enum Listed {
-    Key(usize, Kind),
-    Unknown,
 }

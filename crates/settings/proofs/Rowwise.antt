@@ -28,9 +28,10 @@ use Rattle.kinds.specs.declared.Key.{Key}
 use Rattle.kinds.specs.declared.Mac.{Mac}
 use Rattle.kinds.specs.declared.Ssid.{Ssid}
 use Rattle.rules.specs.Tables.{keysOf}
-use Rattle.rules.specs.Faults.{Entry}
-use Rattle.rules.specs.Groups.{entryOf, isWord, wordNumber}
-use Rattle.rules.specs.Asking.{readAs, lineIn, startIn}
+use Rattle.rules.specs.WordNumbers.{isWord, wordNumber}
+use Rattle.rules.specs.Asking.{readAs, entryLine, entryStart}
+use Rattle.rules.specs.Sections.{Entry, entryOf}
+use Rattle.tables.specs.KeyPlaces.{keyNames}
 use Rattle.rules.specs.declared.Group.the-variants as G
 use Rattle.reader.specs.Store.{Slot}
 use Rattle.reader.specs.History.{base}
@@ -99,10 +100,10 @@ module _ {d : Dialect} {file x : List ℕ} {b : ℕ} (k : KeyName) {es : List En
   pub row-read : {A : Type 0} (f : List ℕ → Option A) → f [] ≡ none → IfText k (f (bytesOf file x b k) ≡ readAs f (entryOf (nameOf k) es))
   row-read f q = when (isText (kindOf k)) (λ t. kept-read d (some (kindOf k)) file (keySlot x b k) f q t (entryOf (nameOf k) es) (row-key k h))
 
-  pub row-line : keySlot x b k .line ≡ lineIn (entryOf (nameOf k) es)
+  pub row-line : keySlot x b k .line ≡ entryLine (entryOf (nameOf k) es)
   row-line = kept-line d (some (kindOf k)) file (keySlot x b k) (entryOf (nameOf k) es) (row-key k h)
 
-  pub row-start : IfText k (keySlot x b k .start ≡ startIn (entryOf (nameOf k) es))
+  pub row-start : IfText k (keySlot x b k .start ≡ entryStart (entryOf (nameOf k) es))
   row-start = when (isText (kindOf k)) (λ t. kept-start d (some (kindOf k)) file (keySlot x b k) t (entryOf (nameOf k) es) (row-key k h))
 
 -- ---- a yes/no and a word by their codes

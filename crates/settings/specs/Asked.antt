@@ -6,8 +6,8 @@ use mathlib.Core.Option.{none}
 use lib.ListN.{length}
 use Rattle.text.specs.Words.{word}
 use Rattle.text.specs.declared.Dialect.the-variants.{Iwd, ConnMan}
-use Rattle.rules.specs.Faults.{Entry, Section}
-use Rattle.rules.specs.Groups.{entryOf, entriesIn}
+use Rattle.tables.specs.KeyPlaces.{keyNames}
+use Rattle.rules.specs.Sections.{Entry, Section, entryOf, entriesIn}
 use Rattle.rules.specs.Reading.{sectionsOf, reading}
 use Rattle.rules.specs.Asking.{iwdEntry, serviceAt, asked, askedOf}
 use Rattle.rules.specs.declared.Answer.{Answer}

@@ -5,7 +5,7 @@ use mathlib.Core.Path.{_≡_}
 use mathlib.Core.Bool.{Bool, true, false}
 use mathlib.Core.List.{List}
 use Rattle.text.specs.Words.{word}
-use Rattle.rules.specs.Faults.{Entry, Section, given}
+use Rattle.rules.specs.Sections.{Entry, Section, given}
 use Rattle.rules.specs.Groups.{has}
 use Rattle.settings.specs.declared.Choice.{Choice}
 use Rattle.settings.specs.declared.Choice.the-variants as C

@@ -20,10 +20,10 @@ use Rattle.kinds.specs.Answers.{ipv4Answer, macAnswer, keyAnswer, ssidAnswer}
 use Rattle.kinds.specs.Values.{netmask-good, addresses-good}
 use Rattle.kinds.specs.declared.Word.{Word}
 use Rattle.rules.specs.Tables.{groupOf, keysOf}
-use Rattle.rules.specs.Faults.{Entry, given}
-use Rattle.rules.specs.Groups.{entryOf, entriesIn, has}
+use Rattle.rules.specs.Sections.{Entry, given, entryOf, entriesIn}
+use Rattle.rules.specs.Groups.{has}
 use Rattle.rules.specs.Reading.{sectionsOf, reading}
-use Rattle.rules.specs.Asking.{iwdEntry, serviceAt, readAs, lineIn, asked, askedOf}
+use Rattle.rules.specs.Asking.{iwdEntry, serviceAt, readAs, entryLine, asked, askedOf}
 use Rattle.rules.specs.ListedValues.{ValueOf, groupName, valueOf, groupValue}
 use Rattle.rules.specs.GivenValues.{read-holds, entry-given, group-given, service-given}
 use Rattle.rules.specs.EntryLines.{group-line, service-line}
@@ -83,7 +83,7 @@ count-given : {A : Type 0} (o : Option (List A)) → Holds (λ l. 1 ≤ length l
 count-given none h = refl
 count-given (some l) h = positive (length l) h
 
-line-given : (o : Option Entry) → Holds (λ e. 1 ≤ e .line) o → nonzero (lineIn o) ≡ isSome o
+line-given : (o : Option Entry) → Holds (λ e. 1 ≤ e .line) o → nonzero (entryLine o) ≡ isSome o
 line-given none h = refl
 line-given (some e) h = positive (e .line) h
 
@@ -115,7 +115,7 @@ module _ (name file : List ℕ) (a : asked (reading Iwd name file) ≡ Good) whe
   value-given g q key = group-given Iwd name file (asked-reading (reading Iwd name file) a .1 .1) (groupName g) q key
 
   string-given : (group key : List ℕ) →
-      nonzero (lineIn (iwdEntry (sectionsOf Iwd file) group key)) ≡ has group key (sectionsOf Iwd file)
+      nonzero (entryLine (iwdEntry (sectionsOf Iwd file) group key)) ≡ has group key (sectionsOf Iwd file)
   string-given group key =
       line-given (iwdEntry (sectionsOf Iwd file) group key) (group-line Iwd file group key)
       ∙ entry-given key (entriesIn group (sectionsOf Iwd file))
@@ -152,7 +152,7 @@ module _ (name file : List ℕ) (w : ℕ) (a : askedOf w (reading ConnMan name f
   key-value-given key = service-given name file (asked-service w (reading ConnMan name file) a .is) w key
 
   key-string-given : (key : List ℕ) →
-      nonzero (lineIn (entryOf key (serviceAt w (sectionsOf ConnMan file)))) ≡ given key (serviceAt w (sectionsOf ConnMan file))
+      nonzero (entryLine (entryOf key (serviceAt w (sectionsOf ConnMan file)))) ≡ given key (serviceAt w (sectionsOf ConnMan file))
   key-string-given key =
       line-given (entryOf key (serviceAt w (sectionsOf ConnMan file))) (service-line ConnMan file w key)
       ∙ entry-given key (serviceAt w (sectionsOf ConnMan file))

@@ -4,8 +4,8 @@ use mathlib.Core.Path.{_≡_}
 use mathlib.Core.List.{List}
 use mathlib.Core.Option.{Option}
 use Rattle.text.specs.declared.Dialect.{Dialect}
-use Rattle.rules.specs.Faults.{Entry}
-use Rattle.rules.specs.Groups.{entryOf}
+use Rattle.tables.specs.KeyPlaces.{keyNames}
+use Rattle.rules.specs.Sections.{Entry, entryOf}
 use Rattle.rules.specs.declared.Group.{Group}
 use Rattle.reader.specs.Holds.{Row}
 use Rattle.reader.specs.Closing.{InTable, keySlot}

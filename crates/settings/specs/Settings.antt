@@ -9,8 +9,8 @@ use Rattle.text.specs.Options.{plain}
 use Rattle.addresses.specs.Addresses.{addressAnswer, rows}
 use Rattle.kinds.specs.Answers.{ipv4Answer, entriesAnswer, macAnswer, keyAnswer, ssidAnswer}
 use Rattle.rules.specs.Tables.{keysOf}
-use Rattle.rules.specs.Faults.{Entry}
-use Rattle.rules.specs.Asking.{lineIn, startIn}
+use Rattle.rules.specs.Sections.{Entry}
+use Rattle.rules.specs.Asking.{entryLine, entryStart}
 use Rattle.rules.specs.ListedValues.{valueOf, groupValue}
 use Rattle.rules.specs.declared.Group.the-variants.{Settings, Security, Ipv4, Ipv6, Service}
 use Rattle.settings.specs.Values.{choice, chosen, lengthOr0}
@@ -42,7 +42,7 @@ unfolding keysOf
 securityOf at =
     let value = valueOf Security at in
     record {
-      passphrase = lineIn (at (word "Passphrase"));
+      passphrase = entryLine (at (word "Passphrase"));
       «pre_shared_key» = keyAnswer (value (word "PreSharedKey"));
     }
 
@@ -58,7 +58,7 @@ ipv4Of at =
       broadcast = addressAnswer (value (word "Broadcast"));
       netmask = lengthOr0 (value (word "Netmask"));
       dns = length (plain (value (word "DNS")));
-      «domain_name» = lineIn (at (word "DomainName"));
+      «domain_name» = entryLine (at (word "DomainName"));
       «send_hostname» = choice (value (word "SendHostname"));
     }
 
@@ -87,9 +87,9 @@ networkSettingsOf at =
     let value = valueOf Service at in
     record {
       «service_type» = chosen (value (word "Type"));
-      name = lineIn (at (word "Name"));
+      name = entryLine (at (word "Name"));
       ssid = ssidAnswer (value (word "SSID"));
-      passphrase = lineIn (at (word "Passphrase"));
+      passphrase = entryLine (at (word "Passphrase"));
       security = chosen (value (word "Security"));
       hidden = choice (value (word "Hidden"));
     }
@@ -106,9 +106,9 @@ addressSettingsOf at =
       privacy = chosen (value (word "IPv6.Privacy"));
       mac = macAnswer (value (word "MAC"));
       nameservers = length (plain (value (word "Nameservers")));
-      «search_domains» = entriesAnswer (startIn (at (word "SearchDomains"))) (value (word "SearchDomains"));
-      timeservers = entriesAnswer (startIn (at (word "Timeservers"))) (value (word "Timeservers"));
-      domain = lineIn (at (word "Domain"));
+      «search_domains» = entriesAnswer (entryStart (at (word "SearchDomains"))) (value (word "SearchDomains"));
+      timeservers = entriesAnswer (entryStart (at (word "Timeservers"))) (value (word "Timeservers"));
+      domain = entryLine (at (word "Domain"));
     }
 
 abbrev pub serviceSettings : (List ℕ → Option Entry) → ServiceSettings

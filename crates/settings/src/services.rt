@@ -18,7 +18,7 @@ use reader::judging::base_of;
 use rules::Answer;
 use rules::Group;
 use rules::Refusal;
-use rules::asking;
+use tables::asking;
 use text::Dialect;
 
 // The settings of a service, by its row.

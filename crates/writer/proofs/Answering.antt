@@ -17,7 +17,7 @@ use Rattle.records.specs.Record.{joined}
 use Rattle.records.specs.Formed.{formed}
 use Rattle.records.specs.declared.JoinRecord.{JoinRecord}
 use Rattle.written.specs.Written.{hasPlace, nameText, fileText}
-use Rattle.written.specs.Parts.{numbersOf, numbersIn, SuffixOf}
+use Rattle.written.specs.RecordParts.{recordIpv4, numbersIn, SuffixOf}
 use Rattle.writer.specs.Writing.{room, refuses, writingOf, writingPlaced, writing, writtenAnswer, Writes}
 use Rattle.writer.specs.declared.Written.{Written}
 
@@ -56,7 +56,7 @@ module _ (r : JoinRecord) (s : List (List ℕ)) (n f : List ℕ) {t : Bool} (e :
   unfolding writing
   malformed l {a} g = rw (sym e ∙ not-true t l) (record { answer = g; name = refl; file = refl })
 
-  module _ (l : not t ≡ false) {i : Ipv4} (k : i ≡ numbersOf r) {p : Bool} (d : p ≡ hasPlace (numbersIn i)) where
+  module _ (l : not t ≡ false) {i : Ipv4} (k : i ≡ recordIpv4 r) {p : Bool} (d : p ≡ hasPlace (numbersIn i)) where
     pub well-formed : formed r s ≡ true
     well-formed = sym e ∙ not-false t l
 

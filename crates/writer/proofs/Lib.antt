@@ -1,2 +1,2 @@
-pub mod Within
+pub mod Counts
 pub mod Answering

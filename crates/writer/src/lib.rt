@@ -7,13 +7,13 @@ ghost use mathlib.Core.Path.{_≡_};
 ghost use mathlib.Core.Bool.{true};
 ghost use Rattle.records.specs.Record.{joined};
 ghost use Rattle.writer.specs.Writing.{writing, writingOf, writingPlaced, refuses, writtenAnswer, Writes};
-ghost use Rattle.written.specs.Parts.{Within};
+ghost use Rattle.written.specs.RecordParts.{CountsWithin};
 use records::JoinRecord;
+use rendering::groups;
+use rendering::sizes;
 use rules::Answer;
 use rules::Refusal;
-use written::groups;
 use written::parts;
-use written::sizes;
 
 // The answer, and how many bytes are new in the buffers of the name and of the file; 0 where nothing was written.
 pub struct Written {
@@ -41,7 +41,7 @@ pub fn write_placed(
     name: &mut [u8],
     file: &mut [u8],
 ) -> Written
-    requires { ⌜ Within r ⌝ }
+    requires { ⌜ CountsWithin r ⌝ }
     ensures { λ a. ⌜ Writes (writingOf (joined r servers) (now (name .entry)) (now (file .entry))) (now (name .entry)) (now (file .entry)) (now (name .exit)) (now (file .exit)) a ⌝ }
 {
     let credential = r.credential;

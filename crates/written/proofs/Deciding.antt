@@ -8,15 +8,15 @@ use lib.ListN.{length, take}
 use Rattle.kinds.specs.Kinds.{IPv4}
 use Rattle.kinds.specs.declared.Ipv4.{Ipv4}
 use Rattle.kinds.specs.declared.Method.the-variants.{Dhcp, Off, Static}
-use Rattle.written.specs.Written.{Row, numberRows, serverRows, domainRows, ipv4Rows, hasPlace}
-use Rattle.written.specs.Parts.{numbersIn}
+use Rattle.written.specs.Written.{WrittenRow, numberRows, serverRows, domainRows, ipv4Rows, hasPlace}
+use Rattle.written.specs.RecordParts.{numbersIn}
 use Rattle.written.specs.Texts.{someRow}
 
-some-behind : (a b : List Row) → someRow b ≡ true → someRow (a ++ b) ≡ true
+some-behind : (a b : List WrittenRow) → someRow b ≡ true → someRow (a ++ b) ≡ true
 some-behind [] b e = e
 some-behind (r ∷ a) b e = refl
 
-some-front : (a b : List Row) → someRow a ≡ true → someRow (a ++ b) ≡ true
+some-front : (a b : List WrittenRow) → someRow a ≡ true → someRow (a ++ b) ≡ true
 some-front (r ∷ a) b e = refl
 some-front [] b e = absurd (mathlib.Core.Bool.false≢true e)
 

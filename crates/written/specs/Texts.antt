@@ -1,63 +1,18 @@
--- The text of settings and of groups, and how it is put together.
-use Prim.Native.Nat.{ℕ, _+_, _≤_}
-use native.Mathlib.Omega.{arith}
-use mathlib.Core.Path.{_≡_, refl, ap, sym, _∙_}
+-- The text of settings and of a group, as the code writes them one by one.
+use Prim.Native.Nat.{ℕ}
 use mathlib.Core.Bool.{Bool, true, false}
-use mathlib.Core.List.{List, [], _∷_, _++_, append-assoc, append-nil}
-use lib.ListN.{length, length-append}
-use Rattle.text.specs.Words.{word}
+use mathlib.Core.List.{List, [], _∷_}
 use Rattle.text.specs.declared.Dialect.the-variants as D
-use Rattle.lines.specs.Lines.{Line}
-use Rattle.lines.specs.Rendering.{render, rendered}
-use Rattle.records.specs.Record.{Join}
-use Rattle.written.specs.Written.{Row, Block, rowLines, groupLines, blockLines, hiddenRows, secretRows, ipv4Rows, ipv6Rows, blocksOf, fileText}
+use Rattle.lines.specs.Rendering.{rendered}
+use Rattle.written.specs.Written.{WrittenRow, rowLines, headedLines}
 
-unfoldable pub rowsText : List Row → List ℕ
+unfoldable pub rowsText : List WrittenRow → List ℕ
 rowsText rs = rendered D.Iwd (rowLines rs)
 
-unfoldable pub groupText : List ℕ → List Row → List ℕ
-groupText n rs = rendered D.Iwd (groupLines n rs)
+unfoldable pub groupText : List ℕ → List WrittenRow → List ℕ
+groupText n rs = rendered D.Iwd (headedLines n rs)
 
 -- whether there is a setting
-abbrev pub someRow : List Row → Bool
+abbrev pub someRow : List WrittenRow → Bool
 someRow [] = false
 someRow (r ∷ rs) = true
-
--- ---- texts behind one another
-
-rendered-append : (a b : List Line) → rendered D.Iwd (a ++ b) ≡ rendered D.Iwd a ++ rendered D.Iwd b
-rendered-append [] b = refl
-rendered-append (l ∷ a) b =
-    ap (λ (t : List ℕ). render D.Iwd l ++ 10 ∷ t) (rendered-append a b)
-    ∙ sym (append-assoc (render D.Iwd l) (10 ∷ rendered D.Iwd a) (rendered D.Iwd b))
-
-rowLines-append : (a b : List Row) → rowLines (a ++ b) ≡ rowLines a ++ rowLines b
-rowLines-append [] b = refl
-rowLines-append (r ∷ a) b = ap (λ (t : List Line). Rattle.lines.specs.Lines.setting (r .0) (r .1) ∷ t) (rowLines-append a b)
-
-pub rows-append : (a b : List Row) → rowsText (a ++ b) ≡ rowsText a ++ rowsText b
-unfolding rowsText
-rows-append a b = ap (rendered D.Iwd) (rowLines-append a b) ∙ rendered-append (rowLines a) (rowLines b)
-
--- a group with a setting: its header, and then its settings
-pub group-text : (n : List ℕ) (rs : List Row) → someRow rs ≡ true → groupText n rs ≡ (91 ∷ (n ++ 93 ∷ 10 ∷ [])) ++ rowsText rs
-unfolding rowsText groupText
-group-text n [] e = absurd (mathlib.Core.Bool.false≢true e)
-group-text n (r ∷ rs) e = ap (λ (t : List ℕ). 91 ∷ t) (append-assoc n (93 ∷ []) (10 ∷ rendered D.Iwd (rowLines (r ∷ rs))) ∙ sym (append-assoc n (93 ∷ 10 ∷ []) (rendered D.Iwd (rowLines (r ∷ rs)))))
-
-pub group-none : (n : List ℕ) (rs : List Row) → someRow rs ≡ false → groupText n rs ≡ []
-unfolding groupText
-group-none n [] e = refl
-group-none n (r ∷ rs) e = absurd (mathlib.Core.Bool.true≢false e)
-
--- the file is the text of its four groups
-pub file-groups : (j : Join) → fileText j ≡ groupText (word "Settings") (hiddenRows (j .hidden)) ++ groupText (word "Security") (secretRows (j .credential)) ++ groupText (word "IPv4") (ipv4Rows (j .ipv4) (j .servers) (j .domain)) ++ groupText (word "IPv6") (ipv6Rows (j .ipv6))
-unfolding fileText groupText
-file-groups j =
-    let a = groupLines (word "Settings") (hiddenRows (j .hidden)) in
-    let b = groupLines (word "Security") (secretRows (j .credential)) in
-    let c = groupLines (word "IPv4") (ipv4Rows (j .ipv4) (j .servers) (j .domain)) in
-    let d = groupLines (word "IPv6") (ipv6Rows (j .ipv6)) in
-    rendered-append a (b ++ (c ++ (d ++ [])))
-    ∙ ap (λ (t : List ℕ). rendered D.Iwd a ++ t) (rendered-append b (c ++ (d ++ [])) ∙ ap (λ (t : List ℕ). rendered D.Iwd b ++ t) (rendered-append c (d ++ []) ∙ ap (λ (t : List ℕ). rendered D.Iwd c ++ t) (ap (rendered D.Iwd) (append-nil d))))
-    ∙ simp append-assoc

@@ -23,65 +23,65 @@ use Rattle.records.specs.declared.Ipv6.the-variants.{Auto, Off}
 -- ---- groups of settings
 
 -- a setting: its key and its value
-abbrev pub Row : Type 0
-Row = List ℕ × List ℕ
+abbrev pub WrittenRow : Type 0
+WrittenRow = List ℕ × List ℕ
 
 -- a group: its name and its settings
 pub record Block : Type 0 where
   pub name : List ℕ
-  pub rows : List Row
+  pub rows : List WrittenRow
 
-abbrev pub rowLines : List Row → List Line
+abbrev pub rowLines : List WrittenRow → List Line
 rowLines [] = []
 rowLines (r ∷ rs) = setting (r .0) (r .1) ∷ rowLines rs
 
 -- groups, "only those with a line"
-abbrev pub groupLines : List ℕ → List Row → List Line
-groupLines n [] = []
-groupLines n (r ∷ rs) = header n ∷ rowLines (r ∷ rs)
+abbrev pub headedLines : List ℕ → List WrittenRow → List Line
+headedLines n [] = []
+headedLines n (r ∷ rs) = header n ∷ rowLines (r ∷ rs)
 
 abbrev pub blockLines : List Block → List Line
 blockLines [] = []
-blockLines (b ∷ bs) = groupLines (b .name) (b .rows) ++ blockLines bs
+blockLines (b ∷ bs) = headedLines (b .name) (b .rows) ++ blockLines bs
 
 -- ---- the settings of a join record
 
 -- "Hidden=true if hidden"
-abbrev pub hiddenRows : Bool → List Row
+abbrev pub hiddenRows : Bool → List WrittenRow
 hiddenRows false = []
 hiddenRows true = (word "Hidden", word "true") ∷ []
 
 -- "Passphrase or PreSharedKey (lower-case hex)"
-abbrev pub secretRows : Secret → List Row
+abbrev pub secretRows : Secret → List WrittenRow
 secretRows noSecret = []
 secretRows (passphrase p) = (word "Passphrase", escape p) ∷ []
 secretRows (key k) = (word "PreSharedKey", hex k) ∷ []
 
 -- "Address, Netmask, Gateway if static"
-abbrev pub gatewayRows : Option (List ℕ) → List Row
+abbrev pub gatewayRows : Option (List ℕ) → List WrittenRow
 gatewayRows none = []
 gatewayRows (some g) = (word "Gateway", dotted g) ∷ []
 
-abbrev pub numberRows : IPv4 → List Row
+abbrev pub numberRows : IPv4 → List WrittenRow
 numberRows dhcp = []
 numberRows off = []
 numberRows (static a n g) = (word "Address", dotted a) ∷ (word "Netmask", dotted (maskBytes n)) ∷ gatewayRows g
 
 -- "DNS with single spaces"
-abbrev pub serverRows : List (List ℕ) → List Row
+abbrev pub serverRows : List (List ℕ) → List WrittenRow
 serverRows [] = []
 serverRows (a ∷ l) = (word "DNS", listed Spaces (a ∷ l)) ∷ []
 
 -- "DomainName"; "0 meaning absent"
-abbrev pub domainRows : List ℕ → List Row
+abbrev pub domainRows : List ℕ → List WrittenRow
 domainRows [] = []
 domainRows (c ∷ d) = (word "DomainName", escape (c ∷ d)) ∷ []
 
-abbrev pub ipv4Rows : IPv4 → List (List ℕ) → List ℕ → List Row
+abbrev pub ipv4Rows : IPv4 → List (List ℕ) → List ℕ → List WrittenRow
 ipv4Rows i l d = numberRows i ++ serverRows l ++ domainRows d
 
 -- "Enabled=false if off"
-abbrev pub ipv6Rows : Ipv6 → List Row
+abbrev pub ipv6Rows : Ipv6 → List WrittenRow
 ipv6Rows Auto = []
 ipv6Rows Off = (word "Enabled", word "false") ∷ []
 

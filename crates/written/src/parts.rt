@@ -2,10 +2,10 @@
 ghost use mathlib.Core.Path.{_≡_};
 ghost use Prim.Native.Nat.{_≤_};
 ghost use lib.ListN.{take};
-ghost use Rattle.records.specs.Record.{secretOf, ipv4Of};
+ghost use Rattle.records.specs.Record.{secretOf, ipv4In};
 ghost use Rattle.written.specs.Written.{ipv4Rows, suffixFor, hasPlace};
 ghost use Rattle.written.specs.Texts.{someRow};
-ghost use Rattle.written.specs.Parts.{numbersOf, numbersIn, SuffixOf};
+ghost use Rattle.written.specs.RecordParts.{recordIpv4, numbersIn, SuffixOf};
 use kinds::Ipv4;
 use kinds::Method;
 use names::Suffix;
@@ -25,7 +25,7 @@ pub fn suffix_of(c: Credential) -> Suffix
 
 // A record's IPv4.
 pub fn numbers(r: JoinRecord) -> Ipv4
-    ensures { λ i. ⌜ i ≡ numbersOf r ⌝ }
+    ensures { λ i. ⌜ i ≡ recordIpv4 r ⌝ }
 {
     let method = r.ipv4;
     let address = r.address;

@@ -1,7 +1,7 @@
 -- A record that is written is read back and compared; of a refusal nothing is.
 use mathlib.Core.Path.{sym}
 use lib.Seq.{length-take-le}
-use Rattle.round_trip.proofs.Typed.{typed-arrays}
+use Rattle.round_trip.proofs.TypedArrays.{typed-arrays}
 use Rattle.round_trip.proofs.ReadBack.{back-refused, name-fits, file-fits, back-good}
 use borrow.Author.Needs.{needs}
 use Rattle.round_trip.proofs.reads_back.Statement.{statement}

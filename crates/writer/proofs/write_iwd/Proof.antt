@@ -1,5 +1,5 @@
 -- A malformed record, one that iwd has no place for, or what `write_placed` answers.
-use Rattle.writer.proofs.Within.{formed-within}
+use Rattle.writer.proofs.Counts.{formed-within}
 use Rattle.writer.proofs.Answering.{malformed, well-formed, unplaced, placed}
 use borrow.Author.Needs.{needs}
 use Rattle.writer.proofs.write_iwd.Statement.{statement}

@@ -3,7 +3,7 @@ use mathlib.Core.Path.{_≡_, sym}
 use native.Mathlib.Omega.{arith}
 use lib.ListN.{length}
 use lib.Seq.{length-take-le}
-use Rattle.written.proofs.Bounds.{take-short}
+use Rattle.rendering.proofs.Bounds.{take-short}
 use Rattle.writer.proofs.Answering.{name-refused, file-refused, both-written}
 use borrow.Author.Needs.{needs}
 use Rattle.writer.proofs.write_placed.Statement.{statement}

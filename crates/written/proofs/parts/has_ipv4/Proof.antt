@@ -1,6 +1,6 @@
 -- There is a setting where there are servers, a domain, or a static IPv4.
 use lib.ListN.{take}
-use Rattle.written.specs.Parts.{numbersIn}
+use Rattle.written.specs.RecordParts.{numbersIn}
 use Rattle.written.proofs.Deciding.{some-servers, some-domain, dhcp-row, off-row, static-row}
 use borrow.Author.Needs.{needs}
 use Rattle.written.proofs.parts.has_ipv4.Statement.{statement}

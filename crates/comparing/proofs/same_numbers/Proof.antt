@@ -1,0 +1,21 @@
+-- The method by the number of its case, the length, the address and the gateway.
+use borrow.Author.Tests.{eq-eqb, ne-eqb}
+use Rattle.comparing.proofs.Agreeing.{differs, agrees, refused, passed, cases-differ, cases-agree}
+use borrow.Author.Needs.{needs}
+use Rattle.comparing.proofs.same_numbers.Statement.{statement}
+use Rattle.comparing.proofs.same_numbers.Tie as tie
+
+pub same-numbers-spec : {M : Type 1} → statement M
+same-numbers-spec =
+    tie.close
+    (tie.spec
+    (λ c κs. search needs)
+    (λ c κs. search needs)
+    (λ c. differs _ (cases-differ (c .before .before .method-case .ensures) (c .before .method-case2 .ensures) (c .if1 .taken)))
+    (λ c. agrees _ (cases-agree (c .before .before .before .before .before .method-case .ensures) (c .before .before .before .before .method-case2 .ensures) (c .before .before .before .if1 .left)) (differs _ (ne-eqb _ _ (c .if2 .taken))))
+    (λ c κs. search needs)
+    (λ c. agrees _ (cases-agree (c .before .before .before .before .before .before .before .method-case .ensures) (c .before .before .before .before .before .before .method-case2 .ensures) (c .before .before .before .before .before .if1 .left)) (agrees _ (eq-eqb _ _ (c .before .before .if2 .left)) (differs _ (refused (c .before .same-flag .ensures) (c .if3 .taken)))))
+    (λ c κs. search needs)
+    (λ c. agrees _ (cases-agree (c .before .before .before .before .before .before .before .before .before .before .before .method-case .ensures) (c .before .before .before .before .before .before .before .before .before .before .method-case2 .ensures) (c .before .before .before .before .before .before .before .before .before .if1 .left)) (agrees _ (eq-eqb _ _ (c .before .before .before .before .before .before .if2 .left)) (agrees _ (passed (c .before .before .before .before .before .same-flag .ensures) (c .before .before .before .before .if3 .left)) (differs _ (refused (c .before .same-4 .ensures) (c .if4 .taken))))))
+    (λ c κs. search needs)
+    (λ c. agrees _ (cases-agree (c .before .before .before .before .before .before .before .before .before .before .before .before .before .before .method-case .ensures) (c .before .before .before .before .before .before .before .before .before .before .before .before .before .method-case2 .ensures) (c .before .before .before .before .before .before .before .before .before .before .before .before .if1 .left)) (agrees _ (eq-eqb _ _ (c .before .before .before .before .before .before .before .before .before .if2 .left)) (agrees _ (passed (c .before .before .before .before .before .before .before .before .same-flag .ensures) (c .before .before .before .before .before .before .before .if3 .left)) (agrees _ (passed (c .before .before .before .before .same-4 .ensures) (c .before .before .before .if4 .left)) (c .same-42 .ensures))))))

@@ -1,0 +1,20 @@
+-- The kind at each place of the table.
+use mathlib.Core.Path.{ap, sym}
+use Rattle.rules.specs.Tables.{keysOf}
+use Rattle.tables.specs.KeyPlaces.{kindAnswer}
+use Rattle.tables.proofs.KindPlaces.{at-place-out, past}
+use Rattle.rules.specs.declared.Group.the-variants.{Settings}
+use borrow.Author.Needs.{needs}
+use Rattle.tables.proofs.key_kinds.settings_kind.Statement.{statement}
+use Rattle.tables.proofs.key_kinds.settings_kind.Tie as tie
+
+pub settings-kind-spec : {M : Type 1} → statement M
+unfolding keysOf
+settings-kind-spec =
+    tie.close
+    (tie.spec
+    (λ c. rw (c .match .keys1))
+    (λ c. rw (c .match .keys2))
+    (λ c. rw (c .match .keys3))
+    (λ c. rw (c .match .keys4))
+    (λ c. ap kindAnswer (sym (at-place-out (c .before .args .n) (keysOf Settings) (λ h. past _ 4 (past _ 3 (past _ 2 (past _ 1 h (c .match .rest .0 .0 .0 .1)) (c .match .rest .0 .0 .1)) (c .match .rest .0 .1)) (c .match .rest .1))))))

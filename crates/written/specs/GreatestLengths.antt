@@ -1,0 +1,50 @@
+-- The lines of the written iwd file, each with its greatest length, and what they come to.
+use Prim.Native.Nat.{ℕ, _+_, _≤_}
+use mathlib.Core.Logic.{_⊎_}
+use mathlib.Core.List.{List, [], _∷_, _++_}
+use lib.ListN.{length}
+use Rattle.text.specs.Words.{word}
+use Rattle.text.specs.declared.Dialect.the-variants.{Iwd}
+use Rattle.lines.specs.Lines.{Line}
+use Rattle.lines.specs.Rendering.{render}
+
+-- a line: what stands in front of its value, and the greatest length of the value
+abbrev pub LineRoom : Type 0
+LineRoom = List ℕ × ℕ
+
+abbrev pub settingsRoom : List LineRoom
+settingsRoom = (word "[Settings]", 0) ∷ (word "Hidden=", 4) ∷ []
+
+-- a passphrase of 63 bytes, each of them escaped; a key of 32 bytes is shorter
+abbrev pub securityRoom : List LineRoom
+securityRoom = (word "[Security]", 0) ∷ (word "Passphrase=", 126) ∷ []
+
+-- four name servers with a space between; a domain of 253 bytes, each of them escaped
+abbrev pub numberRoom : List LineRoom
+numberRoom = (word "Address=", 15) ∷ (word "Netmask=", 15) ∷ (word "Gateway=", 15) ∷ []
+
+abbrev pub serverRoom : List LineRoom
+serverRoom = (word "DNS=", 63) ∷ []
+
+abbrev pub domainRoom : List LineRoom
+domainRoom = (word "DomainName=", 506) ∷ []
+
+abbrev pub ipv4Room : List LineRoom
+ipv4Room = (word "[IPv4]", 0) ∷ numberRoom ++ serverRoom ++ domainRoom
+
+abbrev pub ipv6Room : List LineRoom
+ipv6Room = (word "[IPv6]", 0) ∷ (word "Enabled=", 5) ∷ []
+
+abbrev pub fileRoom : List LineRoom
+fileRoom = settingsRoom ++ securityRoom ++ ipv4Room ++ ipv6Room
+
+-- what lines come to, each with its byte 10
+abbrev pub total : List LineRoom → ℕ
+total [] = 0
+total (x ∷ t) = length (x .0) + x .1 + 1 + total t
+
+-- the lines stand under the table's, in its order, and none is longer; a line of the table may be left out
+abbrev pub Under : List Line → List LineRoom → Type 0
+Under [] t = Unit
+Under (l ∷ ls) [] = ⊥
+Under (l ∷ ls) (x ∷ t) = ((length (render Iwd l) ≤ length (x .0) + x .1) × Under ls t) ⊎ Under (l ∷ ls) t

@@ -1,0 +1,38 @@
+-- A record's parts as the code has them, and the settings that they give.
+use Prim.Native.Nat.{ℕ, _≤_}
+use mathlib.Core.Path.{_≡_}
+use mathlib.Core.Bool.{Bool, true}
+use mathlib.Core.List.{List, _∷_}
+use mathlib.Core.Option.{Option}
+use Rattle.text.specs.Words.{word}
+use Rattle.addresses.specs.Addresses.{dotted, maskBytes}
+use Rattle.kinds.specs.Kinds.{IPv4}
+use Rattle.kinds.specs.declared.Ipv4.{Ipv4}
+use Rattle.names.specs.declared.Suffix.{Suffix}
+use Rattle.records.specs.Record.{gatewayIf, secretOf, ipv4In}
+use Rattle.records.specs.declared.Credential.{Credential}
+use Rattle.records.specs.declared.JoinRecord.{JoinRecord}
+use Rattle.written.specs.Written.{WrittenRow, gatewayRows, suffixFor}
+
+-- a record's IPv4 by its places, and the IPv4 that they hold
+abbrev pub recordIpv4 : JoinRecord → Ipv4
+recordIpv4 r = record { ok = true; method = r .ipv4; address = r .address; length = r .length; «has_gateway» = r .«has_gateway»; gateway = r .gateway }
+
+abbrev pub numbersIn : Ipv4 → IPv4
+numbersIn i = ipv4In (i .method) (i .address) (i .length) (i .«has_gateway») (i .gateway)
+
+-- the settings of one that is static
+abbrev pub staticRows : Ipv4 → List WrittenRow
+staticRows i = (word "Address", dotted (i .address)) ∷ (word "Netmask", dotted (maskBytes (i .length))) ∷ gatewayRows (gatewayIf (i .«has_gateway») (i .gateway))
+
+-- the suffix by the credential alone
+pub record SuffixOf (c : Credential) (r : Suffix) : Type 0 where
+  pub is : (p k : List ℕ) → r ≡ suffixFor (secretOf c p k)
+
+-- the counts of a record lie in their arrays
+pub record CountsWithin (r : JoinRecord) : Type 0 where
+  pub name : r .«name_len» ≤ 32
+  pub passphrase : r .«passphrase_len» ≤ 63
+  pub length : r .length ≤ 32
+  pub servers : r .«server_count» ≤ 4
+  pub domain : r .«domain_len» ≤ 253
