@@ -16,7 +16,7 @@ use Rattle.text.specs.Options.{only}
 use Rattle.text.specs.Laws.{inside, under, over, pieces-some}
 use Rattle.text.specs.Scans.{Stop, pieces-at, pieces-end}
 use Rattle.addresses.specs.Addresses.{value, upTo, number, octet, address, numberAnswer, addressAnswer}
-use Rattle.put.specs.Gathering.{Gathered, gathered-first, gathered-turn, gathered-broken, gathered-end, gathered-full}
+use Rattle.put.proofs.Gathering.{Gathered, gathered-first, gathered-turn, gathered-broken, gathered-end, gathered-full}
 use Rattle.addresses.specs.declared.Number.{Number}
 use Rattle.addresses.specs.declared.Address.{Address}
 

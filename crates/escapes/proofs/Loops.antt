@@ -14,9 +14,10 @@ use lib.Seq.{drop-cons, take-suc-set, drop-set-lt, length-take-le}
 use Rattle.put.specs.Put.{Wrote}
 use Rattle.put.specs.Laws.{then, wrote-byte}
 use Rattle.text.specs.Options.{prepend, plain, Fits}
-use Rattle.put.specs.Filling.{glue, glue-prepend, glue-nil, Filling, filling-first, filling-none, filling-end, filling-room, filling-byte}
+use Rattle.put.proofs.Filling.{glue, glue-prepend, glue-nil, Filling, filling-first, filling-none, filling-end, filling-room, filling-byte}
 use Rattle.escapes.specs.Escapes.{meant, reading, unescape, shown, writing, escape}
-use Rattle.escapes.specs.Strings.{sizeOf, byLetter, Letter}
+use Rattle.escapes.specs.Strings.{sizeOf}
+use Rattle.escapes.specs.Letters.{byLetter, Letter}
 use Rattle.escapes.specs.declared.Size.{Size}
 use Rattle.escapes.specs.declared.Size.the-variants.{Long, Broken}
 

@@ -6,7 +6,8 @@ ghost use Rattle.text.specs.Options.{plain, Fits};
 ghost use Rattle.text.specs.Parts.{padded};
 ghost use Rattle.put.specs.Put.{Wrote};
 ghost use Rattle.escapes.specs.Escapes.{meant, unescape, escape};
-ghost use Rattle.escapes.specs.Strings.{stringOf, sizeOf, Letter};
+ghost use Rattle.escapes.specs.Strings.{stringOf, sizeOf};
+ghost use Rattle.escapes.specs.Letters.{Letter};
 use text::Dialect;
 
 // How many bytes a string has once unescaped, or that a backslash begins no escape.

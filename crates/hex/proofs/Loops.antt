@@ -11,12 +11,12 @@ use lib.Dec.{eqb, ltb}
 use lib.ListN.{length, drop, set, getD, drop-of-length-le, length-append}
 use lib.Seq.{drop-cons}
 use Rattle.text.specs.Bytes.{between, isDigit}
-use Rattle.text.specs.Options.{isSome, prepend, plain}
+use Rattle.text.specs.Options.{isSome, andThen, prepend, plain}
 use Rattle.text.specs.Laws.{and-true, inside, under, over, between-high}
 use Rattle.put.specs.Put.{Wrote}
 use Rattle.put.specs.Laws.{then, wrote-two}
-use Rattle.put.specs.Filling.{Filling, filling-none, filling-end, filling-room, filling-byte}
-use Rattle.hex.specs.Hex.{nibble, unhex, digit, hex}
+use Rattle.put.proofs.Filling.{Filling, filling-none, filling-end, filling-room, filling-byte}
+use Rattle.hex.specs.Hex.{nibble, pairByte, unhex, digit, hex}
 
 -- ---- one digit, range by range
 
@@ -72,7 +72,7 @@ digit-high {n} h = rw (le-ltb n 10 h)
 abbrev first : List ℕ → ℕ → ℕ
 first s i = nibble (getD s i 0)
 
-unhex-at : (s : List ℕ) (i : ℕ) → i + 1 < length s → unhex (drop i s) ≡ cond (ltb (first s i) 16 && ltb (first s (i + 1)) 16) (prepend (first s i * 16 + first s (i + 1)) (unhex (drop (i + 2) s))) none
+unhex-at : (s : List ℕ) (i : ℕ) → i + 1 < length s → unhex (drop i s) ≡ andThen (pairByte (getD s i 0) (getD s (i + 1) 0)) (λ x. prepend x (unhex (drop (i + 2) s)))
 unfolding unhex
 unhex-at s i h =
     let e : i + 2 ≡ suc (suc i) = omega arith in

@@ -1,5 +1,5 @@
 -- Hex that is written reads back, and lower-case hex that is read is written again; lengths and bytes of both.
-use mathlib.Core.Path.{_≡_, refl}
+use mathlib.Core.Path.{_≡_, refl, ap, _∙_}
 use mathlib.Core.Bool.{Bool, true, false, cond, _&&_}
 use mathlib.Core.List.{List, [], _∷_}
 use mathlib.Core.Option.{Option, none, some, Option·some-injective, Option·none-ne-some}
@@ -8,11 +8,12 @@ use native.Mathlib.Omega.{arith}
 use borrow.Author.Tests.{eqb-true, ltb-true, lt-ltb}
 use lib.Dec.{eqb, ltb}
 use lib.ListN.{length}
-use Rattle.text.specs.Bytes.{isDigit, isLowerHex}
+use Rattle.text.specs.Bytes.{isByte, isDigit, isLowerHex}
 use Rattle.text.specs.Parts.{all}
 use Rattle.text.specs.Options.{prepend}
+use Rattle.text.specs.OptionLaws.{only-some, then-some, prepend-some}
 use Rattle.text.specs.Laws.{and-true, all-cons, below, below-at, between-high}
-use Rattle.hex.specs.Hex.{nibble, unhex, digit, hex, isByte}
+use Rattle.hex.specs.Hex.{nibble, pairByte, unhex, digit, hex}
 
 -- ---- one digit, by computation
 
@@ -84,14 +85,12 @@ record Pair (a b : ℕ) (s t : List ℕ) : Type 0 where
 
 pair : (a b : ℕ) (s t : List ℕ) → unhex (a ∷ b ∷ s) ≡ some t → Pair a b s t
 unfolding unhex
-pair a b s t e = go (ltb (nibble a) 16 && ltb (nibble b) 16) refl (unhex s) refl e
-  where
-    go : (d : Bool) → (ltb (nibble a) 16 && ltb (nibble b) 16) ≡ d → (o : Option (List ℕ)) → unhex s ≡ o → cond d (prepend (nibble a * 16 + nibble b) o) none ≡ some t → Pair a b s t
-    go true p (some u) q r =
-        let d = and-true (ltb (nibble a) 16) (ltb (nibble b) 16) p in
-        record { high = ltb-true _ 16 (d .0); low = ltb-true _ 16 (d .1); rest = u; read = q; is = Option·some-injective _ t r }
-    go true p none q r = absurd (Option·none-ne-some t r)
-    go false p o q r = absurd (Option·none-ne-some t r)
+pair a b s t e =
+    let x = then-some (pairByte a b) (λ x. prepend x (unhex s)) e in
+    let o = only-some (ltb (nibble a) 16 && ltb (nibble b) 16) (some (nibble a * 16 + nibble b)) (x .1) in
+    let d = and-true (ltb (nibble a) 16) (ltb (nibble b) 16) (o .0) in
+    let k = prepend-some (x .0) (unhex s) (x .2) in
+    record { high = ltb-true _ 16 (d .0); low = ltb-true _ 16 (d .1); rest = k .0; read = k .1; is = ap (λ (y : ℕ). y ∷ k .0) (Option·some-injective _ (x .0) (o .1)) ∙ k .2 }
 
 none-due : (t : List ℕ) → unhex [] ≡ some t → [] ≡ t
 unfolding unhex

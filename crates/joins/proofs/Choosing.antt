@@ -21,7 +21,7 @@ use Rattle.settings.specs.declared.Choice.the-variants as C
 use Rattle.records.specs.declared.Ipv6.{Ipv6}
 use Rattle.records.specs.declared.Ipv6.the-variants as Ipv6
 use Rattle.joins.specs.Joins.{secretFrom, lengthOr24, staticOrDhcp, wordIpv6, foreignSecurity}
-use Rattle.kinds.specs.Values.{netmask-good}
+use Rattle.addresses.specs.MaskRuleLaws.{netmask-good}
 use Rattle.joins.specs.Answers.{phraseAnswer, loginAnswer, loginOf, or24, numbersAnswer, numbersOf, hindrance}
 use Rattle.joins.specs.declared.Phrase.{Phrase}
 use Rattle.joins.specs.declared.Login.{Login}

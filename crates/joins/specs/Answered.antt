@@ -19,8 +19,11 @@ use Rattle.kinds.specs.Kinds as K
 use Rattle.kinds.specs.Kinds.{IPv4, dhcp, off, static, wordOf, ipv4, ssid, string}
 use Rattle.kinds.specs.Typed as T
 use Rattle.kinds.specs.Typed.{typed}
-use Rattle.addresses.specs.Laws.{address-bytes}
-use Rattle.kinds.specs.Values.{string-size, key-size, ssid-size, netmask-good, addresses-good, Ipv4Good, ipv4-good, text-bytes, string-text}
+use Rattle.addresses.specs.Laws.{address-bytes, addresses-good}
+use Rattle.utf8.specs.ByteLaws.{text-bytes}
+use Rattle.escapes.specs.TextLaws.{string-text}
+use Rattle.addresses.specs.MaskRuleLaws.{netmask-good}
+use Rattle.kinds.specs.ValueLaws.{string-size, key-size, ssid-size, Ipv4Good, ipv4-good}
 use Rattle.kinds.specs.declared.Kind.the-variants as Kind
 use Rattle.kinds.specs.declared.Word.{Word}
 use Rattle.kinds.specs.declared.Word.the-variants as W

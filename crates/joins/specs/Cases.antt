@@ -13,7 +13,7 @@ use Rattle.escapes.specs.Escapes.{reading as unescaping}
 use Rattle.hex.specs.Hex.{nibble, unhex}
 use Rattle.addresses.specs.Addresses.{value, number, address, prefixLength, lengthUpTo, maskLength, netmask, addresses}
 use Rattle.kinds.specs.Kinds.{IPv4, dhcp, static, flag, wordOf, ipv4, entries, colonPairs, mac, key, ssid, string}
-use Rattle.kinds.specs.Typed.{typed, stringJudged, kindJudged, judged}
+use Rattle.kinds.specs.Typed.{typed, kindJudged, judged}
 use Rattle.lines.specs.Lines.{bracketOf, settingOf, lineOf, valueStart}
 use Rattle.names.specs.Names.{nameOf, networkOf}
 use Rattle.rules.specs.Tables.{isService, groupOf, keysOf}
@@ -72,7 +72,7 @@ abbrev iwdAnswer : IwdCase → Joined
 iwdAnswer c = c .2
 
 pub iwd-table : map ofIwd iwdCases ≡ map iwdAnswer iwdCases
-unfolding reading lineFault grown sectionsOf serviceFault fileFault fault after isService groupOf keysOf nameOf networkOf isKeyByte isPlain bracketOf settingOf lineOf valueStart typed stringJudged kindJudged judged flag wordOf ipv4 entries colonPairs mac key ssid string value number address prefixLength lengthUpTo maskLength netmask addresses nibble unhex unescaping follow utf8From text
+unfolding reading lineFault grown sectionsOf serviceFault fileFault fault after isService groupOf keysOf nameOf networkOf isKeyByte isPlain bracketOf settingOf lineOf valueStart typed kindJudged judged flag wordOf ipv4 entries colonPairs mac key ssid string value number address prefixLength lengthUpTo maskLength netmask addresses nibble unhex unescaping follow utf8From text
 iwd-table = refl
 
 -- ---- ConnMan
@@ -101,5 +101,5 @@ abbrev serviceAnswer : ServiceCase → Joined
 serviceAnswer c = c .2
 
 pub service-table : map ofService serviceCases ≡ map serviceAnswer serviceCases
-unfolding reading lineFault grown sectionsOf serviceFault fileFault fault after isService groupOf keysOf nameOf networkOf isKeyByte isPlain bracketOf settingOf lineOf valueStart typed stringJudged kindJudged judged flag wordOf ipv4 entries colonPairs mac key ssid string value number address prefixLength lengthUpTo maskLength netmask addresses nibble unhex unescaping follow utf8From text
+unfolding reading lineFault grown sectionsOf serviceFault fileFault fault after isService groupOf keysOf nameOf networkOf isKeyByte isPlain bracketOf settingOf lineOf valueStart typed kindJudged judged flag wordOf ipv4 entries colonPairs mac key ssid string value number address prefixLength lengthUpTo maskLength netmask addresses nibble unhex unescaping follow utf8From text
 service-table = refl

@@ -16,7 +16,7 @@ use Rattle.text.specs.Laws.{inside, over, padded-set, pieces-some}
 use Rattle.text.specs.Relations.{Sized}
 use Rattle.text.specs.OptionLaws.{some-is, only-some, sized-is, is-sized, unsized}
 use Rattle.text.specs.Scans.{Stop, stop-low, pieces-end, pieces-at}
-use Rattle.put.specs.Gathering.{ahead, ahead-none, each-append, sized-each}
+use Rattle.put.proofs.Gathering.{ahead, ahead-none, each-append, sized-each}
 use Rattle.kinds.specs.Kinds.{entry, entries}
 use Rattle.kinds.specs.Answers.{startsFrom, endsFrom, entriesAnswer}
 

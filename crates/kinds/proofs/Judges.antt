@@ -23,7 +23,7 @@ use Rattle.addresses.specs.declared.Address.{Address}
 use Rattle.addresses.specs.declared.Netmask.{Netmask}
 use Rattle.addresses.specs.declared.Separator.{Separator}
 use Rattle.kinds.specs.Kinds as K
-use Rattle.kinds.specs.Typed.{Typed, typed, kindJudged, stringJudged, judged, byKind, bytes}
+use Rattle.kinds.specs.Typed.{Typed, typed, kindJudged, byKind, bytes}
 use Rattle.kinds.specs.Typed as T
 use Rattle.kinds.specs.Answers.{yesNo, namedWord, ipv4Answer, entriesAnswer, macAnswer, valueAt, judgementAt}
 use Rattle.kinds.specs.Judging.{keptAt, flagJudgement, wordJudgement, maskJudgement}
@@ -125,12 +125,12 @@ module _ (d : Dialect) (v : List ℕ) (p : Place) {k : Kind} {r : Judgement} whe
   unfolding kindJudged typed
   ssid-kind q e h = rw q (h ∙ kept-is p T.bytes (λ a. refl) (K.ssid v) e)
 
-  pub passphrase-kind : k ≡ Passphrase → r ≡ judgementAt p (stringJudged d 8 63 v) → r ≡ judgementAt p (kindJudged d k v)
-  unfolding kindJudged typed stringJudged
+  pub passphrase-kind : k ≡ Passphrase → r ≡ judgementAt p (kindJudged d (Text 8 63) v) → r ≡ judgementAt p (kindJudged d k v)
+  unfolding kindJudged typed
   passphrase-kind q h = rw q h
 
-  pub text-kind : {low high : ℕ} → k ≡ Text low high → r ≡ judgementAt p (stringJudged d low high v) → r ≡ judgementAt p (kindJudged d k v)
-  unfolding kindJudged typed stringJudged
+  pub text-kind : {low high : ℕ} → k ≡ Text low high → r ≡ judgementAt p (kindJudged d (Text low high) v) → r ≡ judgementAt p (kindJudged d k v)
+  unfolding kindJudged typed
   text-kind q h = rw q h
 
 -- ---- strings
@@ -140,13 +140,13 @@ module _ (d : Dialect) (low high : ℕ) (v : List ℕ) (p : Place) {y : Size} (e
   size-broken none h q = refl
   size-broken (some t) h q = let z : _≡_ {A = ℕ} 0 1 = cc in absurd (omega arith)
 
-  pub string-broken : y ≡ S.Broken → BrokenText ≡ judgementAt p (stringJudged d low high v)
-  unfolding stringJudged
+  pub string-broken : y ≡ S.Broken → BrokenText ≡ judgementAt p (kindJudged d (Text low high) v)
+  unfolding kindJudged typed
   string-broken q = rw (size-broken (stringOf d v) e q)
 
   module _ {n : ℕ} (q : y ≡ S.Long n) where
-    sized-is : {t : Bool} → between low high n ≡ t → judgementAt p (stringJudged d low high v) ≡ keptAt p t
-    unfolding K.string stringJudged
+    sized-is : {t : Bool} → between low high n ≡ t → judgementAt p (kindJudged d (Text low high) v) ≡ keptAt p t
+    unfolding K.string kindJudged typed
     sized-is {t} h = go (stringOf d v) e
       where
         go : (o : Option (List ℕ)) → y ≡ sizeOf o → judgementAt p (cond (not (isSome o)) T.brokenText (byKind (mapped bytes (sized low high o)))) ≡ keptAt p t
@@ -157,8 +157,8 @@ module _ (d : Dialect) (low high : ℕ) (v : List ℕ) (p : Place) {y : Size} (e
             last true = refl
             last false = refl
 
-    pub string-short : n < low → BrokenKind ≡ judgementAt p (stringJudged d low high v)
+    pub string-short : n < low → BrokenKind ≡ judgementAt p (kindJudged d (Text low high) v)
     string-short h = sym (sized-is (under {x = n} low high h))
 
-    pub string-long : low ≤ n → {r : Judgement} → r ≡ keptAt p (leb n high) → r ≡ judgementAt p (stringJudged d low high v)
+    pub string-long : low ≤ n → {r : Judgement} → r ≡ keptAt p (leb n high) → r ≡ judgementAt p (kindJudged d (Text low high) v)
     string-long h g = g ∙ sym (sized-is {t = leb n high} (rw (le-leb low n h)))

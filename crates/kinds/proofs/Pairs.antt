@@ -14,10 +14,10 @@ use Rattle.text.specs.Parts.{padded}
 use Rattle.text.specs.Options.{isSome, andThen, only, sized, prepend, plain, Fits}
 use Rattle.text.specs.Relations.{Sized}
 use Rattle.text.specs.OptionLaws.{some-is, is-sized, unsized, sized-then}
-use Rattle.put.specs.Filling.{glue, glue-prepend, glue-nil}
-use Rattle.hex.specs.Hex.{nibble, unhex}
+use Rattle.put.proofs.Filling.{glue, glue-prepend, glue-nil}
+use Rattle.hex.specs.Hex.{nibble, pairByte, unhex}
 use Rattle.hex.specs.Laws.{unhex-length}
-use Rattle.kinds.specs.Kinds.{pair, colonPairs, pairs, mac, key, ssid}
+use Rattle.kinds.specs.Kinds.{colonPairs, pairs, mac, key, ssid}
 use Rattle.kinds.specs.Answers.{macAnswer, keyAnswer, ssidAnswer}
 
 -- ---- hex of low to high digits
@@ -106,13 +106,13 @@ pub record Paired (s : List ℕ) (i n : ℕ) (x : List ℕ) : Type 0 where
   pub room : length x ≡ 6
   pub rest : glue (take n x) (colonPairs (drop i s)) ≡ mac s
 
-pair-good : (a b : ℕ) → nibble a ≤ 15 → nibble b ≤ 15 → pair a b ≡ some (nibble a * 16 + nibble b)
+pair-good : (a b : ℕ) → nibble a ≤ 15 → nibble b ≤ 15 → pairByte a b ≡ some (nibble a * 16 + nibble b)
 pair-good a b h g = rw (lt-ltb (nibble a) 16 (omega arith), lt-ltb (nibble b) 16 (omega arith))
 
-pair-first : (a b : ℕ) → 15 < nibble a → pair a b ≡ none
+pair-first : (a b : ℕ) → 15 < nibble a → pairByte a b ≡ none
 pair-first a b h = rw (le-ltb (nibble a) 16 (omega arith))
 
-pair-second : (a b : ℕ) → 15 < nibble b → pair a b ≡ none
+pair-second : (a b : ℕ) → 15 < nibble b → pairByte a b ≡ none
 pair-second a b h = rw (le-ltb (nibble b) 16 (omega arith), and-false (ltb (nibble a) 16))
 
 pub mac-short : (s : List ℕ) → (length s ≡ 17 → ⊥) → mac s ≡ none
@@ -120,11 +120,11 @@ unfolding mac
 mac-short s h = rw (unsized 17 17 s (λ z. h (omega (arith, z))))
 
 module _ (s : List ℕ) (l : length s ≡ 17) where
-  first : mac s ≡ andThen (pair (getD s 0 0) (getD s 1 0)) (λ x. prepend x (colonPairs (drop 2 s)))
+  first : mac s ≡ andThen (pairByte (getD s 0 0) (getD s 1 0)) (λ x. prepend x (colonPairs (drop 2 s)))
   unfolding mac
   first = rw (is-sized 17 17 (some s) (record { least = omega arith; most = omega arith }) refl) (go s (omega (arith, l)))
     where
-      go : (s : List ℕ) → 2 ≤ length s → pairs s ≡ andThen (pair (getD s 0 0) (getD s 1 0)) (λ x. prepend x (colonPairs (drop 2 s)))
+      go : (s : List ℕ) → 2 ≤ length s → pairs s ≡ andThen (pairByte (getD s 0 0) (getD s 1 0)) (λ x. prepend x (colonPairs (drop 2 s)))
       go [] h = absurd (omega arith)
       go (a ∷ []) h = absurd (omega arith)
       go (a ∷ b ∷ s) h = refl
@@ -157,7 +157,7 @@ module _ {s : List ℕ} {i n : ℕ} {x : List ℕ} (h : Paired s i n x) where
     pub paired-inside : i + 2 < 17
     paired-inside = omega (arith, h .place)
 
-    here : mac s ≡ glue (take n x) (only (eqb (getD s i 0) 58) (andThen (pair (getD s (i + 1) 0) (getD s (i + 2) 0)) (λ x. prepend x (colonPairs (drop (i + 3) s)))))
+    here : mac s ≡ glue (take n x) (only (eqb (getD s i 0) 58) (andThen (pairByte (getD s (i + 1) 0) (getD s (i + 2) 0)) (λ x. prepend x (colonPairs (drop (i + 3) s)))))
     unfolding colonPairs
     here =
         let e : i + 2 ≡ suc (suc i) = omega arith in

@@ -69,9 +69,6 @@ byKind none = brokenKind
 byKind (some t) = good t
 
 -- by its kind, where its text is good so far
-unfoldable pub stringJudged : Dialect → ℕ → ℕ → List ℕ → Judged
-stringJudged d low high v = cond (escapesBroken d v) brokenText (byKind (mapped bytes (K.string d low high v)))
-
 unfoldable pub kindJudged : Dialect → Kind → List ℕ → Judged
 kindJudged d k v = cond (stringBroken d k v) brokenText (byKind (typed d k v))
 

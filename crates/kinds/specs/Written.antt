@@ -8,7 +8,7 @@ use mathlib.Core.Option.{some}
 use borrow.Author.Tests.{eqb-true}
 use lib.Dec.{eqb}
 use lib.ListN.{length}
-use Rattle.text.specs.Bytes.{between, inLine, isBlank, isDigit, isLowerHex}
+use Rattle.text.specs.Bytes.{isByte, between, inLine, isBlank, isDigit, isLowerHex}
 use Rattle.text.specs.Parts.{all, after, empty}
 use Rattle.text.specs.Laws.{inside, between-low, between-high, pass-other, all-cons, all-weaken, all-other}
 use Rattle.text.specs.OptionLaws.{is-sized}
@@ -17,8 +17,8 @@ use Rattle.utf8.specs.Utf8.{text, valueText, recordText}
 use Rattle.utf8.specs.Laws.{isPrintable, text-printable}
 use Rattle.escapes.specs.Escapes.{escape}
 use Rattle.escapes.specs.Laws.{unescape-escape, escape-line, escape-start}
-use Rattle.escapes.specs.Text.{escape-text}
-use Rattle.hex.specs.Hex.{hex, isByte}
+use Rattle.escapes.specs.TextLaws.{escape-text}
+use Rattle.hex.specs.Hex.{hex}
 use Rattle.hex.specs.Laws.{unhex-hex, hex-lower, hex-length}
 use Rattle.addresses.specs.Addresses.{isAddress, areAddresses, dotted, behind, listed, isListByte}
 use Rattle.addresses.specs.Laws.{are-cons}

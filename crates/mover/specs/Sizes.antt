@@ -12,7 +12,8 @@ use Rattle.addresses.specs.Addresses.{addresses}
 use Rattle.addresses.specs.declared.Separator.the-variants.{Comma}
 use Rattle.kinds.specs.Kinds as K
 use Rattle.kinds.specs.Kinds.{IPv4, dhcp, off, static, ipv4, ssid, string}
-use Rattle.kinds.specs.Values.{string-size, ssid-size, addresses-good, Ipv4Good, ipv4-good}
+use Rattle.addresses.specs.Laws.{addresses-good}
+use Rattle.kinds.specs.ValueLaws.{string-size, ssid-size, Ipv4Good, ipv4-good}
 use Rattle.rules.specs.Tables.{keysOf}
 use Rattle.rules.specs.Faults.{Entry}
 use Rattle.rules.specs.Asking.{readAs}

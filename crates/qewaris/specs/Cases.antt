@@ -15,7 +15,7 @@ use Rattle.escapes.specs.Escapes.{reading as unescaping, writing, unescape, esc
 use Rattle.hex.specs.Hex.{nibble, unhex, digit, hex}
 use Rattle.addresses.specs.Addresses.{value, number, address, prefixLength, lengthUpTo, maskLength, netmask, addresses}
 use Rattle.kinds.specs.Kinds.{flag, wordOf, ipv4, entries, colonPairs, mac, key, ssid, string}
-use Rattle.kinds.specs.Typed.{typed, stringJudged, kindJudged, judged}
+use Rattle.kinds.specs.Typed.{typed, kindJudged, judged}
 use Rattle.lines.specs.Lines.{bracketOf, settingOf, lineOf, valueStart}
 use Rattle.names.specs.Names.{nameOf, networkOf, stem}
 use Rattle.kinds.specs.Kinds.{dhcp, static}
@@ -99,5 +99,5 @@ abbrev answer : Case → Answer
 answer c = c .2
 
 pub table : map computed cases ≡ map answer cases
-unfolding reading lineFault grown sectionsOf serviceFault fileFault fault after isService groupOf keysOf nameOf networkOf stem isKeyByte isPlain bracketOf settingOf lineOf valueStart typed stringJudged kindJudged judged flag wordOf ipv4 entries colonPairs mac key ssid string value number address prefixLength lengthUpTo maskLength netmask addresses nibble unhex digit hex unescaping writing follow utf8From text nameText moving
+unfolding reading lineFault grown sectionsOf serviceFault fileFault fault after isService groupOf keysOf nameOf networkOf stem isKeyByte isPlain bracketOf settingOf lineOf valueStart typed kindJudged judged flag wordOf ipv4 entries colonPairs mac key ssid string value number address prefixLength lengthUpTo maskLength netmask addresses nibble unhex digit hex unescaping writing follow utf8From text nameText moving
 table = refl

@@ -17,7 +17,8 @@ use Rattle.addresses.specs.declared.Separator.{Separator}
 use Rattle.addresses.specs.declared.Separator.the-variants.{Spaces, Comma}
 use Rattle.kinds.specs.Kinds.{IPv4, dhcp, off, static, entry, entries}
 use Rattle.kinds.specs.Answers.{ipv4Answer, macAnswer, keyAnswer, ssidAnswer}
-use Rattle.kinds.specs.Values.{netmask-good, addresses-good}
+use Rattle.addresses.specs.Laws.{addresses-good}
+use Rattle.addresses.specs.MaskRuleLaws.{netmask-good}
 use Rattle.kinds.specs.declared.Word.{Word}
 use Rattle.rules.specs.Tables.{groupOf, keysOf}
 use Rattle.rules.specs.Faults.{Entry, given}

@@ -1,11 +1,15 @@
 -- The classes of bytes, each as document 01 names it. Letters and digits are ASCII's everywhere.
 use Prim.Native.Nat.{ℕ}
 use mathlib.Core.Bool.{Bool, true, false, not, _&&_, _||_}
-use lib.Dec.{eqb, leb}
+use lib.Dec.{eqb, leb, ltb}
 use Rattle.text.specs.declared.Dialect.{Dialect}
 use Rattle.text.specs.declared.Dialect.the-variants.{Iwd, ConnMan}
 use Rattle.text.specs.declared.Class.{Class}
 use Rattle.text.specs.declared.Class.the-variants.{Space, Header, Plain, Alphanumeric, Identifier, LowerHex, Entry}
+
+-- a number that is a byte
+abbrev pub isByte : ℕ → Bool
+isByte b = ltb b 256
 
 -- a byte from a to b; every byte but b
 abbrev pub between : ℕ → ℕ → ℕ → Bool

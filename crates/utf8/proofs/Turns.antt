@@ -14,7 +14,7 @@ use Rattle.text.specs.Parts.{all}
 use Rattle.text.specs.Scans.{Stop, stop-after}
 use Rattle.text.specs.Laws.{inside, under, over, and-true, below, below-at}
 use Rattle.utf8.specs.Utf8.{Range, _to_, follow, utf8From, text, textByte}
-use Rattle.utf8.specs.Due.{pending, ranges, Steps, Turn}
+use Rattle.utf8.specs.Due.{pending, ranges, Steps}
 use Rattle.utf8.specs.Laws.{text-after}
 use Rattle.utf8.specs.declared.Due.{Due}
 
@@ -112,6 +112,11 @@ module _ {d : Due} {b : ℕ} where
     step-next k j e = record { rest = λ s. rw (e, pending-cons d z, inside (d .low) (d .high) k j) }
 
 -- ---- the loop
+
+-- the rest from i on is judged as the whole is
+pub record Turn (line : Bool) (s : List ℕ) (i : ℕ) (d : Due) : Type 0 where
+  pub within : i ≤ length s
+  pub rest : (all (textByte line) (drop i s) && utf8From (ranges d) (drop i s)) ≡ text line s
 
 pub turn-first : (line : Bool) {s : List ℕ} {i : ℕ} {d : Due} → Stop (between 32 126) s 0 i → d ≡ record { more = 0; low = 0; high = 0 } → Turn line s i d
 turn-first line {s} h e = rw e (record { within = h .within; rest = rw (← stop-after h) (text-after line s) })

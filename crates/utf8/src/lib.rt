@@ -3,7 +3,7 @@ ghost use mathlib.Core.Path.{_≡_};
 ghost use Prim.Native.Nat.{_≤_};
 ghost use lib.ListN.{length};
 ghost use Rattle.utf8.specs.Utf8.{follow, textByte, text, valueText, recordText};
-ghost use Rattle.utf8.specs.Due.{ranges, Steps, Turn};
+ghost use Rattle.utf8.specs.Due.{ranges, Steps};
 
 // The bytes due after a first byte: how many more, and the range of the next. Each one after it is 128 to 191.
 pub struct Due {

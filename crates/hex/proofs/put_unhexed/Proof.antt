@@ -2,7 +2,7 @@
 use Prim.Native.Nat.{_-_}
 use native.Mathlib.Omega.{arith}
 use lib.ListN.{length}
-use Rattle.put.specs.Filling.{filling-first}
+use Rattle.put.proofs.Filling.{filling-first}
 use Rattle.hex.proofs.Loops.{Unhexing, unhexing-small, unhexing-room, unhexing-turn, unhexing-end}
 use borrow.Author.Needs.{needs}
 use Rattle.hex.proofs.put_unhexed.Statement.{statement}
