@@ -11,7 +11,7 @@ use lib.ListN.{length, drop, set, getD, replicate}
 use Rattle.text.specs.declared.Class.the-variants.{Space}
 use Rattle.text.specs.Bytes.{other, memberOf}
 use Rattle.text.specs.Parts.{after, onto, part, pieces}
-use Rattle.text.specs.Options.{plain, sized, each}
+use Rattle.text.specs.Options.{orEmpty, sized, each}
 use Rattle.text.specs.Laws.{inside, view-more, view-end, pieces-some}
 use Rattle.text.specs.Scans.{Stop, stop-low, stop-after, pieces-at, pieces-end}
 use Rattle.addresses.specs.declared.Separator.{Separator}
@@ -20,7 +20,7 @@ use Rattle.addresses.specs.Addresses.{separator, nonEmpty, spaced, field
 use Rattle.addresses.specs.declared.Address.{Address}
 use Rattle.addresses.specs.Fields.{remaining, FieldAt}
 use Rattle.put.proofs.Gathering.{Gathered, gathered-first, gathered-turn, gathered-broken, gathered-end, gathered-full}
-use Rattle.addresses.proofs.Reading.{address-none, address-some}
+use Rattle.addresses.proofs.Reading.{address-refused, address-read}
 
 -- the fields behind some spaces: none where nothing follows them
 abbrev behindSpaces : List ℕ → List (List ℕ)
@@ -94,7 +94,7 @@ addressing-first sep s e = rw e (record { within = omega arith; gathered = gathe
 
 -- r addresses of the list o stand in x, and 0.0.0.0 behind them
 abbrev Listed : Option (List (List ℕ)) → List (List ℕ) → ℕ → Type 0
-Listed o x r = (r ≡ length (plain o)) × (x ≡ rows o)
+Listed o x r = (r ≡ length (orEmpty o)) × (x ≡ rows o)
 
 broken : {o : Option (List (List ℕ))} → o ≡ none → Listed o (rows none) 0
 broken e = rw e (refl, refl)
@@ -115,11 +115,11 @@ module _ {sep : Separator} {s : List ℕ} {x : List (List ℕ)} {at n : ℕ} (h 
   module _ {e m : ℕ} (t : FieldAt sep s at e m) {r : Address} (v : r ≡ addressAnswer (address (part at e s))) where
     pub addressing-broken : not (r .ok) ≡ true → Listed (addresses sep s) (rows none) 0
     unfolding addresses
-    addressing-broken b = broken (gathered-broken (h .gathered) 1 (t .is) (address-none _ v b))
+    addressing-broken b = broken (gathered-broken (h .gathered) 1 (t .is) (address-refused _ v b))
 
     module _ (b : not (r .ok) ≡ false) (l : n < 4) where
       next : Gathered address noAddress (fields sep s) (remaining sep s m) (set x n (r .bytes)) (n + 1)
-      next = gathered-turn (h .gathered) (t .is) (address-some _ v b) l
+      next = gathered-turn (h .gathered) (t .is) (address-read _ v b) l
 
       pub addressing-turn : m ≤ length s → Addressing sep s (set x n (r .bytes)) m (n + 1)
       addressing-turn k = record { within = k; gathered = rw (le-leb m (length s) k) at next }

@@ -9,7 +9,7 @@ use lib.ListN.{length, take}
 use lib.Seq.{take-append-seam}
 use Rattle.text.specs.Bytes.{between}
 use Rattle.text.specs.Parts.{all}
-use Rattle.text.specs.Options.{isSome, sized, plain}
+use Rattle.text.specs.Options.{isSome, sized, orEmpty}
 use Rattle.text.specs.OptionLaws.{some-is, sized-is, is-sized}
 use Rattle.text.specs.Relations.{Pairwise}
 use Rattle.text.specs.Laws.{and-true, all-cons, inside, between-high}
@@ -80,5 +80,5 @@ addresses-good sep s {l} e =
     (h .count .least, h .count .most, texts-addresses (h .texts) l (h .each))
 
 -- the front of the array of a list is the list
-pub rows-take : (o : Option (List (List ℕ))) → take (length (plain o)) (rows o) ≡ plain o
-rows-take o = take-append-seam (plain o) _
+pub rows-take : (o : Option (List (List ℕ))) → take (length (orEmpty o)) (rows o) ≡ orEmpty o
+rows-take o = take-append-seam (orEmpty o) _

@@ -2,7 +2,7 @@
 ghost use mathlib.Core.Path.{_≡_};
 ghost use Prim.Native.Nat.{_≤_};
 ghost use lib.ListN.{length};
-ghost use Rattle.text.specs.Options.{plain};
+ghost use Rattle.text.specs.Options.{orEmpty};
 ghost use Rattle.addresses.specs.Addresses.{separator, addresses, rows};
 ghost use Rattle.addresses.specs.Fields.{FieldAt};
 use crate::Separator;
@@ -53,7 +53,7 @@ fn field_at(s: &[u8], from: usize, sep: Separator) -> Field
 
 // Stores the addresses that s lists, and 0.0.0.0 up to four, and returns how many it lists; 0.0.0.0 alone and 0 where it is broken.
 pub fn read_list(out: &mut [[u8; 4]; 4], s: &[u8], sep: Separator) -> usize
-    ensures { λ r. ⌜ (r ≡ length (plain (addresses sep (now (s .entry))))) × (now (out .exit) ≡ rows (addresses sep (now (s .entry)))) ⌝ }
+    ensures { λ r. ⌜ (r ≡ length (orEmpty (addresses sep (now (s .entry))))) × (now (out .exit) ≡ rows (addresses sep (now (s .entry)))) ⌝ }
 {
     *out = [[0u8; 4]; 4];
     let mut at = 0;
@@ -80,7 +80,7 @@ pub fn read_list(out: &mut [[u8; 4]; 4], s: &[u8], sep: Separator) -> usize
 
 // How many addresses s lists; 0 where it is broken.
 pub fn count_addresses(s: &[u8], sep: Separator) -> usize
-    ensures { λ r. ⌜ r ≡ length (plain (addresses sep (now (s .entry)))) ⌝ }
+    ensures { λ r. ⌜ r ≡ length (orEmpty (addresses sep (now (s .entry)))) ⌝ }
 {
     let mut list = [[0u8; 4]; 4];
     read_list(&mut list, s, sep)

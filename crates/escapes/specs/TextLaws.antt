@@ -14,7 +14,7 @@ use Rattle.text.specs.declared.Dialect.the-variants.{Iwd, ConnMan}
 use Rattle.utf8.specs.Utf8.{Range, follow, utf8From, utf8, textByte, text, valueText, recordText}
 use Rattle.utf8.specs.Laws.{follow-ascii}
 use Rattle.utf8.specs.ByteLaws.{AllTrailing, end, more, follow-trailing, trailing-ascii, value-record-byte, value-record}
-use Rattle.escapes.specs.Escapes.{shown, unescape, writing, escape}
+use Rattle.escapes.specs.Escapes.{shown, unescape, escapeFrom, escape}
 use Rattle.escapes.specs.Strings.{stringOf}
 use Rattle.escapes.specs.StringRules.{Escape, space, tab, return, newline, backslash, Unescaped, no-more, as-it-stands, escaped}
 use Rattle.escapes.specs.StringRuleLaws.{unescape-is}
@@ -56,10 +56,10 @@ module _ (w t : List ℕ) (rest : (rs : List Range) → AllTrailing rs → utf8F
       blank′ true = pair 92 116 9 (omega arith) (omega arith) (omega arith)
       blank′ false = same 9
 
-utf8-writing : (f : Bool) (t : List ℕ) (rs : List Range) → AllTrailing rs → utf8From rs (writing f t) ≡ utf8From rs t
-unfolding writing
+utf8-writing : (f : Bool) (t : List ℕ) (rs : List Range) → AllTrailing rs → utf8From rs (escapeFrom f t) ≡ utf8From rs t
+unfolding escapeFrom
 utf8-writing f [] rs a = refl
-utf8-writing f (c ∷ t) rs a = one (writing false t) t (λ rs a. utf8-writing false t rs a) rs a f c
+utf8-writing f (c ∷ t) rs a = one (escapeFrom false t) t (λ rs a. utf8-writing false t rs a) rs a f c
 
 pub escape-utf8 : (t : List ℕ) → utf8 (escape t) ≡ utf8 t
 escape-utf8 t = utf8-writing true t [] end
@@ -69,10 +69,10 @@ all-shown : (f : Bool) (r : List ℕ) (c : ℕ) → all (textByte true) (shown f
 all-shown true r = shown-cases (λ (c : ℕ) (l : List ℕ). all (textByte true) (l ++ r) ≡ (textByte false c && all (textByte true) r)) true refl refl refl refl refl (λ c hn hr hb hs ht. rw (ne-eqb c 13 hr))
 all-shown false r = shown-cases (λ (c : ℕ) (l : List ℕ). all (textByte true) (l ++ r) ≡ (textByte false c && all (textByte true) r)) false refl refl refl refl refl (λ c hn hr hb hs ht. rw (ne-eqb c 13 hr))
 
-all-writing : (f : Bool) (t : List ℕ) → all (textByte true) (writing f t) ≡ all (textByte false) t
-unfolding writing
+all-writing : (f : Bool) (t : List ℕ) → all (textByte true) (escapeFrom f t) ≡ all (textByte false) t
+unfolding escapeFrom
 all-writing f [] = refl
-all-writing f (c ∷ t) = all-shown f (writing false t) c ∙ ap (λ (k : Bool). textByte false c && k) (all-writing false t)
+all-writing f (c ∷ t) = all-shown f (escapeFrom false t) c ∙ ap (λ (k : Bool). textByte false c && k) (all-writing false t)
 
 pub escape-text : (t : List ℕ) → text true (escape t) ≡ text false t
 unfolding text

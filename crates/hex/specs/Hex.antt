@@ -1,6 +1,6 @@
 -- Bytes in hexadecimal.
 use Prim.Native.Nat.{ℕ, _+_, _-_, _*_, _/_, _%_}
-use mathlib.Core.Bool.{Bool, cond, _&&_}
+use mathlib.Core.Bool.{cond, _&&_}
 use mathlib.Core.List.{List, [], _∷_}
 use mathlib.Core.Option.{Option, none, some}
 use lib.Dec.{ltb}
@@ -22,9 +22,9 @@ unhex (a ∷ []) = none
 unhex (a ∷ b ∷ s) = andThen (pairByte a b) (λ x. prepend x (unhex s))
 
 -- "lower-case hex"
-unfoldable pub digit : ℕ → ℕ
-digit n = cond (ltb n 10) (48 + n) (87 + n)
+unfoldable pub hexDigit : ℕ → ℕ
+hexDigit n = cond (ltb n 10) (48 + n) (87 + n)
 
 unfoldable pub hex : List ℕ → List ℕ
 hex [] = []
-hex (b ∷ s) = digit (b / 16) ∷ digit (b % 16) ∷ hex s
+hex (b ∷ s) = hexDigit (b / 16) ∷ hexDigit (b % 16) ∷ hex s

@@ -7,9 +7,9 @@ use mathlib.Core.List.{List}
 use mathlib.Core.Option.{Option, none, some}
 use Rattle.addresses.specs.Addresses.{addressAnswer, address, netmask}
 use Rattle.addresses.specs.declared.Address.{Address}
-use Rattle.kinds.specs.Answers.{keyAnswer, namedWord}
+use Rattle.kinds.specs.Answers.{preSharedKeyAnswer, namedWord}
 use Rattle.kinds.specs.declared.Ipv4.{Ipv4}
-use Rattle.kinds.specs.declared.Key.{Key}
+use Rattle.kinds.specs.declared.PreSharedKey.{PreSharedKey}
 use Rattle.kinds.specs.declared.Word.{Word}
 use Rattle.kinds.specs.declared.Word.the-variants as W
 use Rattle.rules.specs.Groups.{isWord, wordNumber}
@@ -29,12 +29,12 @@ use Rattle.joins.specs.declared.Hindrance.the-variants as H
 
 -- ---- the credential
 
-login-chosen : (o q : Option (List ℕ)) → loginOf (phraseAnswer o) (keyAnswer q) ≡ loginAnswer (secretFrom o q)
+login-chosen : (o q : Option (List ℕ)) → loginOf (phraseAnswer o) (preSharedKeyAnswer q) ≡ loginAnswer (secretFrom o q)
 login-chosen (some p) q = refl
 login-chosen none (some k) = refl
 login-chosen none none = refl
 
-pub login-is : (o q : Option (List ℕ)) {p : Phrase} {k : Key} {r : Login} → p ≡ phraseAnswer o → k ≡ keyAnswer q → r ≡ loginOf p k → r ≡ loginAnswer (secretFrom o q)
+pub login-is : (o q : Option (List ℕ)) {p : Phrase} {k : PreSharedKey} {r : Login} → p ≡ phraseAnswer o → k ≡ preSharedKeyAnswer q → r ≡ loginOf p k → r ≡ loginAnswer (secretFrom o q)
 login-is o q e f g = g ∙ ap₂ loginOf e f ∙ login-chosen o q
 
 -- ---- the numbers; a mask's length is not 0, so 0 can stand for none

@@ -1,7 +1,7 @@
 // A join record from its parts, by the rows of the table of places.
 ghost use mathlib.Core.Path.{_≡_};
 ghost use lib.ListN.{length};
-ghost use Rattle.text.specs.Options.{plain};
+ghost use Rattle.text.specs.Options.{orEmpty};
 ghost use Rattle.addresses.specs.Addresses.{addresses};
 ghost use Rattle.reader.specs.Store.{slot};
 ghost use Rattle.settings.specs.Values.{bytesAt};
@@ -66,7 +66,7 @@ fn assemble(
 // The record of an accepted iwd file, which has count name servers.
 pub fn iwd_join(name: &[u8], file: &[u8], x: &[u16; 384], count: usize) -> JoinRecord
     requires rows { ⌜ IwdRows (now file) (now x) ⌝ }
-    requires counted { ⌜ count ≡ length (plain (addresses Separator.Spaces (bytesAt (now file) (slot 37 (now x))))) ⌝ }
+    requires counted { ⌜ count ≡ length (orEmpty (addresses Separator.Spaces (bytesAt (now file) (slot 37 (now x))))) ⌝ }
     ensures { λ r. ⌜ r ≡ laid (iwdJoin (networkName (networkOf (now (name .entry)))) (iwdEntry (sectionsOf Dialect.Iwd (now (file .entry))))) ⌝ }
 {
     let network = names::read_iwd_name(name);
@@ -91,7 +91,7 @@ pub fn iwd_join(name: &[u8], file: &[u8], x: &[u16; 384], count: usize) -> JoinR
 // The record of the service asked for, which has one, and count name servers.
 pub fn service_join(file: &[u8], x: &[u16; 384], count: usize) -> JoinRecord
     requires row { ⌜ RowOf (now file) (now x) 96 Group.Service ⌝ }
-    requires counted { ⌜ count ≡ length (plain (addresses Separator.Comma (bytesAt (now file) (slot 102 (now x))))) ⌝ }
+    requires counted { ⌜ count ≡ length (orEmpty (addresses Separator.Comma (bytesAt (now file) (slot 102 (now x))))) ⌝ }
     ensures { λ r. ⌜ Typed (now (file .entry)) (now (x .entry)) 96 Group.Service (λ at. laid (serviceJoin at)) r ⌝ }
 {
     let name = parts::service_name(file, x);

@@ -4,7 +4,7 @@ ghost use mathlib.Core.Option.{none};
 ghost use Prim.Native.Nat.{_<_};
 ghost use Rattle.escapes.specs.Strings.{stringOf, sizeOf};
 ghost use Rattle.addresses.specs.Addresses.{address, netmask};
-ghost use Rattle.kinds.specs.Kinds.{flag, wordOf, key, ssid, string, passphrase};
+ghost use Rattle.kinds.specs.Kinds.{flag, wordOf, preSharedKey, ssid, string, passphrase};
 ghost use Rattle.kinds.specs.Answers.{namedWord, ssidAnswer};
 ghost use Rattle.rules.specs.Groups.{isWord};
 ghost use Rattle.reader.specs.Store.{slot};
@@ -19,8 +19,8 @@ use crate::Phrase;
 use addresses::Address;
 use escapes::Size;
 use kinds::Ipv4;
-use kinds::Key;
 use kinds::Method;
+use kinds::PreSharedKey;
 use kinds::Ssid;
 use kinds::Word;
 use kinds::WordList;
@@ -132,7 +132,7 @@ fn read_name(s: &[u8]) -> Ssid
 }
 
 // The credential: a passphrase wins over a key.
-fn login_of(phrase: Phrase, psk: Key) -> Login
+fn login_of(phrase: Phrase, psk: PreSharedKey) -> Login
     ensures { λ r. ⌜ r ≡ loginOf phrase psk ⌝ }
 {
     if phrase.ok {
@@ -164,7 +164,7 @@ fn login_of(phrase: Phrase, psk: Key) -> Login
 pub fn iwd_login(file: &[u8], x: &[u16; 384]) -> Login
     requires phrase { ⌜ SlotIn (now file) (now x) 17 ⌝ }
     requires psk { ⌜ SlotIn (now file) (now x) 18 ⌝ }
-    ensures { λ r. ⌜ r ≡ loginAnswer (secretFrom (passphrase Dialect.Iwd (bytesAt (now (file .entry)) (slot 17 (now (x .entry))))) (key (bytesAt (now (file .entry)) (slot 18 (now (x .entry)))))) ⌝ }
+    ensures { λ r. ⌜ r ≡ loginAnswer (secretFrom (passphrase Dialect.Iwd (bytesAt (now (file .entry)) (slot 17 (now (x .entry))))) (preSharedKey (bytesAt (now (file .entry)) (slot 18 (now (x .entry)))))) ⌝ }
 {
     let phrase = read_phrase(Dialect::Iwd, value_at(file, x, 17));
     let psk = values::key_at(file, x, 18);
@@ -178,7 +178,7 @@ pub fn service_login(file: &[u8], x: &[u16; 384]) -> Login
     let phrase = read_phrase(Dialect::ConnMan, value_at(file, x, 108));
     login_of(
         phrase,
-        Key {
+        PreSharedKey {
             ok: false,
             bytes: [0; 32],
         },

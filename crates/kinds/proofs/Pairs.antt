@@ -1,9 +1,9 @@
 -- Values in hex: what is known of their length, and the pairs of a MAC one by one.
-use mathlib.Core.Path.{_≡_, refl, ap, sym, _∙_}
-use mathlib.Core.Bool.{Bool, true, false, cond, _&&_, and-false, false≢true}
+use mathlib.Core.Path.{_≡_, refl, sym, _∙_}
+use mathlib.Core.Bool.{Bool, true, false, and-false, false≢true}
 use mathlib.Core.List.{List, [], _∷_, _++_, append-nil}
 use mathlib.Core.Option.{Option, none, some}
-use Prim.Native.Nat.{ℕ, zero, suc, _+_, _-_, _*_, _/_, _≤_, _<_}
+use Prim.Native.Nat.{ℕ, suc, _+_, _-_, _*_, _/_, _≤_, _<_}
 use native.Mathlib.Numerals.{add-one}
 use native.Mathlib.Omega.{arith}
 use borrow.Author.Tests.{eq-eqb, ne-eqb, lt-ltb, le-ltb}
@@ -11,26 +11,26 @@ use lib.Dec.{eqb, ltb}
 use lib.ListN.{length, take, drop, set, getD, replicate, drop-of-length-le, length-set}
 use lib.Seq.{drop-cons, take-suc-set, take-all}
 use Rattle.text.specs.Parts.{padded}
-use Rattle.text.specs.Options.{isSome, andThen, only, sized, prepend, plain, Fits}
+use Rattle.text.specs.Options.{isSome, andThen, only, sized, prepend, orEmpty, ReadsUpTo}
 use Rattle.text.specs.Relations.{Sized}
 use Rattle.text.specs.OptionLaws.{some-is, is-sized, unsized, sized-then}
-use Rattle.put.proofs.Filling.{glue, glue-prepend, glue-nil}
+use Rattle.put.proofs.Filling.{glue, glue-prepend}
 use Rattle.hex.specs.Hex.{nibble, pairByte, unhex}
 use Rattle.hex.specs.Laws.{unhex-length}
-use Rattle.kinds.specs.Kinds.{colonPairs, pairs, mac, key, ssid}
-use Rattle.kinds.specs.Answers.{macAnswer, keyAnswer, ssidAnswer}
+use Rattle.kinds.specs.Kinds.{colonPairs, pairs, mac, preSharedKey, ssid}
+use Rattle.kinds.specs.Answers.{macAnswer, preSharedKeyAnswer, ssidAnswer}
 
 -- ---- hex of low to high digits
 
-pub record Given (low high : ℕ) (s : List ℕ) : Type 0 where
+pub record HexGiven (low high : ℕ) (s : List ℕ) : Type 0 where
   pub size : Sized low high s
   pub text : List ℕ
   pub digits : unhex s ≡ some text
   pub is : andThen (sized low high (some s)) unhex ≡ some text
   pub double : length s ≡ 2 * length text
 
-given : (low high : ℕ) (s : List ℕ) → isSome (andThen (sized low high (some s)) unhex) ≡ true → Given low high s
-given low high s e =
+hex-given : (low high : ℕ) (s : List ℕ) → isSome (andThen (sized low high (some s)) unhex) ≡ true → HexGiven low high s
+hex-given low high s e =
     let k = some-is (andThen (sized low high (some s)) unhex) e in
     let h = sized-then low high unhex s (k .1) in
     record { size = h .0; text = k .0; digits = h .1; is = k .1; double = unhex-length s (h .1) }
@@ -47,12 +47,12 @@ absent none e = refl
 absent (some a) e = absurd (false≢true (sym e))
 
 module _ (s : List ℕ) where
-  pub key-other : (length s ≡ 64 → ⊥) → false ≡ isSome (key s)
-  unfolding key
+  pub key-other : (length s ≡ 64 → ⊥) → false ≡ isSome (preSharedKey s)
+  unfolding preSharedKey
   key-other h = size-other 64 64 s (λ z. h (omega (arith, z)))
 
-  pub key-digits : length s ≡ 64 → {x : Bool} → x ≡ isSome (unhex s) → x ≡ isSome (key s)
-  unfolding key
+  pub key-digits : length s ≡ 64 → {x : Bool} → x ≡ isSome (unhex s) → x ≡ isSome (preSharedKey s)
+  unfolding preSharedKey
   key-digits h e = size-right 64 64 s (record { least = omega arith; most = omega arith }) e
 
   pub ssid-short : length s < 2 → false ≡ isSome (ssid s)
@@ -68,28 +68,28 @@ module _ (s : List ℕ) where
   ssid-digits h g e = size-right 2 64 s (record { least = h; most = g }) e
 
 module _ (s : List ℕ) {x : Bool} where
-  pub key-fits : x ≡ isSome (key s) → x ≡ true → Fits 32 (unhex s)
-  unfolding key
-  key-fits p q = let g = given 64 64 s (sym p ∙ q) in rw (g .digits) (omega (arith, g .double, g .size))
+  pub key-fits : x ≡ isSome (preSharedKey s) → x ≡ true → ReadsUpTo 32 (unhex s)
+  unfolding preSharedKey
+  key-fits p q = let g = hex-given 64 64 s (sym p ∙ q) in rw (g .digits) (omega (arith, g .double, g .size))
 
-  pub key-good : x ≡ isSome (key s) → x ≡ true → {a : List ℕ} → a ≡ padded 32 (plain (unhex s)) → record { ok = true; bytes = a } ≡ keyAnswer (key s)
-  unfolding key
+  pub key-good : x ≡ isSome (preSharedKey s) → x ≡ true → {a : List ℕ} → a ≡ padded 32 (orEmpty (unhex s)) → record { ok = true; bytes = a } ≡ preSharedKeyAnswer (preSharedKey s)
+  unfolding preSharedKey
   key-good p q w =
-      let g = given 64 64 s (sym p ∙ q) in
+      let g = hex-given 64 64 s (sym p ∙ q) in
       let z : 32 - length (g .text) ≡ 0 = omega (arith, g .double, g .size) in
       rw (w, g .is, g .digits, z, append-nil (g .text))
 
-  pub key-bad : x ≡ isSome (key s) → x ≡ false → record { ok = false; bytes = replicate 32 0 } ≡ keyAnswer (key s)
-  key-bad p q = rw (absent (key s) (sym p ∙ q))
+  pub key-bad : x ≡ isSome (preSharedKey s) → x ≡ false → record { ok = false; bytes = replicate 32 0 } ≡ preSharedKeyAnswer (preSharedKey s)
+  key-bad p q = rw (absent (preSharedKey s) (sym p ∙ q))
 
-  pub ssid-fits : x ≡ isSome (ssid s) → x ≡ true → Fits 32 (unhex s)
+  pub ssid-fits : x ≡ isSome (ssid s) → x ≡ true → ReadsUpTo 32 (unhex s)
   unfolding ssid
-  ssid-fits p q = let g = given 2 64 s (sym p ∙ q) in rw (g .digits) (omega (arith, g .double, g .size))
+  ssid-fits p q = let g = hex-given 2 64 s (sym p ∙ q) in rw (g .digits) (omega (arith, g .double, g .size))
 
-  pub ssid-good : x ≡ isSome (ssid s) → x ≡ true → {a : List ℕ} → a ≡ padded 32 (plain (unhex s)) → record { ok = true; length = length s / 2; bytes = a } ≡ ssidAnswer (ssid s)
+  pub ssid-good : x ≡ isSome (ssid s) → x ≡ true → {a : List ℕ} → a ≡ padded 32 (orEmpty (unhex s)) → record { ok = true; length = length s / 2; bytes = a } ≡ ssidAnswer (ssid s)
   unfolding ssid
   ssid-good p q w =
-      let g = given 2 64 s (sym p ∙ q) in
+      let g = hex-given 2 64 s (sym p ∙ q) in
       let n : length s / 2 ≡ length (g .text) = omega (arith, g .double) in
       rw (w, g .is, g .digits, n)
 

@@ -1,4 +1,4 @@
--- What `mac`, `key` and `ssid` read is what their hex digits write.
+-- What `mac`, `preSharedKey` and `ssid` read is what their hex digits write.
 use Prim.Native.Nat.{ℕ, _+_, _*_}
 use native.Mathlib.Omega.{arith}
 use mathlib.Core.Path.{_≡_, refl, ap, _∙_, subst}
@@ -12,7 +12,7 @@ use Rattle.text.specs.OptionLaws.{only-some, then-some, is-sized, sized-then, p
 use Rattle.hex.specs.Hex.{pairByte, unhex}
 use Rattle.hex.specs.HexRules.{HexPair}
 use Rattle.hex.specs.HexRuleLaws.{pair-is, is-pair, unhex-writes, writes-unhex}
-use Rattle.kinds.specs.Kinds.{colonPairs, pairs, mac, key, ssid}
+use Rattle.kinds.specs.Kinds.{colonPairs, pairs, mac, preSharedKey, ssid}
 use Rattle.kinds.specs.ValueRules.{ColonPairs, last, next, MacIs, PreSharedKeyIs, SsidIs}
 
 -- ---- pairs with colons
@@ -69,13 +69,13 @@ pub is-mac : (v : List ℕ) {t : List ℕ} → MacIs v t → mac v ≡ some t
 unfolding mac
 is-mac v h = rw (is-sized 17 17 (some v) (h .size) refl) (are-pairs (h .pairs))
 
-pub key-is : (v : List ℕ) {t : List ℕ} → key v ≡ some t → PreSharedKeyIs v t
-unfolding key
-key-is v e = let h = sized-then 64 64 unhex v e in record { size = h .0; digits = unhex-writes v (h .1) }
+pub pre-shared-key-is : (v : List ℕ) {t : List ℕ} → preSharedKey v ≡ some t → PreSharedKeyIs v t
+unfolding preSharedKey
+pre-shared-key-is v e = let h = sized-then 64 64 unhex v e in record { size = h .0; digits = unhex-writes v (h .1) }
 
-pub is-key : (v : List ℕ) {t : List ℕ} → PreSharedKeyIs v t → key v ≡ some t
-unfolding key
-is-key v h = rw (is-sized 64 64 (some v) (h .size) refl) (writes-unhex (h .digits))
+pub is-pre-shared-key : (v : List ℕ) {t : List ℕ} → PreSharedKeyIs v t → preSharedKey v ≡ some t
+unfolding preSharedKey
+is-pre-shared-key v h = rw (is-sized 64 64 (some v) (h .size) refl) (writes-unhex (h .digits))
 
 pub ssid-is : (v : List ℕ) {t : List ℕ} → ssid v ≡ some t → SsidIs v t
 unfolding ssid

@@ -51,15 +51,15 @@ pub data IPv4 : Type 0 where
   static : List ℕ → ℕ → Option (List ℕ) → IPv4
 
 -- "address `/` mask or length (1 to 32, no leading zero), and optionally `/` gateway"
-abbrev pub lengthOf : List ℕ → Option ℕ
-lengthOf s = orElse (prefixLength s) (netmask s)
+abbrev pub maskOrLength : List ℕ → Option ℕ
+maskOrLength s = orElse (prefixLength s) (netmask s)
 
 abbrev pub staticOf : List (List ℕ) → Option IPv4
 staticOf [] = none
 staticOf (a ∷ []) = none
-staticOf (a ∷ m ∷ []) = andThen (address a) (λ x. andThen (lengthOf m) (λ n. some (static x n none)))
+staticOf (a ∷ m ∷ []) = andThen (address a) (λ x. andThen (maskOrLength m) (λ n. some (static x n none)))
 staticOf (a ∷ m ∷ g ∷ []) =
-    andThen (address a) (λ x. andThen (lengthOf m) (λ n. andThen (address g) (λ y. some (static x n (some y)))))
+    andThen (address a) (λ x. andThen (maskOrLength m) (λ n. andThen (address g) (λ y. some (static x n (some y)))))
 staticOf (a ∷ m ∷ g ∷ h ∷ t) = none
 
 -- "ConnMan IPv4 is `off`, `dhcp`, or" those
@@ -95,8 +95,8 @@ unfoldable pub mac : List ℕ → Option (List ℕ)
 mac s = andThen (sized 17 17 (some s)) pairs
 
 -- "PreSharedKey (64 hex digits)"
-unfoldable pub key : List ℕ → Option (List ℕ)
-key s = andThen (sized 64 64 (some s)) unhex
+unfoldable pub preSharedKey : List ℕ → Option (List ℕ)
+preSharedKey s = andThen (sized 64 64 (some s)) unhex
 
 -- "SSID (2 to 64 hex digits, an even count)"
 unfoldable pub ssid : List ℕ → Option (List ℕ)

@@ -9,7 +9,7 @@ use mathlib.Core.Option.{Option, some}
 use lib.ListN.{length}
 use Rattle.text.specs.Bytes.{isByte}
 use Rattle.text.specs.Parts.{all}
-use Rattle.text.specs.OptionLaws.{Holds, sized-is, sized-then}
+use Rattle.text.specs.OptionLaws.{IfRead, sized-is, sized-then}
 use Rattle.text.specs.declared.Dialect.{Dialect}
 use Rattle.escapes.specs.Strings.{stringOf}
 use Rattle.hex.specs.Hex.{unhex}
@@ -19,7 +19,7 @@ use Rattle.addresses.specs.AddressRules.{MaskIs, LengthIs}
 use Rattle.addresses.specs.Laws.{address-bytes}
 use Rattle.addresses.specs.AddressRuleLaws.{is-address}
 use Rattle.addresses.specs.MaskRuleLaws.{netmask-good, is-netmask}
-use Rattle.kinds.specs.Kinds.{IPv4, dhcp, off, static, ipv4, key, ssid, string}
+use Rattle.kinds.specs.Kinds.{IPv4, dhcp, off, static, ipv4, preSharedKey, ssid, string}
 use Rattle.kinds.specs.ValueRules.{Ipv4Is, word-off, word-dhcp, without-gateway, with-gateway}
 use Rattle.kinds.specs.Ipv4RuleLaws.{ipv4-is}
 
@@ -32,9 +32,9 @@ string-size d low high v {t} e =
     let h = sized-is low high (stringOf d v) e .0 in
     (h .least, h .most)
 
-pub key-size : (v : List ℕ) {k : List ℕ} → key v ≡ some k → (length k ≡ 32) × (all isByte k ≡ true)
-unfolding key
-key-size v {k} e =
+pub pre-shared-key-size : (v : List ℕ) {k : List ℕ} → preSharedKey v ≡ some k → (length k ≡ 32) × (all isByte k ≡ true)
+unfolding preSharedKey
+pre-shared-key-size v {k} e =
     let h = sized-then 64 64 unhex v e in
     (omega (arith, h .0, unhex-length v (h .1)), unhex-bytes v (h .1))
 
@@ -50,7 +50,7 @@ pub record StaticGood (a : List ℕ) (n : ℕ) (g : Option (List ℕ)) : Type 0 
   pub address : isAddress a ≡ true
   pub low : 1 ≤ n
   pub high : n ≤ 32
-  pub gateway : Holds (λ x. isAddress x ≡ true) g
+  pub gateway : IfRead (λ x. isAddress x ≡ true) g
 
 abbrev pub Ipv4Good : IPv4 → Type 0
 Ipv4Good dhcp = Unit

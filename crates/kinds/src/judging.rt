@@ -95,7 +95,7 @@ fn judge_kind(d: Dialect, kind: Kind, v: &[u8], at: Place) -> Judgement
             let m = hexes::read_mac(v);
             kept(m.ok, at)
         }
-        Kind::Key => kept(hexes::is_key(v), at),
+        Kind::PreSharedKey => kept(hexes::is_pre_shared_key(v), at),
         Kind::Ssid => kept(hexes::is_ssid(v), at),
         Kind::Passphrase => string_judgement(d, v, 8, 63, at),
         Kind::Text(low, high) => string_judgement(d, v, low, high, at),

@@ -1,20 +1,20 @@
 -- What the form of a line says of it: it is the line, its places lie in it, and a value starts where `valueStart` says.
 use Prim.Native.Nat.{ℕ, suc, _+_, _-_, _≤_, _<_}
-use native.Mathlib.Nat.{le-refl, not-suc-le-zero}
+use native.Mathlib.Nat.{le-refl}
 use native.Mathlib.Omega.{arith}
-use mathlib.Core.Path.{_≡_, refl, ap, ap₂, sym, _∙_, subst}
+use mathlib.Core.Path.{_≡_, refl, ap, ap₂, sym, _∙_}
 use mathlib.Core.Bool.{Bool, true, false, cond, not, _&&_}
 use mathlib.Core.List.{List, [], _∷_}
 use lib.Dec.{eqb}
 use lib.ListN.{length, take, drop, length-drop}
 use lib.Seq.{take-all, drop-drop}
 use Rattle.text.specs.Bytes.{isBlank, isHeaderByte, isKeyByte}
-use Rattle.text.specs.Parts.{lead, front, after, all, empty, part, partAt, Inside, trimmed}
+use Rattle.text.specs.Parts.{lead, front, after, all, empty, partAt, Inside, trimmed}
 use Rattle.text.specs.Scans.{Stop, stop-low, stop-front, stop-after}
 use Rattle.text.specs.declared.Dialect.{Dialect}
 use Rattle.text.specs.declared.Dialect.the-variants.{Iwd, ConnMan}
 use Rattle.lines.specs.Lines.{Line, blank, comment, header, setting, broken, extends, closed, bracketOf, ended, equalOf, behindEqual, settingOf, bodyOf, lineOf, valueStart}
-use Rattle.lines.specs.Forms.{runEnd, runAt, valueFrom, valuePlace, formIn, formAt}
+use Rattle.lines.specs.Forms.{runEnd, valueFrom, valuePlace, formIn, formAt}
 use Rattle.lines.specs.declared.Form.{Form}
 use Rattle.lines.specs.declared.Form.the-variants.{Blank, Comment, Header, Setting, Broken}
 use Rattle.lines.specs.declared.Break.the-variants.{Unrecognized, Extension, BadHeader}

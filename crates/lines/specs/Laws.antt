@@ -1,15 +1,14 @@
 -- What is written reads back: a line as that line, and lines as those lines.
 use Prim.Native.Nat.{ℕ}
-use mathlib.Core.Path.{_≡_, refl, ap, ap₂, sym, _∙_}
-use mathlib.Core.Bool.{Bool, true, false, cond, not, _&&_, true≢false}
+use mathlib.Core.Path.{_≡_, refl, ap, ap₂, _∙_}
+use mathlib.Core.Bool.{true, false, true≢false}
 use mathlib.Core.List.{List, [], _∷_, _++_, map}
-use lib.Dec.{eqb}
 use Rattle.text.specs.Bytes.{inLine, isBlank, isHeaderByte, isKeyByte}
-use Rattle.text.specs.Parts.{all, front, after, empty, lines}
+use Rattle.text.specs.Parts.{all, after, empty, lines}
 use Rattle.text.specs.Laws.{all-cons, all-append, all-other, pass-other, front-append, after-append, lines-append}
 use Rattle.text.specs.declared.Dialect.{Dialect}
 use Rattle.text.specs.declared.Dialect.the-variants.{Iwd, ConnMan}
-use Rattle.lines.specs.Lines.{Line, blank, comment, header, setting, broken, begins, extends, headerOf, bracketOf, ended, equalOf, settingOf, bodyOf, lineOf}
+use Rattle.lines.specs.Lines.{Line, blank, comment, header, setting, broken, extends, bracketOf, equalOf, settingOf, lineOf}
 use Rattle.lines.specs.Rendering.{equals, render, rendered, HeaderText, SettingText, WritableLine, WritableLines}
 
 -- ---- a header

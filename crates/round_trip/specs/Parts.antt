@@ -6,14 +6,14 @@ use mathlib.Core.Bool.{Bool, true, false, not, _&&_, _||_, true≢false}
 use mathlib.Core.List.{List, [], _∷_}
 use mathlib.Core.Option.{none, some}
 use Rattle.text.specs.Words.{word, same}
-use Rattle.text.specs.Options.{isSome, andThen, plain}
+use Rattle.text.specs.Options.{isSome, andThen, orEmpty}
 use Rattle.text.specs.declared.Dialect.the-variants.{Iwd}
 use Rattle.addresses.specs.Addresses.{address, netmask, addresses}
 use Rattle.addresses.specs.Written.{address-dotted, netmask-dotted}
 use Rattle.addresses.specs.declared.Separator.the-variants.{Spaces}
 use Rattle.kinds.specs.Kinds as K
 use Rattle.kinds.specs.Kinds.{IPv4, dhcp, off, static, flag, string}
-use Rattle.kinds.specs.Written.{string-escape, key-hex}
+use Rattle.kinds.specs.Written.{string-escape, pre-shared-key-hex}
 use Rattle.rules.specs.Faults.{Section}
 use Rattle.rules.specs.Groups.{has, fileFault}
 use Rattle.records.specs.Record.{Secret, noSecret, passphrase, key}
@@ -32,10 +32,10 @@ unfolding flag
 hidden-back false = refl
 hidden-back true = refl
 
-pub secret-back : (c : Secret) → GoodSecret c → secretFrom (andThen (valueIn (word "Passphrase") (secretRows c)) (K.passphrase Iwd)) (andThen (valueIn (word "PreSharedKey") (secretRows c)) K.key) ≡ c
+pub secret-back : (c : Secret) → GoodSecret c → secretFrom (andThen (valueIn (word "Passphrase") (secretRows c)) (K.passphrase Iwd)) (andThen (valueIn (word "PreSharedKey") (secretRows c)) K.preSharedKey) ≡ c
 secret-back noSecret w = refl
 secret-back (passphrase p) w = rw (string-escape 8 63 p (w .low) (w .high))
-secret-back (key k) w = rw (key-hex k (w .long) (w .bytes))
+secret-back (key k) w = rw (pre-shared-key-hex k (w .long) (w .bytes))
 
 pub ipv4-back : (i : IPv4) → GoodIpv4 i → hasPlace i ≡ true → staticOrDhcp (andThen (valueIn (word "Address") (numberRows i)) address) (andThen (valueIn (word "Netmask") (numberRows i)) netmask) (andThen (valueIn (word "Gateway") (numberRows i)) address) ≡ i
 ipv4-back dhcp w p = refl
@@ -43,11 +43,11 @@ ipv4-back off w p = absurd (true≢false (sym p))
 ipv4-back (static a n none) w p = absurd (true≢false (sym p))
 ipv4-back (static a n (some g)) w p = rw (address-dotted a (w .address), netmask-dotted n (w .low) (w .high), address-dotted g (w .gateway))
 
-pub servers-back : (l : List (List ℕ)) → GoodServers l → plain (andThen (valueIn (word "DNS") (serverRows l)) (addresses Spaces)) ≡ l
+pub servers-back : (l : List (List ℕ)) → GoodServers l → orEmpty (andThen (valueIn (word "DNS") (serverRows l)) (addresses Spaces)) ≡ l
 servers-back [] w = refl
 servers-back (a ∷ l) w = rw (servers-listed a l w)
 
-pub domain-back : (d : List ℕ) → GoodDomain d → plain (andThen (valueIn (word "DomainName") (domainRows d)) (string Iwd 1 253)) ≡ d
+pub domain-back : (d : List ℕ) → GoodDomain d → orEmpty (andThen (valueIn (word "DomainName") (domainRows d)) (string Iwd 1 253)) ≡ d
 domain-back [] w = refl
 domain-back (c ∷ d) w = rw (string-escape 1 253 (c ∷ d) (omega arith) (w .high))
 

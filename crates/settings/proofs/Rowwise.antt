@@ -6,21 +6,21 @@ use mathlib.Core.Bool.{Bool}
 use mathlib.Core.List.{List, []}
 use mathlib.Core.Option.{Option, none}
 use lib.ListN.{length}
-use Rattle.text.specs.Options.{plain}
+use Rattle.text.specs.Options.{orEmpty}
 use Rattle.text.specs.Words.{word, place}
 use Rattle.text.specs.declared.Dialect.{Dialect}
 use Rattle.text.specs.declared.Dialect.the-variants.{Iwd, ConnMan}
-use Rattle.addresses.specs.Addresses.{address, number, value, netmask, addresses, addressAnswer}
+use Rattle.addresses.specs.Addresses.{address, number, decimalValue, netmask, addresses, addressAnswer}
 use Rattle.addresses.specs.declared.Address.{Address}
 use Rattle.addresses.specs.declared.Separator.{Separator}
 use Rattle.addresses.specs.declared.Separator.the-variants.{Spaces, Comma}
-use Rattle.kinds.specs.Kinds.{flag, wordOf, ipv4, entries, mac, key, ssid}
-use Rattle.kinds.specs.Answers.{ipv4Answer, entriesAnswer, macAnswer, keyAnswer, ssidAnswer}
+use Rattle.kinds.specs.Kinds.{flag, wordOf, ipv4, entries, mac, preSharedKey, ssid}
+use Rattle.kinds.specs.Answers.{ipv4Answer, entriesAnswer, macAnswer, preSharedKeyAnswer, ssidAnswer}
 use Rattle.kinds.specs.declared.WordList.{WordList}
 use Rattle.kinds.specs.declared.WordList.the-variants as L
 use Rattle.kinds.specs.declared.Entries.{Entries}
 use Rattle.kinds.specs.declared.Ipv4.{Ipv4}
-use Rattle.kinds.specs.declared.Key.{Key}
+use Rattle.kinds.specs.declared.PreSharedKey.{PreSharedKey}
 use Rattle.kinds.specs.declared.Mac.{Mac}
 use Rattle.kinds.specs.declared.Ssid.{Ssid}
 use Rattle.rules.specs.Tables.{keysOf}
@@ -56,15 +56,15 @@ word-none L.Privacy = refl
 word-none L.Security = refl
 
 pub address-none : address [] ≡ none
-unfolding address number value
+unfolding address number decimalValue
 address-none = refl
 
 pub netmask-none : netmask [] ≡ none
-unfolding netmask address number value
+unfolding netmask address number decimalValue
 netmask-none = refl
 
 pub addresses-none : (s : Separator) → addresses s [] ≡ none
-unfolding addresses address number value
+unfolding addresses address number decimalValue
 addresses-none Spaces = refl
 addresses-none Comma = refl
 
@@ -80,8 +80,8 @@ mac-none : mac [] ≡ none
 unfolding mac
 mac-none = refl
 
-pub key-none : key [] ≡ none
-unfolding key
+pub key-none : preSharedKey [] ≡ none
+unfolding preSharedKey
 key-none = refl
 
 pub ssid-none : ssid [] ≡ none
@@ -119,11 +119,11 @@ module _ {file x : List ℕ} where
             );
       }
 
-  pub security-typed : {l : ℕ} {k : Key} → l ≡ slot 17 x .line → k ≡ keyAnswer (key (bytesAt file (slot 18 x))) → Typed file x 16 G.Security securityOf (record { passphrase = l; «pre_shared_key» = k })
+  pub security-typed : {l : ℕ} {k : PreSharedKey} → l ≡ slot 17 x .line → k ≡ preSharedKeyAnswer (preSharedKey (bytesAt file (slot 18 x))) → Typed file x 16 G.Security securityOf (record { passphrase = l; «pre_shared_key» = k })
   unfolding keysOf
-  security-typed p q = record { is = λ es h. rw (p ∙ row-line G.Security h (word "Passphrase") 0 refl, q ∙ ap keyAnswer (row-read G.Security h (word "PreSharedKey") 1 refl key key-none)) }
+  security-typed p q = record { is = λ es h. rw (p ∙ row-line G.Security h (word "Passphrase") 0 refl, q ∙ ap preSharedKeyAnswer (row-read G.Security h (word "PreSharedKey") 1 refl preSharedKey key-none)) }
 
-  pub ipv4-typed : {a b c : Address} {m n l : ℕ} {s : Choice} → a ≡ addressAnswer (address (bytesAt file (slot 33 x))) → b ≡ addressAnswer (address (bytesAt file (slot 34 x))) → c ≡ addressAnswer (address (bytesAt file (slot 35 x))) → m ≡ lengthOr0 (netmask (bytesAt file (slot 36 x))) → n ≡ length (plain (addresses Spaces (bytesAt file (slot 37 x)))) → l ≡ slot 38 x .line → s ≡ choice (flag Iwd (bytesAt file (slot 39 x))) → Typed file x 32 G.Ipv4 ipv4Of (record { address = a; gateway = b; broadcast = c; netmask = m; dns = n; «domain_name» = l; «send_hostname» = s })
+  pub ipv4-typed : {a b c : Address} {m n l : ℕ} {s : Choice} → a ≡ addressAnswer (address (bytesAt file (slot 33 x))) → b ≡ addressAnswer (address (bytesAt file (slot 34 x))) → c ≡ addressAnswer (address (bytesAt file (slot 35 x))) → m ≡ lengthOr0 (netmask (bytesAt file (slot 36 x))) → n ≡ length (orEmpty (addresses Spaces (bytesAt file (slot 37 x)))) → l ≡ slot 38 x .line → s ≡ choice (flag Iwd (bytesAt file (slot 39 x))) → Typed file x 32 G.Ipv4 ipv4Of (record { address = a; gateway = b; broadcast = c; netmask = m; dns = n; «domain_name» = l; «send_hostname» = s })
   unfolding keysOf
   ipv4-typed p q r s t u v =
       record {
@@ -133,7 +133,7 @@ module _ {file x : List ℕ} where
               q ∙ ap addressAnswer (row-read G.Ipv4 h (word "Gateway") 1 refl address address-none),
               r ∙ ap addressAnswer (row-read G.Ipv4 h (word "Broadcast") 2 refl address address-none),
               s ∙ ap lengthOr0 (row-read G.Ipv4 h (word "Netmask") 3 refl netmask netmask-none),
-              t ∙ ap (λ (o : Option (List (List ℕ))). length (plain o)) (row-read G.Ipv4 h (word "DNS") 4 refl (addresses Spaces) (addresses-none Spaces)),
+              t ∙ ap (λ (o : Option (List (List ℕ))). length (orEmpty o)) (row-read G.Ipv4 h (word "DNS") 4 refl (addresses Spaces) (addresses-none Spaces)),
               u ∙ row-line G.Ipv4 h (word "DomainName") 5 refl,
               v ∙ ap choice (row-read G.Ipv4 h (word "SendHostname") 6 refl (flag Iwd) (flag-none Iwd)),
             );
@@ -154,7 +154,7 @@ module _ {file x : List ℕ} where
             );
       }
 
-  pub address-typed : {a : Ipv4} {b c : Chosen} {m : Mac} {n : ℕ} {s t : Entries} {l : ℕ} → a ≡ ipv4Answer (ipv4 (bytesAt file (slot 98 x))) → b ≡ chosen (wordOf L.Ipv6Method (bytesAt file (slot 99 x))) → c ≡ chosen (wordOf L.Privacy (bytesAt file (slot 100 x))) → m ≡ macAnswer (mac (bytesAt file (slot 101 x))) → n ≡ length (plain (addresses Comma (bytesAt file (slot 102 x)))) → s ≡ entriesAnswer (slot 103 x .start) (entries (bytesAt file (slot 103 x))) → t ≡ entriesAnswer (slot 104 x .start) (entries (bytesAt file (slot 104 x))) → l ≡ slot 105 x .line → Typed file x 96 G.Service addressSettingsOf (record { ipv4 = a; ipv6 = b; privacy = c; mac = m; nameservers = n; «search_domains» = s; timeservers = t; domain = l })
+  pub address-typed : {a : Ipv4} {b c : Chosen} {m : Mac} {n : ℕ} {s t : Entries} {l : ℕ} → a ≡ ipv4Answer (ipv4 (bytesAt file (slot 98 x))) → b ≡ chosen (wordOf L.Ipv6Method (bytesAt file (slot 99 x))) → c ≡ chosen (wordOf L.Privacy (bytesAt file (slot 100 x))) → m ≡ macAnswer (mac (bytesAt file (slot 101 x))) → n ≡ length (orEmpty (addresses Comma (bytesAt file (slot 102 x)))) → s ≡ entriesAnswer (slot 103 x .start) (entries (bytesAt file (slot 103 x))) → t ≡ entriesAnswer (slot 104 x .start) (entries (bytesAt file (slot 104 x))) → l ≡ slot 105 x .line → Typed file x 96 G.Service addressSettingsOf (record { ipv4 = a; ipv6 = b; privacy = c; mac = m; nameservers = n; «search_domains» = s; timeservers = t; domain = l })
   unfolding keysOf
   address-typed p q r s t u v w =
       record {
@@ -164,7 +164,7 @@ module _ {file x : List ℕ} where
               q ∙ ap chosen (row-read G.Service h (word "IPv6") 2 refl (wordOf L.Ipv6Method) (word-none L.Ipv6Method)),
               r ∙ ap chosen (row-read G.Service h (word "IPv6.Privacy") 3 refl (wordOf L.Privacy) (word-none L.Privacy)),
               s ∙ ap macAnswer (row-read G.Service h (word "MAC") 4 refl mac mac-none),
-              t ∙ ap (λ (o : Option (List (List ℕ))). length (plain o)) (row-read G.Service h (word "Nameservers") 5 refl (addresses Comma) (addresses-none Comma)),
+              t ∙ ap (λ (o : Option (List (List ℕ))). length (orEmpty o)) (row-read G.Service h (word "Nameservers") 5 refl (addresses Comma) (addresses-none Comma)),
               u ∙ ap₂ entriesAnswer (row-start G.Service h (word "SearchDomains") 6 refl) (row-read G.Service h (word "SearchDomains") 6 refl entries entries-none),
               v ∙ ap₂ entriesAnswer (row-start G.Service h (word "Timeservers") 7 refl) (row-read G.Service h (word "Timeservers") 7 refl entries entries-none),
               w ∙ row-line G.Service h (word "Domain") 8 refl,

@@ -4,10 +4,10 @@ ghost use mathlib.Core.Path.{_≡_};
 ghost use mathlib.Core.Option.{some};
 ghost use Prim.Native.Nat.{_+_, _≤_, _<_};
 ghost use lib.ListN.{length};
-ghost use Rattle.text.specs.Options.{plain};
+ghost use Rattle.text.specs.Options.{orEmpty};
 ghost use Rattle.addresses.specs.Addresses.{address, netmask, addresses, addressAnswer, rows};
-ghost use Rattle.kinds.specs.Kinds.{flag, wordOf, ipv4, entries, mac, key, ssid};
-ghost use Rattle.kinds.specs.Answers.{entriesAnswer, ipv4Answer, macAnswer, keyAnswer, ssidAnswer};
+ghost use Rattle.kinds.specs.Kinds.{flag, wordOf, ipv4, entries, mac, preSharedKey, ssid};
+ghost use Rattle.kinds.specs.Answers.{entriesAnswer, ipv4Answer, macAnswer, preSharedKeyAnswer, ssidAnswer};
 ghost use Rattle.reader.specs.Store.{slot};
 ghost use Rattle.reader.specs.Closing.{SlotIn};
 ghost use Rattle.settings.specs.Values.{choice, chosen, lengthOr0, bytesAt};
@@ -18,9 +18,9 @@ use addresses::Netmask;
 use addresses::Separator;
 use kinds::Entries;
 use kinds::Ipv4;
-use kinds::Key;
 use kinds::Mac;
 use kinds::NamedWord;
+use kinds::PreSharedKey;
 use kinds::Ssid;
 use kinds::WordList;
 use kinds::YesNo;
@@ -91,11 +91,11 @@ pub fn mac_at(file: &[u8], x: &[u16; 384], i: usize) -> Mac
     kinds::hexes::read_mac(value_at(file, x, i))
 }
 
-pub fn key_at(file: &[u8], x: &[u16; 384], i: usize) -> Key
+pub fn key_at(file: &[u8], x: &[u16; 384], i: usize) -> PreSharedKey
     requires { ⌜ SlotIn (now file) (now x) i ⌝ }
-    ensures { λ r. ⌜ r ≡ keyAnswer (key (bytesAt (now (file .entry)) (slot i (now (x .entry))))) ⌝ }
+    ensures { λ r. ⌜ r ≡ preSharedKeyAnswer (preSharedKey (bytesAt (now (file .entry)) (slot i (now (x .entry))))) ⌝ }
 {
-    kinds::hexes::read_key(value_at(file, x, i))
+    kinds::hexes::read_pre_shared_key(value_at(file, x, i))
 }
 
 pub fn ssid_at(file: &[u8], x: &[u16; 384], i: usize) -> Ssid
@@ -108,7 +108,7 @@ pub fn ssid_at(file: &[u8], x: &[u16; 384], i: usize) -> Ssid
 // How many addresses a list has.
 pub fn count_at(sep: Separator, file: &[u8], x: &[u16; 384], i: usize) -> usize
     requires { ⌜ SlotIn (now file) (now x) i ⌝ }
-    ensures { λ r. ⌜ r ≡ length (plain (addresses sep (bytesAt (now (file .entry)) (slot i (now (x .entry)))))) ⌝ }
+    ensures { λ r. ⌜ r ≡ length (orEmpty (addresses sep (bytesAt (now (file .entry)) (slot i (now (x .entry)))))) ⌝ }
 {
     addresses::lists::count_addresses(value_at(file, x, i), sep)
 }
@@ -130,7 +130,7 @@ pub fn list_at(
     i: usize,
 ) -> usize
     requires { ⌜ SlotIn (now file) (now x) i ⌝ }
-    ensures { λ r. ⌜ (r ≡ length (plain (addresses sep (bytesAt (now (file .entry)) (slot i (now (x .entry)))))))
+    ensures { λ r. ⌜ (r ≡ length (orEmpty (addresses sep (bytesAt (now (file .entry)) (slot i (now (x .entry)))))))
         × (now (out .exit) ≡ rows (addresses sep (bytesAt (now (file .entry)) (slot i (now (x .entry)))))) ⌝ }
 {
     addresses::lists::read_list(out, value_at(file, x, i), sep)

@@ -1,6 +1,6 @@
 -- The classes of bytes, each as document 01 names it. Letters and digits are ASCII's everywhere.
 use Prim.Native.Nat.{ℕ}
-use mathlib.Core.Bool.{Bool, true, false, not, _&&_, _||_}
+use mathlib.Core.Bool.{Bool, false, not, _&&_, _||_}
 use lib.Dec.{eqb, leb, ltb}
 use Rattle.text.specs.declared.Dialect.{Dialect}
 use Rattle.text.specs.declared.Dialect.the-variants.{Iwd, ConnMan}
@@ -51,12 +51,12 @@ isHeaderByte x = other 91 x && (other 93 x && between 32 126 x)
 abbrev pub isJoint : ℕ → Bool
 isJoint x = eqb x 95 || eqb x 45
 
-abbrev pub dotted : Dialect → ℕ → Bool
-dotted Iwd x = false
-dotted ConnMan x = eqb x 46
+abbrev pub isKeyDot : Dialect → ℕ → Bool
+isKeyDot Iwd x = false
+isKeyDot ConnMan x = eqb x 46
 
 unfoldable pub isKeyByte : Dialect → ℕ → Bool
-isKeyByte d x = isAlphanumeric x || (isJoint x || dotted d x)
+isKeyByte d x = isAlphanumeric x || (isJoint x || isKeyDot d x)
 
 -- a byte of a network name that stands plainly in a file name: "a letter, digit, space, `_` or `-`"
 unfoldable pub isPlain : ℕ → Bool

@@ -13,6 +13,6 @@ pub mod PieceLaws
 pub mod OptionLaws
 pub mod RelationLaws
 pub mod OccurrenceLaws
-pub mod Tells
+pub mod Decides
 -- For the proofs only: where a scan stops, by index
 pub mod Scans

@@ -87,24 +87,10 @@ module _ {A : Type 0} (f : List ℕ → Option A) (R : List ℕ → A → Type 0
   pairwise-each g (p ∷ ps) (x ∷ xs) h = rw (g p x (h .0), pairwise-each g ps xs (h .1))
 
 -- what is read, if it is, has the property
-abbrev pub Holds : {A : Type 0} → (A → Type 0) → Option A → Type 0
-Holds P none = Unit
-Holds P (some a) = P a
+abbrev pub IfRead : {A : Type 0} → (A → Type 0) → Option A → Type 0
+IfRead P none = Unit
+IfRead P (some a) = P a
 
 module _ {A : Type 0} (P : A → Type 0) where
-  pub holds-some : {o : Option A} {a : A} → Holds P o → o ≡ some a → P a
-  holds-some h e = subst (Holds P) e h
-
-  pub holds-map : (Q : A → Type 0) → ((a : A) → P a → Q a) → (o : Option A) → Holds P o → Holds Q o
-  holds-map Q f none h = tt
-  holds-map Q f (some a) h = f a h
-
-pub sized-holds : {A : Type 0} (P : List A → Type 0) (low high : ℕ) (o : Option (List A)) → Holds P o →
-    Holds (λ l. (between low high (length l) ≡ true) × P l) (sized low high o)
-sized-holds P low high none h = tt
-sized-holds {A} P low high (some l) h = go (between low high (length l)) refl
-  where
-    go : (t : Bool) → between low high (length l) ≡ t →
-        Holds (λ (k : List A). (between low high (length k) ≡ true) × P k) (cond t (some l) none)
-    go true e = (e, h)
-    go false e = tt
+  pub if-read : {o : Option A} {a : A} → IfRead P o → o ≡ some a → P a
+  if-read h e = subst (IfRead P) e h

@@ -14,5 +14,5 @@ abbrev pub ranges : Due → List Range
 ranges d = pending (d .more) (d .low) (d .high)
 
 -- a step over the byte b: whatever follows, what was due before b is due after it
-pub record Steps (d : Due) (b : ℕ) (r : Due) : Type 0 where
+pub record StepsOver (d : Due) (b : ℕ) (r : Due) : Type 0 where
   pub rest : (s : List ℕ) → utf8From (ranges d) (b ∷ s) ≡ utf8From (ranges r) s
