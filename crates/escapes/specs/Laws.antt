@@ -40,13 +40,13 @@ unfolding unescapeFrom
 shown-back true r = shown-cases (λ (c : ℕ) (l : List ℕ). unescapeFrom false (l ++ r) ≡ prepend c (unescapeFrom false r)) true refl refl refl refl refl (λ c hn hr hb hs ht. rw (ne-eqb c 92 hb))
 shown-back false r = shown-cases (λ (c : ℕ) (l : List ℕ). unescapeFrom false (l ++ r) ≡ prepend c (unescapeFrom false r)) false refl refl refl refl refl (λ c hn hr hb hs ht. rw (ne-eqb c 92 hb))
 
-writing-back : (f : Bool) (t : List ℕ) → unescapeFrom false (escapeFrom f t) ≡ some t
+unescape-from : (f : Bool) (t : List ℕ) → unescapeFrom false (escapeFrom f t) ≡ some t
 unfolding unescapeFrom escapeFrom
-writing-back f [] = refl
-writing-back f (c ∷ t) = shown-back f (escapeFrom false t) c ∙ ap (prepend c) (writing-back false t)
+unescape-from f [] = refl
+unescape-from f (c ∷ t) = shown-back f (escapeFrom false t) c ∙ ap (prepend c) (unescape-from false t)
 
 pub unescape-escape : (t : List ℕ) → unescape (escape t) ≡ some t
-unescape-escape t = writing-back true t
+unescape-escape t = unescape-from true t
 
 -- ---- on a line: no byte 10, and no blank in front
 
@@ -54,13 +54,13 @@ shown-line : (f : Bool) (c : ℕ) → all inLine (shown f c) ≡ true
 shown-line true = shown-cases (λ (c : ℕ) (l : List ℕ). all inLine l ≡ true) true refl refl refl refl refl (λ c hn hr hb hs ht. rw (ne-eqb c 10 hn))
 shown-line false = shown-cases (λ (c : ℕ) (l : List ℕ). all inLine l ≡ true) false refl refl refl refl refl (λ c hn hr hb hs ht. rw (ne-eqb c 10 hn))
 
-writing-line : (f : Bool) (t : List ℕ) → all inLine (escapeFrom f t) ≡ true
+escape-from-line : (f : Bool) (t : List ℕ) → all inLine (escapeFrom f t) ≡ true
 unfolding escapeFrom
-writing-line f [] = refl
-writing-line f (c ∷ t) = all-append inLine (shown f c) (escapeFrom false t) (shown-line f c) (writing-line false t)
+escape-from-line f [] = refl
+escape-from-line f (c ∷ t) = all-append inLine (shown f c) (escapeFrom false t) (shown-line f c) (escape-from-line false t)
 
 pub escape-line : (t : List ℕ) → all inLine (escape t) ≡ true
-escape-line t = writing-line true t
+escape-line t = escape-from-line true t
 
 pub escape-start : (t : List ℕ) → after isBlank (escape t) ≡ escape t
 unfolding escapeFrom
@@ -73,10 +73,10 @@ shown-length : (f : Bool) (c : ℕ) → length (shown f c) ≤ 2
 shown-length true = shown-cases (λ (c : ℕ) (l : List ℕ). length l ≤ 2) true (omega arith) (omega arith) (omega arith) (omega arith) (omega arith) (λ c hn hr hb hs ht. omega arith)
 shown-length false = shown-cases (λ (c : ℕ) (l : List ℕ). length l ≤ 2) false (omega arith) (omega arith) (omega arith) (omega arith) (omega arith) (λ c hn hr hb hs ht. omega arith)
 
-writing-length : (f : Bool) (t : List ℕ) → length (escapeFrom f t) ≤ 2 * length t
+escape-from-length : (f : Bool) (t : List ℕ) → length (escapeFrom f t) ≤ 2 * length t
 unfolding escapeFrom
-writing-length f [] = omega arith
-writing-length f (c ∷ t) = omega (arith, length-append (shown f c) (escapeFrom false t), shown-length f c, writing-length false t)
+escape-from-length f [] = omega arith
+escape-from-length f (c ∷ t) = omega (arith, length-append (shown f c) (escapeFrom false t), shown-length f c, escape-from-length false t)
 
 pub escape-length : (t : List ℕ) → length (escape t) ≤ 2 * length t
-escape-length t = writing-length true t
+escape-length t = escape-from-length true t

@@ -56,27 +56,27 @@ module _ (w t : List ℕ) (rest : (rs : List Range) → AllTrailing rs → utf8F
       blank′ true = pair 92 116 9 (omega arith) (omega arith) (omega arith)
       blank′ false = same 9
 
-utf8-writing : (f : Bool) (t : List ℕ) (rs : List Range) → AllTrailing rs → utf8From rs (escapeFrom f t) ≡ utf8From rs t
+escape-from-utf8 : (f : Bool) (t : List ℕ) (rs : List Range) → AllTrailing rs → utf8From rs (escapeFrom f t) ≡ utf8From rs t
 unfolding escapeFrom
-utf8-writing f [] rs a = refl
-utf8-writing f (c ∷ t) rs a = one (escapeFrom false t) t (λ rs a. utf8-writing false t rs a) rs a f c
+escape-from-utf8 f [] rs a = refl
+escape-from-utf8 f (c ∷ t) rs a = one (escapeFrom false t) t (λ rs a. escape-from-utf8 false t rs a) rs a f c
 
 pub escape-utf8 : (t : List ℕ) → utf8 (escape t) ≡ utf8 t
-escape-utf8 t = utf8-writing true t [] end
+escape-utf8 t = escape-from-utf8 true t [] end
 
 -- the bytes
 all-shown : (f : Bool) (r : List ℕ) (c : ℕ) → all (textByte true) (shown f c ++ r) ≡ (textByte false c && all (textByte true) r)
 all-shown true r = shown-cases (λ (c : ℕ) (l : List ℕ). all (textByte true) (l ++ r) ≡ (textByte false c && all (textByte true) r)) true refl refl refl refl refl (λ c hn hr hb hs ht. rw (ne-eqb c 13 hr))
 all-shown false r = shown-cases (λ (c : ℕ) (l : List ℕ). all (textByte true) (l ++ r) ≡ (textByte false c && all (textByte true) r)) false refl refl refl refl refl (λ c hn hr hb hs ht. rw (ne-eqb c 13 hr))
 
-all-writing : (f : Bool) (t : List ℕ) → all (textByte true) (escapeFrom f t) ≡ all (textByte false) t
+escape-from-bytes : (f : Bool) (t : List ℕ) → all (textByte true) (escapeFrom f t) ≡ all (textByte false) t
 unfolding escapeFrom
-all-writing f [] = refl
-all-writing f (c ∷ t) = all-shown f (escapeFrom false t) c ∙ ap (λ (k : Bool). textByte false c && k) (all-writing false t)
+escape-from-bytes f [] = refl
+escape-from-bytes f (c ∷ t) = all-shown f (escapeFrom false t) c ∙ ap (λ (k : Bool). textByte false c && k) (escape-from-bytes false t)
 
 pub escape-text : (t : List ℕ) → text true (escape t) ≡ text false t
 unfolding text
-escape-text t = ap₂ _&&_ (all-writing true t) (escape-utf8 t)
+escape-text t = ap₂ _&&_ (escape-from-bytes true t) (escape-utf8 t)
 
 -- ---- read
 

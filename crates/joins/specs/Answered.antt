@@ -7,7 +7,7 @@ use mathlib.Core.List.{List}
 use mathlib.Core.Option.{Option, none, some, Option·none-ne-some}
 use Rattle.text.specs.Words.{word, same}
 use Rattle.text.specs.Options.{isSome, andThen, mapped, orElse, only, orEmpty}
-use Rattle.text.specs.OptionLaws.{IfRead, sized-some}
+use Rattle.text.specs.OptionLaws.{IfSome, sized-some}
 use Rattle.text.specs.declared.Dialect.{Dialect}
 use Rattle.text.specs.declared.Dialect.the-variants as D
 use Rattle.utf8.specs.Utf8.{utf8From, text, valueText}
@@ -66,18 +66,18 @@ good-domain d v h e = record { high = string-size d 1 253 v e .1; text = string-
 
 -- ---- the parts of a record, of what is read
 
-secret-formed : (p k : Option (List ℕ)) → IfRead GoodPassphrase p → IfRead GoodKey k → GoodSecret (secretFrom p k)
+secret-formed : (p k : Option (List ℕ)) → IfSome GoodPassphrase p → IfSome GoodKey k → GoodSecret (secretFrom p k)
 secret-formed (some p) k g h = g
 secret-formed none (some k) g h = h
 secret-formed none none g h = tt
 
-static-formed : (a : Option (List ℕ)) (m : Option ℕ) (g : Option (List ℕ)) → IfRead (λ x. isAddress x ≡ true) a →
-    IfRead (λ n. (1 ≤ n) × (n ≤ 32)) m → IfRead (λ x. isAddress x ≡ true) g → GoodIpv4 (staticOrDhcp a m g)
+static-formed : (a : Option (List ℕ)) (m : Option ℕ) (g : Option (List ℕ)) → IfSome (λ x. isAddress x ≡ true) a →
+    IfSome (λ n. (1 ≤ n) × (n ≤ 32)) m → IfSome (λ x. isAddress x ≡ true) g → GoodIpv4 (staticOrDhcp a m g)
 static-formed none m g x y z = tt
 static-formed (some a) none g x y z = record { address = x; low = omega arith; high = omega arith; gateway = z }
 static-formed (some a) (some n) g x y z = record { address = x; low = y .0; high = y .1; gateway = z }
 
-servers-formed : (o : Option (List (List ℕ))) → IfRead GoodServers o → GoodServers (orEmpty o)
+servers-formed : (o : Option (List (List ℕ))) → IfSome GoodServers o → GoodServers (orEmpty o)
 servers-formed none h = record { high = omega arith; addresses = refl }
 servers-formed (some l) h = h
 
@@ -85,7 +85,7 @@ good-servers : (sep : Separator) (at : Option Entry) → GoodServers (orEmpty (r
 good-servers sep at =
     servers-formed (readAs (addresses sep) at) (read-holds GoodServers (addresses sep) at (λ e q x r. let h = addresses-good sep (e .value) r in record { high = h .1; addresses = h .2 }))
 
-domain-formed : (o : Option (List ℕ)) → IfRead GoodDomain o → GoodDomain (orEmpty o)
+domain-formed : (o : Option (List ℕ)) → IfSome GoodDomain o → GoodDomain (orEmpty o)
 unfolding text utf8From
 domain-formed none h = record { high = omega arith; text = refl }
 domain-formed (some d) h = h
@@ -112,7 +112,7 @@ module _ (name file : List ℕ) {n m : ℕ} (a : reading D.Iwd name file ≡ Acc
       domain-formed (readAs (string D.Iwd 1 253) (iwdEntry (sectionsOf D.Iwd file) (word "IPv4") (word "DomainName")))
       (read-holds GoodDomain (string D.Iwd 1 253) (iwdEntry (sectionsOf D.Iwd file) (word "IPv4") (word "DomainName")) (λ e q x r. good-domain D.Iwd (e .value) (group-value D.Iwd name file a (word "IPv4") (word "DomainName") refl refl q .text) r))
 
-address-formed : (at : Option Entry) → IfRead (λ x. isAddress x ≡ true) (readAs address at)
+address-formed : (at : Option Entry) → IfSome (λ x. isAddress x ≡ true) (readAs address at)
 address-formed at = read-holds (λ (x : List ℕ). isAddress x ≡ true) address at (λ e q x r. address-bytes (e .value) r)
 
 iwd-ipv4-formed : (at : List ℕ → Option Entry) →
@@ -224,7 +224,7 @@ ipv4-formed dhcp h = tt
 ipv4-formed off h = tt
 ipv4-formed (static a n g) h = record { address = h .address; low = h .low; high = h .high; gateway = h .gateway }
 
-or-dhcp-formed : (o : Option IPv4) → IfRead GoodIpv4 o → GoodIpv4 (ipv4OrDhcp o)
+or-dhcp-formed : (o : Option IPv4) → IfSome GoodIpv4 o → GoodIpv4 (ipv4OrDhcp o)
 or-dhcp-formed none h = tt
 or-dhcp-formed (some i) h = h
 

@@ -1,8 +1,8 @@
 -- Entries one by one: what the loop keeps, a turn, and its ends.
 use mathlib.Core.Path.{_≡_, refl, ap, sym, _∙_}
-use mathlib.Core.Bool.{Bool, true, false, not, false≢true}
+use mathlib.Core.Bool.{Bool, true, false, not}
 use mathlib.Core.List.{List, [], _∷_, _++_, append-assoc}
-use mathlib.Core.Option.{Option, none, some}
+use mathlib.Core.Option.{none, some}
 use Prim.Native.Nat.{ℕ, suc, _+_, _-_, _≤_, _<_}
 use native.Mathlib.Omega.{arith}
 use borrow.Author.Tests.{eqb-true, eqb-false, not-true, not-false}
@@ -14,7 +14,7 @@ use Rattle.text.specs.Parts.{all, part, pieces, padded}
 use Rattle.text.specs.Options.{isSome, prepend, only, sized, each}
 use Rattle.text.specs.Laws.{inside, over, padded-set, pieces-some}
 use Rattle.text.specs.Relations.{Sized}
-use Rattle.text.specs.OptionLaws.{some-is, only-some, sized-is, is-sized, unsized}
+use Rattle.text.specs.OptionLaws.{some-is, none-is, only-some, sized-is, is-sized, unsized}
 use Rattle.text.specs.Scans.{Stop, stop-low, pieces-end, pieces-at}
 use Rattle.put.proofs.Gathering.{ahead, ahead-none, each-read-append, sized-each}
 use Rattle.kinds.specs.Kinds.{entry, entries}
@@ -77,11 +77,7 @@ entry-is p {x} e k =
     a .1 ∙ sym (only-some (all isEntryByte p) (some p) (s .1) .1)
 
 entry-none : (p : List ℕ) {x : Bool} → x ≡ isSome (entry p) → not x ≡ true → entry p ≡ none
-entry-none p {x} e k = go (entry p) (sym e ∙ not-true x k)
-  where
-    go : (o : Option (List ℕ)) → isSome o ≡ false → o ≡ none
-    go none h = refl
-    go (some a) h = absurd (false≢true (sym h))
+entry-none p {x} e k = none-is (entry p) (sym e ∙ not-true x k)
 
 ahead-some : (l m : List (List ℕ)) → ahead l (some m) ≡ some (l ++ m)
 ahead-some [] m = refl

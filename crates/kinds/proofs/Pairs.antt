@@ -1,6 +1,6 @@
 -- Values in hex: what is known of their length, and the pairs of a MAC one by one.
 use mathlib.Core.Path.{_≡_, refl, sym, _∙_}
-use mathlib.Core.Bool.{Bool, true, false, and-false, false≢true}
+use mathlib.Core.Bool.{Bool, true, false, and-false}
 use mathlib.Core.List.{List, [], _∷_, _++_, append-nil}
 use mathlib.Core.Option.{Option, none, some}
 use Prim.Native.Nat.{ℕ, suc, _+_, _-_, _*_, _/_, _≤_, _<_}
@@ -13,7 +13,7 @@ use lib.Seq.{drop-cons, take-suc-set, take-all}
 use Rattle.text.specs.Parts.{padded}
 use Rattle.text.specs.Options.{isSome, andThen, only, sized, prepend, orEmpty, ReadsUpTo}
 use Rattle.text.specs.Relations.{Sized}
-use Rattle.text.specs.OptionLaws.{some-is, is-sized, unsized, sized-then}
+use Rattle.text.specs.OptionLaws.{some-is, none-is, is-sized, unsized, sized-then}
 use Rattle.put.proofs.Filling.{glue, glue-prepend}
 use Rattle.hex.specs.Hex.{nibble, pairByte, unhex}
 use Rattle.hex.specs.Laws.{unhex-length}
@@ -41,10 +41,6 @@ size-other low high s h = rw (unsized low high s h)
 
 size-right : (low high : ℕ) (s : List ℕ) {x : Bool} → Sized low high s → x ≡ isSome (unhex s) → x ≡ isSome (andThen (sized low high (some s)) unhex)
 size-right low high s h e = rw (is-sized low high (some s) h refl) e
-
-absent : {A : Type 0} (o : Option A) → isSome o ≡ false → o ≡ none
-absent none e = refl
-absent (some a) e = absurd (false≢true (sym e))
 
 module _ (s : List ℕ) where
   pub key-other : (length s ≡ 64 → ⊥) → false ≡ isSome (preSharedKey s)
@@ -80,7 +76,7 @@ module _ (s : List ℕ) {x : Bool} where
       rw (w, g .is, g .digits, z, append-nil (g .text))
 
   pub key-bad : x ≡ isSome (preSharedKey s) → x ≡ false → record { ok = false; bytes = replicate 32 0 } ≡ preSharedKeyAnswer (preSharedKey s)
-  key-bad p q = rw (absent (preSharedKey s) (sym p ∙ q))
+  key-bad p q = rw (none-is (preSharedKey s) (sym p ∙ q))
 
   pub ssid-fits : x ≡ isSome (ssid s) → x ≡ true → ReadsUpTo 32 (unhex s)
   unfolding ssid
@@ -94,7 +90,7 @@ module _ (s : List ℕ) {x : Bool} where
       rw (w, g .is, g .digits, n)
 
   pub ssid-bad : x ≡ isSome (ssid s) → x ≡ false → record { ok = false; length = 0; bytes = replicate 32 0 } ≡ ssidAnswer (ssid s)
-  ssid-bad p q = rw (absent (ssid s) (sym p ∙ q))
+  ssid-bad p q = rw (none-is (ssid s) (sym p ∙ q))
 
 -- ---- a MAC: n pairs stand in x, and the rest of s starts at i
 

@@ -9,7 +9,7 @@ use mathlib.Core.Option.{Option, some}
 use lib.ListN.{length}
 use Rattle.text.specs.Bytes.{isByte}
 use Rattle.text.specs.Parts.{all}
-use Rattle.text.specs.OptionLaws.{IfRead, sized-is, sized-then}
+use Rattle.text.specs.OptionLaws.{IfSome, sized-is, sized-then}
 use Rattle.text.specs.declared.Dialect.{Dialect}
 use Rattle.escapes.specs.Strings.{stringOf}
 use Rattle.hex.specs.Hex.{unhex}
@@ -50,7 +50,7 @@ pub record StaticGood (a : List ℕ) (n : ℕ) (g : Option (List ℕ)) : Type 0 
   pub address : isAddress a ≡ true
   pub low : 1 ≤ n
   pub high : n ≤ 32
-  pub gateway : IfRead (λ x. isAddress x ≡ true) g
+  pub gateway : IfSome (λ x. isAddress x ≡ true) g
 
 abbrev pub Ipv4Good : IPv4 → Type 0
 Ipv4Good dhcp = Unit

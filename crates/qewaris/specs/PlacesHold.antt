@@ -14,7 +14,7 @@ use Rattle.text.specs.Parts.{all, onto, part, pieces, padded}
 use Rattle.text.specs.Words.{word}
 use Rattle.text.specs.Laws.{between-high}
 use Rattle.text.specs.Options.{only, each, andThen, prepend, orEmpty}
-use Rattle.text.specs.OptionLaws.{IfRead, sized-some, then-some, only-some}
+use Rattle.text.specs.OptionLaws.{IfSome, sized-some, then-some, only-some}
 use Rattle.text.specs.declared.Dialect.{Dialect}
 use Rattle.text.specs.declared.Dialect.the-variants.{Iwd, ConnMan}
 use Rattle.kinds.specs.Kinds.{entry, entries}
@@ -40,7 +40,7 @@ use Rattle.qewaris.specs.ExportsHold.{number-some}
 
 -- ---- strings
 
-string-stands : (file : List ℕ) (a : Answer) (o : Option Entry) → IfRead (EntryStands file) o →
+string-stands : (file : List ℕ) (a : Answer) (o : Option Entry) → IfSome (EntryStands file) o →
     Stands file (lookupOf a o) (textAt (placeOf (lookupOf a o)))
 string-stands file Good none h = record { within = omega arith; value = refl }
 string-stands file Good (some e) h =
@@ -159,7 +159,7 @@ each-entry (p ∷ ps) {es} e =
     go a q (some t) k f z =
         ap₂ (λ (x : List ℕ) (y : List (List ℕ)). x ∷ y) q (f t k) ∙ Option·some-injective (a ∷ t) es z
 
-list-stands : (file : List ℕ) (o : Option Entry) → IfRead (EntryStands file) o →
+list-stands : (file : List ℕ) (o : Option Entry) → IfSome (EntryStands file) o →
     ListStands file (orEmpty (readAs entries o)) (entriesAt (entriesAnswer (startIn o) (readAs entries o)))
 unfolding entries
 list-stands file none h = record { count = refl; each = λ i k. absurd (omega (arith, k)) }

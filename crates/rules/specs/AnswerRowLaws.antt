@@ -11,7 +11,7 @@ use Rattle.text.specs.Bytes.{between, isBlank, isHeaderByte, isKeyByte}
 use Rattle.text.specs.Parts.{front, after, empty, trimmed, lines}
 use Rattle.text.specs.Laws.{and-true, inside}
 use Rattle.text.specs.Options.{mapped, only, orElse}
-use Rattle.text.specs.OptionLaws.{IfRead, if-read}
+use Rattle.text.specs.OptionLaws.{IfSome, if-some}
 use Rattle.text.specs.Relations.{Each}
 use Rattle.text.specs.declared.Dialect.{Dialect}
 use Rattle.text.specs.declared.Dialect.the-variants.{Iwd, ConnMan}
@@ -94,37 +94,37 @@ module _ (k l : ℕ) (here : between 1 k l ≡ true) where
 
   -- only ConnMan has services to count, and only iwd has extensions
   header-listed : (d : Dialect) (n : List ℕ) (o : Option Group) (gs : List Section) → groupOf d n ≡ o →
-      IfRead (Own d) (headerFault n o gs)
+      IfSome (Own d) (headerFault n o gs)
   header-listed d n none gs q = either d N.UnknownGroup refl
   header-listed d n (some g) gs q = go d q (nameGiven n gs)
     where
       many : (d : Dialect) → groupOf d n ≡ some g → (a b : Bool) → serves g ≡ a →
-          IfRead (Own d) (cond (a && b) (some ManyServices) none)
+          IfSome (Own d) (cond (a && b) (some ManyServices) none)
       many d q false b p = tt
       many d q true false p = tt
       many Iwd q true true p = absurd (true≢false (sym p ∙ iwd-plain n g q))
       many ConnMan q true true p = line-listed k (ownRows ConnMan) 13 l here refl
 
       go : (d : Dialect) → groupOf d n ≡ some g → (a : Bool) →
-          IfRead (Own d) (cond a (some RepeatedGroup) (cond (serves g && leb 8 (services gs)) (some ManyServices) none))
+          IfSome (Own d) (cond a (some RepeatedGroup) (cond (serves g && leb 8 (services gs)) (some ManyServices) none))
       go d q true = either d RepeatedGroup refl
       go d q false = many d q (serves g) (leb 8 (services gs)) refl
 
-  value-listed : (d : Dialect) (j : Judged) → IfRead (Own d) (valueFault j)
+  value-listed : (d : Dialect) (j : Judged) → IfSome (Own d) (valueFault j)
   value-listed d (good t) = tt
   value-listed d brokenText = either d N.ValueText refl
   value-listed d brokenKind = either d N.ValueKind refl
 
   key-listed : (d : Dialect) (key v : List ℕ) (o : Option Kind) (es : List Entry) →
-      IfRead (Own d) (keyFault d key v o es)
+      IfSome (Own d) (keyFault d key v o es)
   key-listed d key v none es = either d N.UnknownKey refl
   key-listed d key v (some x) es = go (given key es)
     where
-      go : (b : Bool) → IfRead (Own d) (cond b (some RepeatedKey) (valueFault (judged d x v)))
+      go : (b : Bool) → IfSome (Own d) (cond b (some RepeatedKey) (valueFault (judged d x v)))
       go true = either d RepeatedKey refl
       go false = value-listed d (judged d x v)
 
-  setting-listed : (d : Dialect) (key v : List ℕ) (gs : List Section) → IfRead (Own d) (settingFault d key v gs)
+  setting-listed : (d : Dialect) (key v : List ℕ) (gs : List Section) → IfSome (Own d) (settingFault d key v gs)
   setting-listed d key v [] = either d N.NoGroup refl
   setting-listed d key v (g ∷ gs) = key-listed d key v (kindOf (g .group) key) (g .entries)
 
@@ -133,7 +133,7 @@ module _ (k l : ℕ) (here : between 1 k l ≡ true) where
   extension-listed ConnMan t e = absurd (no-extension t e)
 
   fault-listed : (d : Dialect) (gs : List Section) (t : List ℕ) (x : Line) → lineOf d t ≡ x →
-      IfRead (Own d) (fault d gs x)
+      IfSome (Own d) (fault d gs x)
   unfolding fault
   fault-listed d gs t blank e = tt
   fault-listed d gs t comment e = tt
@@ -148,13 +148,13 @@ module _ (k l : ℕ) (here : between 1 k l ≡ true) where
 -- a fault of a group, which has the line l
 module _ (k l : ℕ) where
   iwd-rule : (a b : Bool) →
-      IfRead (λ f. listed k (ownRows Iwd) (numberOf (f .refusal)) (f .line) ≡ true) (faultAt 0 (lackOrClash a b))
+      IfSome (λ f. listed k (ownRows Iwd) (numberOf (f .refusal)) (f .line) ≡ true) (faultAt 0 (lackOrClash a b))
   iwd-rule true b = refl
   iwd-rule false true = refl
   iwd-rule false false = tt
 
   service-rule : between 1 k l ≡ true → (a b : Bool) →
-      IfRead (λ f. listed k (ownRows ConnMan) (numberOf (f .refusal)) (f .line) ≡ true) (faultAt l (lackOrClash a b))
+      IfSome (λ f. listed k (ownRows ConnMan) (numberOf (f .refusal)) (f .line) ≡ true) (faultAt l (lackOrClash a b))
   service-rule h true b = line-listed k (ownRows ConnMan) 14 l h refl
   service-rule h false true = line-listed k (ownRows ConnMan) 15 l h refl
   service-rule h false false = tt
@@ -163,42 +163,42 @@ module _ (file : List ℕ) where
   abbrev OwnFault : Dialect → Fault → Type 0
   OwnFault d f = listed (length (lines file)) (ownRows d) (numberOf (f .refusal)) (f .line) ≡ true
 
-  file-listed : (s : Suffix) (gs : List Section) → IfRead (OwnFault Iwd) (fileFault s gs)
+  file-listed : (s : Suffix) (gs : List Section) → IfSome (OwnFault Iwd) (fileFault s gs)
   unfolding fileFault
   file-listed s gs = iwd-rule (length (lines file)) 0 (fileLacks s gs) (fileClashes s gs)
 
-  section-listed : (g : Section) → SectionStands file g → IfRead (OwnFault ConnMan) (sectionFault g)
+  section-listed : (g : Section) → SectionStands file g → IfSome (OwnFault ConnMan) (sectionFault g)
   unfolding serviceFault
   section-listed g h = go (serves (g .group))
     where
       go : (b : Bool) →
-          IfRead (OwnFault ConnMan) (cond b (faultAt (g .line) (lackOrClash (lacks (g .entries)) (clashes (g .entries)))) none)
+          IfSome (OwnFault ConnMan) (cond b (faultAt (g .line) (lackOrClash (lacks (g .entries)) (clashes (g .entries)))) none)
       go true = service-rule (length (lines file)) (g .line) (h .line) (lacks (g .entries)) (clashes (g .entries))
       go false = tt
 
-  services-listed : (gs : List Section) → Each (SectionStands file) gs → IfRead (OwnFault ConnMan) (servicesFault gs)
+  services-listed : (gs : List Section) → Each (SectionStands file) gs → IfSome (OwnFault ConnMan) (servicesFault gs)
   services-listed [] h = tt
   services-listed (g ∷ gs) h =
       go (sectionFault g) (section-listed g (h .0)) (servicesFault gs) (services-listed gs (h .1))
     where
-      go : (a : Option Fault) → IfRead (OwnFault ConnMan) a → (b : Option Fault) → IfRead (OwnFault ConnMan) b →
-          IfRead (OwnFault ConnMan) (orElse a b)
+      go : (a : Option Fault) → IfSome (OwnFault ConnMan) a → (b : Option Fault) → IfSome (OwnFault ConnMan) b →
+          IfSome (OwnFault ConnMan) (orElse a b)
       go none p b q = q
       go (some f) p b q = p
 
   groups-listed : (d : Dialect) (name : List ℕ) {n : Name} → nameIn d name ≡ some n →
-      IfRead (OwnFault d) (groupsFault n (sectionsOf d file))
+      IfSome (OwnFault d) (groupsFault n (sectionsOf d file))
   groups-listed Iwd name {n} e = go (networkOf name) e
     where
       go : (o : Option Network) → mapped (λ x. iwdName (x .suffix)) o ≡ some n →
-          IfRead (OwnFault Iwd) (groupsFault n (sectionsOf Iwd file))
+          IfSome (OwnFault Iwd) (groupsFault n (sectionsOf Iwd file))
       go none q = absurd (Option·none-ne-some n q)
       go (some x) q =
           rw (← Option·some-injective (iwdName (x .suffix)) n q) (file-listed (x .suffix) (sectionsOf Iwd file))
   groups-listed ConnMan name {n} e = go (connmanName name) e
     where
       go : (b : Bool) → only b (some connmanFile) ≡ some n →
-          IfRead (OwnFault ConnMan) (groupsFault n (sectionsOf ConnMan file))
+          IfSome (OwnFault ConnMan) (groupsFault n (sectionsOf ConnMan file))
       go true q =
           rw (← Option·some-injective connmanFile n q) (services-listed (sectionsOf ConnMan file) (sections-stand ConnMan file))
       go false q = absurd (Option·none-ne-some n q)
@@ -219,8 +219,8 @@ offends-listed ConnMan name file (too-long h) = refl
 offends-listed Iwd name file (misnamed h n) = refl
 offends-listed ConnMan name file (misnamed h n) = refl
 offends-listed d name file (in-line h n {f} w) =
-    if-read (λ r. listed (length (lines file)) (ownRows d) (numberOf r) (f .line) ≡ true) (fault-listed (length (lines file)) (f .line) (faulty-line d file w) d (grown d 1 0 [] (w .before)) (w .line) (lineOf d (w .line)) refl) (w .faulty)
-offends-listed d name file (in-group h n o e) = if-read (OwnFault file d) (groups-listed file d name n) e
+    if-some (λ r. listed (length (lines file)) (ownRows d) (numberOf r) (f .line) ≡ true) (fault-listed (length (lines file)) (f .line) (faulty-line d file w) d (grown d 1 0 [] (w .before)) (w .line) (lineOf d (w .line)) refl) (w .faulty)
+offends-listed d name file (in-group h n o e) = if-some (OwnFault file d) (groups-listed file d name n) e
 
 pub reading-listed : (d : Dialect) (name file : List ℕ) {r : Refusal} {l : ℕ} → reading d name file ≡ R.Refused r l →
     listed (length (lines file)) (ownRows d) (numberOf r) l ≡ true

@@ -6,7 +6,7 @@ use mathlib.Core.Bool.{Bool, true, false, cond, _||_, true≢false}
 use mathlib.Core.List.{List, [], _∷_}
 use mathlib.Core.Option.{Option, none, some, Option·none-ne-some, Option·some-injective}
 use Rattle.text.specs.Options.{isSome, mapped, only}
-use Rattle.text.specs.OptionLaws.{IfRead}
+use Rattle.text.specs.OptionLaws.{IfSome}
 use Rattle.text.specs.Words.{word, same}
 use Rattle.text.specs.declared.Dialect.{Dialect}
 use Rattle.text.specs.declared.Dialect.the-variants.{Iwd, ConnMan}
@@ -106,11 +106,11 @@ named-group Service s = absurd (true≢false s)
 
 -- what is read from a setting has a property that its kind gives to all it reads
 pub read-holds : {A : Type 0} (P : A → Type 0) (f : List ℕ → Option A) (o : Option Entry) →
-    ((e : Entry) → o ≡ some e → (a : A) → f (e .value) ≡ some a → P a) → IfRead P (readAs f o)
+    ((e : Entry) → o ≡ some e → (a : A) → f (e .value) ≡ some a → P a) → IfSome P (readAs f o)
 read-holds P f none h = tt
 read-holds {A} P f (some e) h = go (f (e .value)) refl
   where
-    go : (o : Option A) → f (e .value) ≡ o → IfRead P o
+    go : (o : Option A) → f (e .value) ≡ o → IfSome P o
     go none q = tt
     go (some a) q = h e refl a q
 

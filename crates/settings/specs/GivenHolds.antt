@@ -8,7 +8,7 @@ use mathlib.Core.Option.{Option, none, some}
 use lib.ListN.{length}
 use Rattle.text.specs.Laws.{between-low}
 use Rattle.text.specs.Options.{isSome, orEmpty, each}
-use Rattle.text.specs.OptionLaws.{IfRead, sized-some}
+use Rattle.text.specs.OptionLaws.{IfSome, sized-some}
 use Rattle.text.specs.Parts.{pieces}
 use Rattle.text.specs.Words.{word}
 use Rattle.text.specs.declared.Dialect.the-variants.{Iwd, ConnMan}
@@ -76,15 +76,15 @@ positive : (n : ℕ) → 1 ≤ n → nonzero n ≡ true
 positive zero h = absurd (omega (arith, h))
 positive (suc n) h = refl
 
-length-given : (o : Option ℕ) → IfRead (λ n. 1 ≤ n) o → nonzero (lengthOr0 o) ≡ isSome o
+length-given : (o : Option ℕ) → IfSome (λ n. 1 ≤ n) o → nonzero (lengthOr0 o) ≡ isSome o
 length-given none h = refl
 length-given (some n) h = positive n h
 
-count-given : {A : Type 0} (o : Option (List A)) → IfRead (λ l. 1 ≤ length l) o → nonzero (length (orEmpty o)) ≡ isSome o
+count-given : {A : Type 0} (o : Option (List A)) → IfSome (λ l. 1 ≤ length l) o → nonzero (length (orEmpty o)) ≡ isSome o
 count-given none h = refl
 count-given (some l) h = positive (length l) h
 
-line-given : (o : Option Entry) → IfRead (λ e. 1 ≤ e .line) o → nonzero (lineIn o) ≡ isSome o
+line-given : (o : Option Entry) → IfSome (λ e. 1 ≤ e .line) o → nonzero (lineIn o) ≡ isSome o
 line-given none h = refl
 line-given (some e) h = positive (e .line) h
 

@@ -28,12 +28,9 @@ isDigit x = between 48 57 x
 abbrev pub isAlphanumeric : ℕ → Bool
 isAlphanumeric x = isLetter x || isDigit x
 
--- "lower-case hex"; "Hex digits may be either case."
+-- "lower-case hex"
 abbrev pub isLowerHex : ℕ → Bool
 isLowerHex x = isDigit x || between 97 102 x
-
-abbrev pub isHexDigit : ℕ → Bool
-isHexDigit x = isLowerHex x || between 65 70 x
 
 -- "A line ends at byte 10": a byte within a line is any other.
 abbrev pub inLine : ℕ → Bool

@@ -1,6 +1,6 @@
 -- What a reading that succeeds says of its parts.
 use mathlib.Core.Path.{_≡_, refl, sym, subst}
-use mathlib.Core.Bool.{Bool, true, false, cond, false≢true}
+use mathlib.Core.Bool.{Bool, true, false, cond, true≢false, false≢true}
 use mathlib.Core.List.{List, [], _∷_}
 use mathlib.Core.Option.{Option, none, some, Option·some-injective, Option·none-ne-some}
 use Prim.Native.Nat.{ℕ}
@@ -14,6 +14,10 @@ module _ {A : Type 0} where
   pub some-is : (o : Option A) → isSome o ≡ true → (a : A) × (o ≡ some a)
   some-is none h = absurd (false≢true h)
   some-is (some a) h = (a, refl)
+
+  pub none-is : (o : Option A) → isSome o ≡ false → o ≡ none
+  none-is none h = refl
+  none-is (some a) h = absurd (true≢false h)
 
   pub only-some : (b : Bool) (o : Option A) {a : A} → only b o ≡ some a → (b ≡ true) × (o ≡ some a)
   only-some true o e = (refl, e)
@@ -86,11 +90,11 @@ module _ {A : Type 0} (f : List ℕ → Option A) (R : List ℕ → A → Type 0
   pairwise-each g (p ∷ ps) [] h = absurd h
   pairwise-each g (p ∷ ps) (x ∷ xs) h = rw (g p x (h .0), pairwise-each g ps xs (h .1))
 
--- what is read, if it is, has the property
-abbrev pub IfRead : {A : Type 0} → (A → Type 0) → Option A → Type 0
-IfRead P none = Unit
-IfRead P (some a) = P a
+-- what there is, if it is, has the property
+abbrev pub IfSome : {A : Type 0} → (A → Type 0) → Option A → Type 0
+IfSome P none = Unit
+IfSome P (some a) = P a
 
 module _ {A : Type 0} (P : A → Type 0) where
-  pub if-read : {o : Option A} {a : A} → IfRead P o → o ≡ some a → P a
-  if-read h e = subst (IfRead P) e h
+  pub if-some : {o : Option A} {a : A} → IfSome P o → o ≡ some a → P a
+  if-some h e = subst (IfSome P) e h
