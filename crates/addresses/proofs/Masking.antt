@@ -17,7 +17,7 @@ use Rattle.addresses.specs.declared.Netmask.{Netmask}
 use Rattle.addresses.specs.declared.Number.{Number}
 use Rattle.addresses.specs.declared.Address.{Address}
 use Rattle.addresses.specs.Addresses.{number, address, positive, prefixLength, asNumber, mask, lengthUpTo, maskLength, netmask, numberAnswer, addressAnswer, netmaskAnswer}
-use Rattle.addresses.proofs.Reading.{address-none, address-some}
+use Rattle.addresses.proofs.Reading.{address-refused, address-read}
 use Rattle.text.specs.Options.{andThen}
 
 abbrev pub leadingOnes : ℕ → ℕ
@@ -115,11 +115,11 @@ module _ (s : List ℕ) {r : Number} (v : r ≡ numberAnswer (number 32 s)) wher
 module _ (s : List ℕ) {r : Address} (v : r ≡ addressAnswer (address s)) where
   pub netmask-none : not (r .ok) ≡ true → Broken ≡ netmaskAnswer (netmask s)
   unfolding netmask
-  netmask-none b = rw (address-none (address s) v b)
+  netmask-none b = rw (address-refused (address s) v b)
 
   pub netmask-some : not (r .ok) ≡ false → {m : ℕ} → m ≡ asNumber (r .bytes) → {x : Netmask} → x ≡ netmaskAnswer (maskLength m) → x ≡ netmaskAnswer (netmask s)
   unfolding netmask
-  netmask-some b e q = q ∙ rw (address-some (address s) v b, e)
+  netmask-some b e q = q ∙ rw (address-read (address s) v b, e)
 
 -- ---- the shift of `mask_bytes`: a test computed at each length
 

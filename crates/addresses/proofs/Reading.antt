@@ -15,8 +15,8 @@ use Rattle.text.specs.Parts.{part, pieces}
 use Rattle.text.specs.Options.{only}
 use Rattle.text.specs.Laws.{inside, under, over, pieces-some}
 use Rattle.text.specs.Scans.{Stop, pieces-at, pieces-end}
-use Rattle.addresses.specs.Addresses.{value, upTo, number, octet, address, numberAnswer, addressAnswer}
-use Rattle.put.specs.Gathering.{Gathered, gathered-first, gathered-turn, gathered-broken, gathered-end, gathered-full}
+use Rattle.addresses.specs.Addresses.{decimalValue, upTo, number, octet, address, numberAnswer, addressAnswer}
+use Rattle.put.proofs.Gathering.{Gathered, gathered-first, gathered-turn, gathered-broken, gathered-end, gathered-full}
 use Rattle.addresses.specs.declared.Number.{Number}
 use Rattle.addresses.specs.declared.Address.{Address}
 
@@ -26,18 +26,18 @@ abbrev no-number : Number
 no-number = numberAnswer none
 
 module _ (m : ℕ) where
-  number-view : (s : List ℕ) → 0 < length s → number m s ≡ cond (eqb (getD s 0 0) 48) (only (eqb (length s) 1) (some 0)) (upTo m (value 0 s))
+  number-view : (s : List ℕ) → 0 < length s → number m s ≡ cond (eqb (getD s 0 0) 48) (only (eqb (length s) 1) (some 0)) (upTo m (decimalValue 0 s))
   unfolding number
   number-view [] h = absurd (omega arith)
   number-view (c ∷ []) h = refl
   number-view (c ∷ d ∷ s) h = rw (ne-eqb (length (c ∷ d ∷ s)) 1 (λ (e : length (c ∷ d ∷ s) ≡ 1). omega arith))
 
-  value-big : (s : List ℕ) (v : ℕ) → m < v → upTo m (value v s) ≡ none
-  unfolding value
+  value-big : (s : List ℕ) (v : ℕ) → m < v → upTo m (decimalValue v s) ≡ none
+  unfolding decimalValue
   value-big [] v h = rw (lt-leb v m h)
   value-big (c ∷ s) v h = go (isDigit c) (value-big s (v * 10 + (c - 48)) (omega arith))
     where
-      go : (t : Bool) → upTo m (value (v * 10 + (c - 48)) s) ≡ none → upTo m (cond t (value (v * 10 + (c - 48)) s) none) ≡ none
+      go : (t : Bool) → upTo m (decimalValue (v * 10 + (c - 48)) s) ≡ none → upTo m (cond t (decimalValue (v * 10 + (c - 48)) s) none) ≡ none
       go true e = e
       go false e = refl
 
@@ -57,28 +57,28 @@ module _ (m : ℕ) where
 pub record Valuing (m : ℕ) (s : List ℕ) (i v : ℕ) : Type 0 where
   pub within : i ≤ length s
   pub small : v ≤ m
-  pub rest : upTo m (value v (drop i s)) ≡ number m s
+  pub rest : upTo m (decimalValue v (drop i s)) ≡ number m s
 
 pub valuing-first : (m : ℕ) (s : List ℕ) → (length s ≡ 0 → ⊥) → (getD s 0 0 ≡ 48 → ⊥) → Valuing m s 0 0
 valuing-first m s h e = record { within = omega arith; small = omega arith; rest = sym (number-view m s (omega (arith, h)) ∙ rw (ne-eqb (getD s 0 0) 48 e)) }
 
 module _ {m : ℕ} {s : List ℕ} {i v : ℕ} (h : Valuing m s i v) where
   pub valuing-end : length s ≤ i → record { ok = true; value = v } ≡ numberAnswer (number m s)
-  unfolding value
+  unfolding decimalValue
   valuing-end l = ap numberAnswer (rw (drop-of-length-le s l, le-leb v m (h .small)) at (h .rest))
 
   module _ (l : i < length s) where
     pub valuing-low : getD s i 0 < 48 → no-number ≡ numberAnswer (number m s)
-    unfolding value
+    unfolding decimalValue
     valuing-low k = ap numberAnswer (rw (drop-cons s i 0 l, under 48 57 k) at (h .rest))
 
     pub valuing-high : 57 < getD s i 0 → no-number ≡ numberAnswer (number m s)
-    unfolding value
+    unfolding decimalValue
     valuing-high k = ap numberAnswer (rw (drop-cons s i 0 l, over 48 57 k) at (h .rest))
 
     module _ (k : 48 ≤ getD s i 0) (j : getD s i 0 ≤ 57) where
-      on : upTo m (value (v * 10 + (getD s i 0 - 48)) (drop (suc i) s)) ≡ number m s
-      unfolding value
+      on : upTo m (decimalValue (v * 10 + (getD s i 0 - 48)) (drop (suc i) s)) ≡ number m s
+      unfolding decimalValue
       on = rw (drop-cons s i 0 l, inside 48 57 k j) at (h .rest)
 
       pub valuing-big : m < v * 10 + (getD s i 0 - 48) → no-number ≡ numberAnswer (number m s)
@@ -98,17 +98,17 @@ module _ {A B : Type 0} (answer : Option A → B) (ok : B → Bool) (got : B →
   answer-some none e k = absurd (false≢true (sym (ap ok e ∙ refuses) ∙ not-false _ k))
   answer-some (some a) e k = ap some (sym (ap got e ∙ gives a .1))
 
-pub number-none : (o : Option ℕ) {r : Number} → r ≡ numberAnswer o → not (r .ok) ≡ true → o ≡ none
-number-none = answer-none numberAnswer (λ x. x .ok) (λ x. x .value) refl (λ a. (refl, refl))
+pub number-refused : (o : Option ℕ) {r : Number} → r ≡ numberAnswer o → not (r .ok) ≡ true → o ≡ none
+number-refused = answer-none numberAnswer (λ x. x .ok) (λ x. x .value) refl (λ a. (refl, refl))
 
-pub number-some : (o : Option ℕ) {r : Number} → r ≡ numberAnswer o → not (r .ok) ≡ false → o ≡ some (r .value)
-number-some = answer-some numberAnswer (λ x. x .ok) (λ x. x .value) refl (λ a. (refl, refl))
+pub number-read : (o : Option ℕ) {r : Number} → r ≡ numberAnswer o → not (r .ok) ≡ false → o ≡ some (r .value)
+number-read = answer-some numberAnswer (λ x. x .ok) (λ x. x .value) refl (λ a. (refl, refl))
 
-pub address-none : (o : Option (List ℕ)) {r : Address} → r ≡ addressAnswer o → not (r .ok) ≡ true → o ≡ none
-address-none = answer-none addressAnswer (λ x. x .ok) (λ x. x .bytes) refl (λ a. (refl, refl))
+pub address-refused : (o : Option (List ℕ)) {r : Address} → r ≡ addressAnswer o → not (r .ok) ≡ true → o ≡ none
+address-refused = answer-none addressAnswer (λ x. x .ok) (λ x. x .bytes) refl (λ a. (refl, refl))
 
-pub address-some : (o : Option (List ℕ)) {r : Address} → r ≡ addressAnswer o → not (r .ok) ≡ false → o ≡ some (r .bytes)
-address-some = answer-some addressAnswer (λ x. x .ok) (λ x. x .bytes) refl (λ a. (refl, refl))
+pub address-read : (o : Option (List ℕ)) {r : Address} → r ≡ addressAnswer o → not (r .ok) ≡ false → o ≡ some (r .bytes)
+address-read = answer-some addressAnswer (λ x. x .ok) (λ x. x .bytes) refl (λ a. (refl, refl))
 
 -- ---- an address
 
@@ -133,7 +133,7 @@ module _ {s x : List ℕ} {at n : ℕ} (h : Octets s x at n) {e : ℕ} (t : Stop
   octets-broken b = go (eqb e (length s)) refl
     where
       broken : {qs : List (List ℕ)} → pieces 46 (drop at s) ≡ part at e s ∷ qs → no-address ≡ addressAnswer (address s)
-      broken q = ap addressAnswer (sym (gathered-broken (h .gathered) 4 q (number-none _ v b)))
+      broken q = ap addressAnswer (sym (gathered-broken (h .gathered) 4 q (number-refused _ v b)))
 
       go : (w : Bool) → eqb e (length s) ≡ w → no-address ≡ addressAnswer (address s)
       go true w = broken (pieces-end 46 t (eqb-true _ _ w))
@@ -141,10 +141,10 @@ module _ {s x : List ℕ} {at n : ℕ} (h : Octets s x at n) {e : ℕ} (t : Stop
 
   module _ (b : not (r .ok) ≡ false) (l : n < 4) where
     pub octets-turn : (e ≡ length s → ⊥) → Octets s (set x n (r .value)) (e + 1) (n + 1)
-    octets-turn k = record { within = omega (arith, t .within, k); gathered = gathered-turn (h .gathered) (pieces-at 46 t k) (number-some _ v b) l }
+    octets-turn k = record { within = omega (arith, t .within, k); gathered = gathered-turn (h .gathered) (pieces-at 46 t k) (number-read _ v b) l }
 
     last : e ≡ length s → Gathered octet 0 (pieces 46 s) [] (set x n (r .value)) (n + 1)
-    last k = gathered-turn (h .gathered) (pieces-end 46 t k) (number-some _ v b) l
+    last k = gathered-turn (h .gathered) (pieces-end 46 t k) (number-read _ v b) l
 
     pub octets-whole : e ≡ length s → n + 1 ≡ 4 → record { ok = true; bytes = set x n (r .value) } ≡ addressAnswer (address s)
     unfolding address

@@ -14,28 +14,28 @@ use Rattle.text.specs.Relations.{Each, Pairwise}
 use Rattle.text.specs.Options.{only, each}
 use Rattle.text.specs.OptionLaws.{then-some, only-some, sized-is, is-sized, each-pairwise, pairwise-each}
 use Rattle.text.specs.Laws.{all-cons}
-use Rattle.addresses.specs.Addresses.{value, upTo, number, octet, address, positive, prefixLength, fields, addresses}
+use Rattle.addresses.specs.Addresses.{decimalValue, upTo, number, octet, address, positive, prefixLength, fields, addresses}
 use Rattle.addresses.specs.AddressRules.{decimalFrom, NumberIs, AddressIs, LengthIs, AddressesIs}
 use Rattle.addresses.specs.SplitLaws.{fields-split, split-fields}
 use Rattle.addresses.specs.declared.Separator.{Separator}
 
 -- ---- numbers
 
-value-is : (v : ℕ) (s : List ℕ) {n : ℕ} → value v s ≡ some n → (all isDigit s ≡ true) × (decimalFrom v s ≡ n)
-unfolding value
+value-is : (v : ℕ) (s : List ℕ) {n : ℕ} → decimalValue v s ≡ some n → (all isDigit s ≡ true) × (decimalFrom v s ≡ n)
+unfolding decimalValue
 value-is v [] {n} e = (refl, Option·some-injective v n e)
 value-is v (c ∷ s) {n} e = go (isDigit c) refl (λ k. value-is (v * 10 + (c - 48)) s k) e
   where
     Is : Bool → Type 0
     Is b = (b && all isDigit s ≡ true) × (decimalFrom (v * 10 + (c - 48)) s ≡ n)
 
-    go : (b : Bool) → isDigit c ≡ b → (value (v * 10 + (c - 48)) s ≡ some n → Is true) →
-        cond b (value (v * 10 + (c - 48)) s) none ≡ some n → Is (isDigit c)
+    go : (b : Bool) → isDigit c ≡ b → (decimalValue (v * 10 + (c - 48)) s ≡ some n → Is true) →
+        cond b (decimalValue (v * 10 + (c - 48)) s) none ≡ some n → Is (isDigit c)
     go true q f e = rw q (f e)
     go false q f e = absurd (Option·none-ne-some n e)
 
-is-value : (v : ℕ) (s : List ℕ) → all isDigit s ≡ true → value v s ≡ some (decimalFrom v s)
-unfolding value
+is-value : (v : ℕ) (s : List ℕ) → all isDigit s ≡ true → decimalValue v s ≡ some (decimalFrom v s)
+unfolding decimalValue
 is-value v [] h = refl
 is-value v (c ∷ s) h = rw (all-cons isDigit c s h .0) (is-value (v * 10 + (c - 48)) s (all-cons isDigit c s h .1))
 
@@ -50,7 +50,7 @@ unfolding number
 number-is m [] {n} e = absurd (Option·none-ne-some n e)
 number-is m (c ∷ s) {n} e = go (eqb c 48) refl e
   where
-    other-digit : eqb c 48 ≡ false → (o : Option ℕ) → value 0 (c ∷ s) ≡ o → upTo m o ≡ some n → NumberIs m (c ∷ s) n
+    other-digit : eqb c 48 ≡ false → (o : Option ℕ) → decimalValue 0 (c ∷ s) ≡ o → upTo m o ≡ some n → NumberIs m (c ∷ s) n
     other-digit q none i e = absurd (Option·none-ne-some n e)
     other-digit q (some v) i e =
         let k = value-is 0 (c ∷ s) i in
@@ -60,17 +60,17 @@ number-is m (c ∷ s) {n} e = go (eqb c 48) refl e
         let d : (c ≡ 48 → ⊥) = eqb-false c 48 q in
         record { written = λ t. let z : _≡_ {A = ℕ} 0 1 = cc in omega arith; digits = k .0; no-leading-zero = λ t j. absurd (d (cc)); is = k .1 ∙ x; most = omega arith }
 
-    go : (b : Bool) → eqb c 48 ≡ b → cond b (only (empty s) (some 0)) (upTo m (value 0 (c ∷ s))) ≡ some n →
+    go : (b : Bool) → eqb c 48 ≡ b → cond b (only (empty s) (some 0)) (upTo m (decimalValue 0 (c ∷ s))) ≡ some n →
         NumberIs m (c ∷ s) n
     go true q e = let x : c ≡ 48 = eqb-true c 48 q in rw x (zero-is m s e)
-    go false q e = other-digit q (value 0 (c ∷ s)) refl e
+    go false q e = other-digit q (decimalValue 0 (c ∷ s)) refl e
 
 pub is-number : (m : ℕ) (s : List ℕ) {n : ℕ} → NumberIs m s n → number m s ≡ some n
 unfolding number
 is-number m [] h = absurd (h .written refl)
 is-number m (c ∷ s) {n} h = go (eqb c 48) refl
   where
-    go : (b : Bool) → eqb c 48 ≡ b → cond b (only (empty s) (some 0)) (upTo m (value 0 (c ∷ s))) ≡ some n
+    go : (b : Bool) → eqb c 48 ≡ b → cond b (only (empty s) (some 0)) (upTo m (decimalValue 0 (c ∷ s))) ≡ some n
     go true q =
         let x : c ≡ 48 = eqb-true c 48 q in
         let t : s ≡ [] = h .no-leading-zero s (ap (λ (y : ℕ). y ∷ s) x) in

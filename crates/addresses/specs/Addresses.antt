@@ -7,7 +7,7 @@ use lib.Dec.{eqb, leb, ltb}
 use lib.ListN.{length, getD, replicate}
 use Rattle.text.specs.Bytes.{between, isDigit}
 use Rattle.text.specs.Parts.{all, empty, pieces}
-use Rattle.text.specs.Options.{isSome, andThen, only, sized, plain, each}
+use Rattle.text.specs.Options.{isSome, andThen, only, sized, orEmpty, each}
 use Rattle.addresses.specs.declared.Separator.{Separator}
 use Rattle.addresses.specs.declared.Separator.the-variants.{Spaces, Comma}
 use Rattle.addresses.specs.declared.Number.{Number}
@@ -18,9 +18,9 @@ use Rattle.addresses.specs.declared.Netmask.the-variants.{Length, Broken
 -- ---- numbers and addresses
 
 -- the number that decimal digits write, after those of v
-unfoldable pub value : ℕ → List ℕ → Option ℕ
-value v [] = some v
-value v (c ∷ s) = cond (isDigit c) (value (v * 10 + (c - 48)) s) none
+unfoldable pub decimalValue : ℕ → List ℕ → Option ℕ
+decimalValue v [] = some v
+decimalValue v (c ∷ s) = cond (isDigit c) (decimalValue (v * 10 + (c - 48)) s) none
 
 -- only up to m
 abbrev pub upTo : ℕ → Option ℕ → Option ℕ
@@ -30,7 +30,7 @@ upTo m (some v) = only (leb v m) (some v)
 -- a decimal number of at most m, "no leading zeros"
 unfoldable pub number : ℕ → List ℕ → Option ℕ
 number m [] = none
-number m (c ∷ s) = cond (eqb c 48) (only (empty s) (some 0)) (upTo m (value 0 (c ∷ s)))
+number m (c ∷ s) = cond (eqb c 48) (only (empty s) (some 0)) (upTo m (decimalValue 0 (c ∷ s)))
 
 abbrev pub octet : List ℕ → Option ℕ
 octet = number 255
@@ -110,19 +110,19 @@ abbrev pub noAddress : List ℕ
 noAddress = 0 ∷ 0 ∷ 0 ∷ 0 ∷ []
 
 abbrev pub rows : Option (List (List ℕ)) → List (List ℕ)
-rows o = plain o ++ replicate (4 - length (plain o)) noAddress
+rows o = orEmpty o ++ replicate (4 - length (orEmpty o)) noAddress
 
 -- ---- writing
 
-abbrev pub digit : ℕ → ℕ
-digit n = 48 + n
+abbrev pub decimalDigit : ℕ → ℕ
+decimalDigit n = 48 + n
 
 -- a number up to 999 in decimal
 unfoldable pub decimal : ℕ → List ℕ
 decimal n =
-    cond (ltb n 10) (digit n ∷ [])
-    (cond (ltb n 100) (digit (n / 10) ∷ digit (n % 10) ∷ [])
-    (digit (n / 100) ∷ digit (n / 10 % 10) ∷ digit (n % 10) ∷ []))
+    cond (ltb n 10) (decimalDigit n ∷ [])
+    (cond (ltb n 100) (decimalDigit (n / 10) ∷ decimalDigit (n % 10) ∷ [])
+    (decimalDigit (n / 100) ∷ decimalDigit (n / 10 % 10) ∷ decimalDigit (n % 10) ∷ []))
 
 abbrev pub dotThen : ℕ → List ℕ
 dotThen n = 46 ∷ decimal n
@@ -132,13 +132,13 @@ unfoldable pub dotted : List ℕ → List ℕ
 dotted a = decimal (getD a 0 0) ++ dotThen (getD a 1 0) ++ dotThen (getD a 2 0) ++ dotThen (getD a 3 0)
 
 -- addresses, one separator in front of each; and a list, "DNS with single spaces"
-abbrev pub behind : Separator → List (List ℕ) → List ℕ
-behind sep [] = []
-behind sep (a ∷ l) = separator sep ∷ dotted a ++ behind sep l
+abbrev pub withSeparators : Separator → List (List ℕ) → List ℕ
+withSeparators sep [] = []
+withSeparators sep (a ∷ l) = separator sep ∷ dotted a ++ withSeparators sep l
 
 abbrev pub listed : Separator → List (List ℕ) → List ℕ
 listed sep [] = []
-listed sep (a ∷ l) = dotted a ++ behind sep l
+listed sep (a ∷ l) = dotted a ++ withSeparators sep l
 
 -- a byte of such a list
 abbrev pub isListByte : Separator → ℕ → Bool

@@ -5,7 +5,7 @@ use mathlib.Core.Option.{none, some}
 use Prim.Native.Nat.{ℕ}
 use Rattle.text.specs.Words.{word}
 use Rattle.addresses.specs.declared.Separator.the-variants.{Spaces, Comma}
-use Rattle.addresses.specs.Addresses.{value, number, address, prefixLength, lengthUpTo, maskLength, netmask, addresses}
+use Rattle.addresses.specs.Addresses.{decimalValue, number, address, prefixLength, lengthUpTo, maskLength, netmask, addresses}
 
 abbrev Right : {A : Type 0} → (List ℕ → A) → List (List ℕ × A) → Type 0
 Right {A} f t = map (λ (c : List ℕ × A). f (c .0)) t ≡ map (λ (c : List ℕ × A). c .1) t
@@ -20,7 +20,7 @@ pub address-cases : Right address
     ∷ (word "1.2.3.4.5", none)
     ∷ (word "1..2.3", none)
     ∷ [])
-unfolding value number address
+unfolding decimalValue number address
 address-cases = refl
 
 -- "Mask 255.0.255.0: 12."; "Mask 255.255.254.0: 23."; "there is at least one"
@@ -31,7 +31,7 @@ pub netmask-cases : Right netmask
     ∷ (word "128.0.0.0", some 1)
     ∷ (word "255.255.255.255", some 32)
     ∷ [])
-unfolding value number address lengthUpTo maskLength netmask
+unfolding decimalValue number address lengthUpTo maskLength netmask
 netmask-cases = refl
 
 -- "length (1 to 32, no leading zero)"
@@ -43,7 +43,7 @@ pub length-cases : Right prefixLength
     ∷ (word "08", none)
     ∷ (word "", none)
     ∷ [])
-unfolding value number prefixLength
+unfolding decimalValue number prefixLength
 length-cases = refl
 
 -- "1 to 4 addresses, one or more spaces between, trailing spaces allowed": none in front, and no tab
@@ -55,7 +55,7 @@ pub spaces-cases : Right (addresses Spaces)
     ∷ (word "", none)
     ∷ (word " ", none)
     ∷ [])
-unfolding value number address addresses
+unfolding decimalValue number address addresses
 spaces-cases = refl
 
 -- "Nameservers = 10.20.0.2,10.20.0.3"; "1 to 4 addresses, one comma between, no blanks"
@@ -66,5 +66,5 @@ pub comma-cases : Right (addresses Comma)
     ∷ (word "10.0.0.1, 10.0.0.2", none)
     ∷ (word "", none)
     ∷ [])
-unfolding value number address addresses
+unfolding decimalValue number address addresses
 comma-cases = refl

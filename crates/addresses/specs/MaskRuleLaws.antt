@@ -114,6 +114,14 @@ length-mask (suc k) m {n} e = go (eqb m (mask (suc k))) refl (λ w. length-mask 
         (omega arith, omega arith, eqb-true m (mask (suc k)) q ∙ ap mask x)
     go false q f e = let w = f e in let a = w .1 in (w .0, omega arith, w .2)
 
+-- a mask's length is 1 to 32
+pub netmask-good : (v : List ℕ) {n : ℕ} → netmask v ≡ some n → (1 ≤ n) × (n ≤ 32)
+unfolding netmask maskLength
+netmask-good v e =
+    let t = then-some (address v) (λ a. lengthUpTo 32 (asNumber a)) e in
+    let k = length-mask 32 (asNumber (t .0)) (t .2) in
+    (k .0, k .1)
+
 pub netmask-is : (v : List ℕ) {n : ℕ} → netmask v ≡ some n → MaskIs v n
 unfolding netmask maskLength
 netmask-is v {n} e =

@@ -8,19 +8,19 @@ use borrow.Author.Tests.{lt-ltb, le-ltb, ltb-true, ltb-false}
 use lib.Dec.{ltb}
 use lib.ListN.{length, getD, length-append}
 use Rattle.addresses.specs.declared.Separator.{Separator}
-use Rattle.addresses.specs.Addresses.{digit, decimal, dotted, behind, listed}
+use Rattle.addresses.specs.Addresses.{decimalDigit, decimal, dotted, withSeparators, listed}
 
 -- a number has one digit, two or three
 module _ (n : ℕ) where
-  pub decimal-one : n < 10 → decimal n ≡ digit n ∷ []
+  pub decimal-one : n < 10 → decimal n ≡ decimalDigit n ∷ []
   unfolding decimal
   decimal-one h = rw (lt-ltb n 10 h)
 
-  pub decimal-two : 10 ≤ n → n < 100 → decimal n ≡ digit (n / 10) ∷ digit (n % 10) ∷ []
+  pub decimal-two : 10 ≤ n → n < 100 → decimal n ≡ decimalDigit (n / 10) ∷ decimalDigit (n % 10) ∷ []
   unfolding decimal
   decimal-two h g = rw (le-ltb n 10 h, lt-ltb n 100 g)
 
-  pub decimal-three : 100 ≤ n → decimal n ≡ digit (n / 100) ∷ digit (n / 10 % 10) ∷ digit (n % 10) ∷ []
+  pub decimal-three : 100 ≤ n → decimal n ≡ decimalDigit (n / 100) ∷ decimalDigit (n / 10 % 10) ∷ decimalDigit (n % 10) ∷ []
   unfolding decimal
   decimal-three h = let k : 10 ≤ n = omega arith in rw (le-ltb n 10 k, le-ltb n 100 h)
 
@@ -51,10 +51,10 @@ dotted-short a = omega (arith, dotted-length a, decimal-short (getD a 0 0), deci
 
 -- a list has at most 16 bytes for each address, one of them the separator, which the first has not
 module _ (sep : Separator) where
-  behind-short : (l : List (List ℕ)) → length (behind sep l) ≤ 16 * length l
-  behind-short [] = omega arith
-  behind-short (a ∷ l) = omega (arith, length-append (dotted a) (behind sep l), dotted-short a, behind-short l)
+  separators-short : (l : List (List ℕ)) → length (withSeparators sep l) ≤ 16 * length l
+  separators-short [] = omega arith
+  separators-short (a ∷ l) = omega (arith, length-append (dotted a) (withSeparators sep l), dotted-short a, separators-short l)
 
   pub listed-short : (l : List (List ℕ)) → length (listed sep l) ≤ 16 * length l - 1
   listed-short [] = omega arith
-  listed-short (a ∷ l) = omega (arith, length-append (dotted a) (behind sep l), dotted-short a, behind-short l)
+  listed-short (a ∷ l) = omega (arith, length-append (dotted a) (withSeparators sep l), dotted-short a, separators-short l)

@@ -14,7 +14,7 @@ use Rattle.text.specs.Options.{isSome, each}
 use Rattle.text.specs.Laws.{all-weaken, and-true, all-append, inside, between-low, between-high, is-other, below, below-at, pieces-append, pieces-last}
 use Rattle.addresses.specs.declared.Separator.{Separator}
 use Rattle.addresses.specs.declared.Separator.the-variants.{Spaces, Comma}
-use Rattle.addresses.specs.Addresses.{value, number, octet, address, isAddress, asNumber, lengthUpTo, maskLength, netmask, maskBytes, separator, nonEmpty, spaced, fields, addresses, areAddresses, decimal, dotThen, dotted, behind, listed, isListByte}
+use Rattle.addresses.specs.Addresses.{decimalValue, number, octet, address, isAddress, asNumber, lengthUpTo, maskLength, netmask, maskBytes, separator, nonEmpty, spaced, fields, addresses, areAddresses, decimal, dotThen, dotted, withSeparators, listed, isListByte}
 use Rattle.addresses.specs.Laws.{address-elim, are-cons}
 
 -- ---- a number: a test computed at each byte
@@ -31,7 +31,7 @@ decimal-right : ℕ → Bool
 decimal-right n = is (octet (decimal n)) n && all isDigit (decimal n)
 
 each-decimal : below decimal-right 256 ≡ true
-unfolding decimal-right number value decimal
+unfolding decimal-right number decimalValue decimal
 each-decimal = refl
 
 pub number-decimal : (n : ℕ) → n < 256 → octet (decimal n) ≡ some n
@@ -135,10 +135,10 @@ module _ (sep : Separator) where
       low Comma = omega arith
 
   listed-pieces : (a : List ℕ) (l : List (List ℕ)) → isAddress a ≡ true → areAddresses l ≡ true →
-      pieces (separator sep) (dotted a ++ behind sep l) ≡ map dotted (a ∷ l)
+      pieces (separator sep) (dotted a ++ withSeparators sep l) ≡ map dotted (a ∷ l)
   listed-pieces a [] h k = rw (append-nil (dotted a)) (pieces-last (separator sep) (dotted a) (dotted-apart a h))
   listed-pieces a (b ∷ l) h k =
-      pieces-append (separator sep) (dotted a) (dotted b ++ behind sep l) (dotted-apart a h)
+      pieces-append (separator sep) (dotted a) (dotted b ++ withSeparators sep l) (dotted-apart a h)
       ∙ ap (λ (ps : List (List ℕ)). dotted a ∷ ps) (listed-pieces b l (are-cons b l k .0) (are-cons b l k .1))
 
 none-empty : (l : List (List ℕ)) → areAddresses l ≡ true → nonEmpty (map dotted l) ≡ map dotted l
@@ -172,12 +172,12 @@ module _ (sep : Separator) where
       wider x true e = refl
       wider x false e = e
 
-  behind-bytes : (l : List (List ℕ)) → areAddresses l ≡ true → all (isListByte sep) (behind sep l) ≡ true
-  behind-bytes [] h = refl
-  behind-bytes (a ∷ l) h =
-      rw (eq-eqb (separator sep) (separator sep) refl) (all-append (isListByte sep) (dotted a) (behind sep l) (dotted-list-bytes a (are-cons a l h .0)) (behind-bytes l (are-cons a l h .1)))
+  separators-bytes : (l : List (List ℕ)) → areAddresses l ≡ true → all (isListByte sep) (withSeparators sep l) ≡ true
+  separators-bytes [] h = refl
+  separators-bytes (a ∷ l) h =
+      rw (eq-eqb (separator sep) (separator sep) refl) (all-append (isListByte sep) (dotted a) (withSeparators sep l) (dotted-list-bytes a (are-cons a l h .0)) (separators-bytes l (are-cons a l h .1)))
 
   pub listed-bytes : (l : List (List ℕ)) → areAddresses l ≡ true → all (isListByte sep) (listed sep l) ≡ true
   listed-bytes [] h = refl
   listed-bytes (a ∷ l) h =
-      all-append (isListByte sep) (dotted a) (behind sep l) (dotted-list-bytes a (are-cons a l h .0)) (behind-bytes l (are-cons a l h .1))
+      all-append (isListByte sep) (dotted a) (withSeparators sep l) (dotted-list-bytes a (are-cons a l h .0)) (separators-bytes l (are-cons a l h .1))

@@ -4,7 +4,7 @@ ghost use mathlib.Core.List.{[], _∷_};
 ghost use Prim.Native.Nat.{_+_, _≤_};
 ghost use lib.ListN.{length, take};
 ghost use Rattle.put.specs.Put.{Wrote};
-ghost use Rattle.addresses.specs.Addresses.{decimal, dotThen, dotted, behind, listed};
+ghost use Rattle.addresses.specs.Addresses.{decimal, dotThen, dotted, withSeparators, listed};
 use crate::Separator;
 use crate::lists;
 
@@ -67,8 +67,8 @@ pub fn address_len(a: [u8; 4]) -> usize
 
 // A separator, and then an address.
 fn put_behind(out: &mut [u8], at: usize, sep: Separator, a: [u8; 4]) -> usize
-    requires { ⌜ at + length (behind sep (a ∷ [])) ≤ length (now out) ⌝ }
-    ensures { λ r. ⌜ Wrote (behind sep (a ∷ [])) at (now (out .entry)) (now (out .exit)) r ⌝ }
+    requires { ⌜ at + length (withSeparators sep (a ∷ [])) ≤ length (now out) ⌝ }
+    ensures { λ r. ⌜ Wrote (withSeparators sep (a ∷ [])) at (now (out .entry)) (now (out .exit)) r ⌝ }
 {
     out[at] = lists::separator_byte(sep);
     put_address(out, at + 1, a)

@@ -5,9 +5,8 @@ use mathlib.Core.Bool.{Bool, true, cond, _&&_}
 use mathlib.Core.List.{List, [], _∷_, _++_}
 use lib.Dec.{leb}
 use lib.ListN.{length, getD, replicate}
-use Rattle.text.specs.Bytes.{between}
+use Rattle.text.specs.Bytes.{isByte, between}
 use Rattle.text.specs.Parts.{all}
-use Rattle.hex.specs.Hex.{isByte}
 use Rattle.addresses.specs.Addresses.{noAddress, isAddress}
 use Rattle.rules.specs.Numbers.{answerNumber, answerLine}
 use Rattle.rules.specs.declared.Refusal.the-variants.{Malformed}

@@ -1,65 +1,64 @@
 -- The turns and the ends of the loops.
 use mathlib.Core.Path.{_≡_, refl, ap, sym, _∙_, subst}
-use mathlib.Core.Bool.{Bool, true, false, cond, true≢false}
+use mathlib.Core.Bool.{Bool, true, false}
 use mathlib.Core.List.{List, [], _∷_, _++_, append-assoc, append-nil}
-use mathlib.Core.Option.{Option, none, some}
+use mathlib.Core.Option.{none, some}
 use Prim.Native.Nat.{ℕ, zero, suc, _+_, _-_, _*_, _≤_, _<_}
-use native.Mathlib.Nat.{zero-add, sub-zero, zero-sub, suc-sub-suc}
 use native.Mathlib.Numerals.{add-one}
 use native.Mathlib.Omega.{arith}
-use borrow.Author.Tests.{eq-eqb, ne-eqb, eqb-true, eqb-false}
+use borrow.Author.Tests.{eq-eqb, ne-eqb}
 use lib.Dec.{eqb}
-use lib.ListN.{length, take, drop, set, getD, drop-of-length-le, length-append, length-set, take-append-drop, replicate}
-use lib.Seq.{drop-cons, take-suc-set, drop-set-lt, length-take-le}
+use lib.ListN.{length, drop, set, getD, drop-of-length-le, length-append, length-set}
+use lib.Seq.{drop-cons}
 use Rattle.put.specs.Put.{Wrote}
 use Rattle.put.specs.Laws.{then, wrote-byte}
-use Rattle.text.specs.Options.{prepend, plain, Fits}
-use Rattle.put.specs.Filling.{glue, glue-prepend, glue-nil, Filling, filling-first, filling-none, filling-end, filling-room, filling-byte}
-use Rattle.escapes.specs.Escapes.{meant, reading, unescape, shown, writing, escape}
-use Rattle.escapes.specs.Strings.{sizeOf, byLetter, Letter}
-use Rattle.escapes.specs.declared.Size.{Size}
+use Rattle.text.specs.Options.{prepend, orEmpty, ReadsUpTo}
+use Rattle.put.proofs.Filling.{glue, glue-prepend, glue-nil, Filling, filling-first, filling-none, filling-end, filling-room, filling-byte}
+use Rattle.escapes.specs.Escapes.{meant, unescapeFrom, unescape, shown, escapeFrom, escape}
+use Rattle.escapes.specs.Strings.{sizeOf}
+use Rattle.escapes.specs.Letters.{byLetter, Letter}
 use Rattle.escapes.specs.declared.Size.the-variants.{Long, Broken}
 
 -- ---- reading: t is read of the first i bytes, and what follows is what the rest says
 
-pub record Read (s : List ℕ) (i : ℕ) (after : Bool) (t : List ℕ) : Type 0 where
+pub record ReadSoFar (s : List ℕ) (i : ℕ) (after : Bool) (t : List ℕ) : Type 0 where
   pub within : i ≤ length s
-  pub rest : glue t (reading after (drop i s)) ≡ unescape s
+  pub rest : glue t (unescapeFrom after (drop i s)) ≡ unescape s
 
-read-first : (s : List ℕ) → Read s 0 false []
-read-first s = record { within = omega arith; rest = glue-nil (reading false s) }
+read-first : (s : List ℕ) → ReadSoFar s 0 false []
+read-first s = record { within = omega arith; rest = glue-nil (unescapeFrom false s) }
 
-module _ {s : List ℕ} {i : ℕ} {a : Bool} {t : List ℕ} (h : Read s i a t) where
+module _ {s : List ℕ} {i : ℕ} {a : Bool} {t : List ℕ} (h : ReadSoFar s i a t) where
   pub read-end : length s ≤ i → a ≡ false → unescape s ≡ some t
-  unfolding reading
+  unfolding unescapeFrom
   read-end l e = sym (rw (drop-of-length-le s l, e, append-nil) at (h .rest))
 
   pub read-open-end : length s ≤ i → a ≡ true → unescape s ≡ none
-  unfolding reading
+  unfolding unescapeFrom
   read-open-end l e = sym (rw (drop-of-length-le s l, e) at (h .rest))
 
   module _ (l : i < length s) where
-    pub read-byte : a ≡ false → (getD s i 0 ≡ 92 → ⊥) → Read s (i + 1) false (t ++ (getD s i 0 ∷ []))
-    unfolding reading
+    pub read-byte : a ≡ false → (getD s i 0 ≡ 92 → ⊥) → ReadSoFar s (i + 1) false (t ++ (getD s i 0 ∷ []))
+    unfolding unescapeFrom
     read-byte e n = record { within = omega arith; rest = rw (add-one i, ← glue-prepend t (getD s i 0)) (rw (drop-cons s i 0 l, e, ne-eqb (getD s i 0) 92 n) at (h .rest)) }
 
-    pub read-open : a ≡ false → getD s i 0 ≡ 92 → Read s (i + 1) true t
-    unfolding reading
+    pub read-open : a ≡ false → getD s i 0 ≡ 92 → ReadSoFar s (i + 1) true t
+    unfolding unescapeFrom
     read-open e n = record { within = omega arith; rest = rw (add-one i) (rw (drop-cons s i 0 l, e, eq-eqb (getD s i 0) 92 n) at (h .rest)) }
 
-    pub read-meant : a ≡ true → (meant (getD s i 0) ≡ 0 → ⊥) → Read s (i + 1) false (t ++ (meant (getD s i 0) ∷ []))
-    unfolding reading
+    pub read-meant : a ≡ true → (meant (getD s i 0) ≡ 0 → ⊥) → ReadSoFar s (i + 1) false (t ++ (meant (getD s i 0) ∷ []))
+    unfolding unescapeFrom
     read-meant e n = record { within = omega arith; rest = rw (add-one i, ← glue-prepend t (meant (getD s i 0))) (rw (drop-cons s i 0 l, e, ne-eqb (meant (getD s i 0)) 0 n) at (h .rest)) }
 
     pub read-bad : a ≡ true → meant (getD s i 0) ≡ 0 → unescape s ≡ none
-    unfolding reading
+    unfolding unescapeFrom
     read-bad e n = sym (rw (drop-cons s i 0 l, e, eq-eqb (meant (getD s i 0)) 0 n) at (h .rest))
 
 -- ---- the length
 
 pub record Sizing (s : List ℕ) (i : ℕ) (after : Bool) (n : ℕ) : Type 0 where
   pub text : List ℕ
-  pub read : Read s i after text
+  pub read : ReadSoFar s i after text
   pub size : n ≡ length text
   pub few : n ≤ i
 
@@ -93,90 +92,90 @@ module _ {s : List ℕ} {i : ℕ} {a : Bool} {n : ℕ} (h : Sizing s i a n) wher
 
 pub record Unescaping (s : List ℕ) (i : ℕ) (after : Bool) (n : ℕ) (o x : List ℕ) : Type 0 where
   pub within : i ≤ length s
-  pub fill : Filling (unescape s) (reading after (drop i s)) n o x
+  pub fill : Filling (unescape s) (unescapeFrom after (drop i s)) n o x
 
-pub unescaping-first : (s o : List ℕ) → Fits (length o) (unescape s) → Unescaping s 0 false 0 o o
+pub unescaping-first : (s o : List ℕ) → ReadsUpTo (length o) (unescape s) → Unescaping s 0 false 0 o o
 unescaping-first s o f = record { within = omega arith; fill = filling-first (unescape s) o f }
 
 module _ {s : List ℕ} {i : ℕ} {a : Bool} {n : ℕ} {o x : List ℕ} (h : Unescaping s i a n o x) where
-  pub unescaping-end : length s ≤ i → Wrote (plain (unescape s)) 0 o x n
-  unfolding reading
+  pub unescaping-end : length s ≤ i → Wrote (orEmpty (unescape s)) 0 o x n
+  unfolding unescapeFrom
   unescaping-end l = go a refl
     where
-      go : (b : Bool) → a ≡ b → Wrote (plain (unescape s)) 0 o x n
+      go : (b : Bool) → a ≡ b → Wrote (orEmpty (unescape s)) 0 o x n
       go true e = absurd (filling-none (h .fill) (rw (drop-of-length-le s l, e)))
       go false e = filling-end (h .fill) (rw (drop-of-length-le s l, e))
 
   module _ (l : i < length s) where
     module _ (e : a ≡ false) (k : getD s i 0 ≡ 92 → ⊥) where
-      byte : reading a (drop i s) ≡ prepend (getD s i 0) (reading false (drop (i + 1) s))
-      unfolding reading
+      byte : unescapeFrom a (drop i s) ≡ prepend (getD s i 0) (unescapeFrom false (drop (i + 1) s))
+      unfolding unescapeFrom
       byte = rw (add-one i, drop-cons s i 0 l, e, ne-eqb (getD s i 0) 92 k)
 
       pub unescaping-room : n < length x
-      unescaping-room = filling-room (h .fill) (getD s i 0) (reading false (drop (i + 1) s)) byte
+      unescaping-room = filling-room (h .fill) (getD s i 0) (unescapeFrom false (drop (i + 1) s)) byte
 
       pub unescaping-byte : Unescaping s (i + 1) a (n + 1) o (set x n (getD s i 0))
-      unescaping-byte = rw e (record { within = omega arith; fill = filling-byte (h .fill) (getD s i 0) (reading false (drop (i + 1) s)) byte })
+      unescaping-byte = rw e (record { within = omega arith; fill = filling-byte (h .fill) (getD s i 0) (unescapeFrom false (drop (i + 1) s)) byte })
 
     pub unescaping-open : a ≡ false → getD s i 0 ≡ 92 → Unescaping s (i + 1) true n o x
-    unfolding reading
+    unfolding unescapeFrom
     unescaping-open e k = record { within = omega arith; fill = rw (add-one i) (rw (drop-cons s i 0 l, e, eq-eqb (getD s i 0) 92 k) at (h .fill)) }
 
     module _ (e : a ≡ true) where
-      sound : reading a (drop i s) ≡ prepend (meant (getD s i 0)) (reading false (drop (i + 1) s))
-      unfolding reading
+      sound : unescapeFrom a (drop i s) ≡ prepend (meant (getD s i 0)) (unescapeFrom false (drop (i + 1) s))
+      unfolding unescapeFrom
       sound = go (eqb (meant (getD s i 0)) 0) refl
         where
-          go : (t : Bool) → eqb (meant (getD s i 0)) 0 ≡ t → reading a (drop i s) ≡ prepend (meant (getD s i 0)) (reading false (drop (i + 1) s))
+          go : (t : Bool) → eqb (meant (getD s i 0)) 0 ≡ t → unescapeFrom a (drop i s) ≡ prepend (meant (getD s i 0)) (unescapeFrom false (drop (i + 1) s))
           go true q = absurd (filling-none (h .fill) (rw (drop-cons s i 0 l, e, q)))
           go false q = rw (add-one i, drop-cons s i 0 l, e, q)
 
       pub unescaping-room-meant : n < length x
-      unescaping-room-meant = filling-room (h .fill) (meant (getD s i 0)) (reading false (drop (i + 1) s)) sound
+      unescaping-room-meant = filling-room (h .fill) (meant (getD s i 0)) (unescapeFrom false (drop (i + 1) s)) sound
 
       pub unescaping-meant : {m : ℕ} → m ≡ meant (getD s i 0) → Unescaping s (i + 1) false (n + 1) o (set x n m)
-      unescaping-meant q = rw q (record { within = omega arith; fill = filling-byte (h .fill) (meant (getD s i 0)) (reading false (drop (i + 1) s)) sound })
+      unescaping-meant q = rw q (record { within = omega arith; fill = filling-byte (h .fill) (meant (getD s i 0)) (unescapeFrom false (drop (i + 1) s)) sound })
 
 -- ---- escaping
 
-writing-at : (s : List ℕ) (i : ℕ) → i < length s → writing (eqb i 0) (drop i s) ≡ shown (eqb i 0) (getD s i 0) ++ writing (eqb (i + 1) 0) (drop (i + 1) s)
-unfolding writing
+writing-at : (s : List ℕ) (i : ℕ) → i < length s → escapeFrom (eqb i 0) (drop i s) ≡ shown (eqb i 0) (getD s i 0) ++ escapeFrom (eqb (i + 1) 0) (drop (i + 1) s)
+unfolding escapeFrom
 writing-at s i l = let z : eqb (i + 1) 0 ≡ false = ne-eqb _ _ (λ (e : i + 1 ≡ 0). omega arith) in rw (z, add-one i, drop-cons s i 0 l)
 
-writing-end : (s : List ℕ) (i : ℕ) → length s ≤ i → writing (eqb i 0) (drop i s) ≡ []
-unfolding writing
+writing-end : (s : List ℕ) (i : ℕ) → length s ≤ i → escapeFrom (eqb i 0) (drop i s) ≡ []
+unfolding escapeFrom
 writing-end s i l = rw (drop-of-length-le s l)
 
 by-letter : (l c : ℕ) → (l ≡ 0 → ⊥) → byLetter l c ≡ 92 ∷ l ∷ []
 by-letter zero c n = absurd (n refl)
 by-letter (suc l) c n = refl
 
-pub record Counting (s : List ℕ) (i n : ℕ) : Type 0 where
+pub record EscapedSoFar (s : List ℕ) (i n : ℕ) : Type 0 where
   pub within : i ≤ length s
   pub few : n ≤ 2 * i
   pub small : length s ≤ 16384
-  pub rest : n + length (writing (eqb i 0) (drop i s)) ≡ length (escape s)
+  pub rest : n + length (escapeFrom (eqb i 0) (drop i s)) ≡ length (escape s)
 
-module _ {s : List ℕ} {i n : ℕ} (h : Counting s i n) where
+module _ {s : List ℕ} {i n : ℕ} (h : EscapedSoFar s i n) where
   pub counting-end : length s ≤ i → n ≡ length (escape s)
   counting-end l = omega (arith, h .rest, ap length (writing-end s i l))
 
   module _ (l : i < length s) {m : ℕ} (q : Letter (eqb i 0) (getD s i 0) m) where
-    at-next : n + (length (byLetter m (getD s i 0)) + length (writing (eqb (i + 1) 0) (drop (i + 1) s))) ≡ length (escape s)
-    at-next = omega (arith, h .rest, ap length (writing-at s i l), ap length (q .is), length-append (shown (eqb i 0) (getD s i 0)) (writing (eqb (i + 1) 0) (drop (i + 1) s)))
+    at-next : n + (length (byLetter m (getD s i 0)) + length (escapeFrom (eqb (i + 1) 0) (drop (i + 1) s))) ≡ length (escape s)
+    at-next = omega (arith, h .rest, ap length (writing-at s i l), ap length (q .is), length-append (shown (eqb i 0) (getD s i 0)) (escapeFrom (eqb (i + 1) 0) (drop (i + 1) s)))
 
-    pub counting-one : m ≡ 0 → Counting s (i + 1) (n + 1)
+    pub counting-one : m ≡ 0 → EscapedSoFar s (i + 1) (n + 1)
     counting-one z = record { within = omega arith; few = omega (arith, h .few); small = h .small; rest = omega (arith, rw z at at-next) }
 
-    pub counting-two : (m ≡ 0 → ⊥) → Counting s (i + 1) (n + 2)
+    pub counting-two : (m ≡ 0 → ⊥) → EscapedSoFar s (i + 1) (n + 2)
     counting-two z = record { within = omega arith; few = omega (arith, h .few); small = h .small; rest = omega (arith, rw (by-letter m (getD s i 0) z) at at-next) }
 
 pub record Putting (s : List ℕ) (i a : ℕ) (o x : List ℕ) (p : ℕ) : Type 0 where
   pub within : i ≤ length s
   pub done : List ℕ
   pub wrote : Wrote done a o x p
-  pub rest : done ++ writing (eqb i 0) (drop i s) ≡ escape s
+  pub rest : done ++ escapeFrom (eqb i 0) (drop i s) ≡ escape s
   pub room : a + length (escape s) ≤ length o
 
 module _ {s : List ℕ} {i a : ℕ} {o x : List ℕ} {p : ℕ} (h : Putting s i a o x p) where
@@ -184,7 +183,7 @@ module _ {s : List ℕ} {i a : ℕ} {o x : List ℕ} {p : ℕ} (h : Putting s i 
   putting-end l = subst (λ (t : List ℕ). Wrote t a o x p) (sym (append-nil (h .done)) ∙ ap (λ (t : List ℕ). h .done ++ t) (sym (writing-end s i l)) ∙ h .rest) (h .wrote)
 
   module _ (l : i < length s) {m : ℕ} (q : Letter (eqb i 0) (getD s i 0) m) where
-    onward : h .done ++ byLetter m (getD s i 0) ++ writing (eqb (i + 1) 0) (drop (i + 1) s) ≡ escape s
+    onward : h .done ++ byLetter m (getD s i 0) ++ escapeFrom (eqb (i + 1) 0) (drop (i + 1) s) ≡ escape s
     onward = append-assoc (h .done) (byLetter m (getD s i 0)) _ ∙ ap (λ (t : List ℕ). h .done ++ t) (rw (q .is) (sym (writing-at s i l))) ∙ h .rest
 
     pub putting-room : p + length (byLetter m (getD s i 0)) ≤ length x

@@ -11,14 +11,14 @@ abbrev pub meant : ℕ → ℕ
 meant c = cond (eqb c 115) 32 (cond (eqb c 116) 9 (cond (eqb c 114) 13 (cond (eqb c 110) 10 (cond (eqb c 92) 92 0))))
 
 -- the text that is written as s, where a backslash stands before s (true) or not; none where a backslash does not begin one of the five
-unfoldable pub reading : Bool → List ℕ → Option (List ℕ)
-reading false [] = some []
-reading true [] = none
-reading false (c ∷ s) = cond (eqb c 92) (reading true s) (prepend c (reading false s))
-reading true (c ∷ s) = cond (eqb (meant c) 0) none (prepend (meant c) (reading false s))
+unfoldable pub unescapeFrom : Bool → List ℕ → Option (List ℕ)
+unescapeFrom false [] = some []
+unescapeFrom true [] = none
+unescapeFrom false (c ∷ s) = cond (eqb c 92) (unescapeFrom true s) (prepend c (unescapeFrom false s))
+unescapeFrom true (c ∷ s) = cond (eqb (meant c) 0) none (prepend (meant c) (unescapeFrom false s))
 
 abbrev pub unescape : List ℕ → Option (List ℕ)
-unescape s = reading false s
+unescape s = unescapeFrom false s
 
 -- "In strings byte 10, byte 13 and backslash are always escaped, space and tab only in first place; nothing else is."
 abbrev pub shown : Bool → ℕ → List ℕ
@@ -30,9 +30,9 @@ shown first c =
     (cond (first && eqb c 9) (92 ∷ 116 ∷ [])
     (c ∷ [])))))
 
-unfoldable pub writing : Bool → List ℕ → List ℕ
-writing first [] = []
-writing first (c ∷ s) = shown first c ++ writing false s
+unfoldable pub escapeFrom : Bool → List ℕ → List ℕ
+escapeFrom first [] = []
+escapeFrom first (c ∷ s) = shown first c ++ escapeFrom false s
 
 abbrev pub escape : List ℕ → List ℕ
-escape s = writing true s
+escape s = escapeFrom true s

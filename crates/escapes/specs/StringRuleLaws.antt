@@ -10,7 +10,7 @@ use Rattle.text.specs.Options.{prepend}
 use Rattle.text.specs.OptionLaws.{prepend-some}
 use Rattle.text.specs.declared.Dialect.{Dialect}
 use Rattle.text.specs.declared.Dialect.the-variants.{Iwd, ConnMan}
-use Rattle.escapes.specs.Escapes.{meant, reading, unescape}
+use Rattle.escapes.specs.Escapes.{meant, unescapeFrom, unescape}
 use Rattle.escapes.specs.Strings.{stringOf}
 use Rattle.escapes.specs.StringRules.{Escape, space, tab, return, newline, backslash, Unescaped, no-more, as-it-stands, escaped, StringIs}
 
@@ -42,44 +42,44 @@ meant-escape c = go (eqb c 115) refl (eqb c 116) refl (eqb c 114) refl (eqb c 11
 -- ---- a text
 
 -- what is read, where a backslash stands before the text or not
-abbrev Reads : Bool → List ℕ → Type 0
-Reads false s = (t : List ℕ) → reading false s ≡ some t → Unescaped s t
-Reads true s = (t : List ℕ) → reading true s ≡ some t → Unescaped (92 ∷ s) t
+abbrev UnescapedFrom : Bool → List ℕ → Type 0
+UnescapedFrom false s = (t : List ℕ) → unescapeFrom false s ≡ some t → Unescaped s t
+UnescapedFrom true s = (t : List ℕ) → unescapeFrom true s ≡ some t → Unescaped (92 ∷ s) t
 
-first-reads : (c : ℕ) (s : List ℕ) → Reads true s → Reads false s → Reads false (c ∷ s)
-unfolding reading
-first-reads c s x y t e = go (eqb c 92) refl e
+unescaped-first : (c : ℕ) (s : List ℕ) → UnescapedFrom true s → UnescapedFrom false s → UnescapedFrom false (c ∷ s)
+unfolding unescapeFrom
+unescaped-first c s x y t e = go (eqb c 92) refl e
   where
-    go : (b : Bool) → eqb c 92 ≡ b → cond b (reading true s) (prepend c (reading false s)) ≡ some t →
+    go : (b : Bool) → eqb c 92 ≡ b → cond b (unescapeFrom true s) (prepend c (unescapeFrom false s)) ≡ some t →
         Unescaped (c ∷ s) t
     go true q f = rw (eqb-true c 92 q) (x t f)
     go false q f =
-        let k = prepend-some c (reading false s) f in
+        let k = prepend-some c (unescapeFrom false s) f in
         subst (Unescaped (c ∷ s)) (k .2) (as-it-stands (eqb-false c 92 q) (y (k .0) (k .1)))
 
-second-reads : (c : ℕ) (s : List ℕ) → Reads false s → Reads true (c ∷ s)
-unfolding reading
-second-reads c s y t e = go (eqb (meant c) 0) refl e
+unescaped-second : (c : ℕ) (s : List ℕ) → UnescapedFrom false s → UnescapedFrom true (c ∷ s)
+unfolding unescapeFrom
+unescaped-second c s y t e = go (eqb (meant c) 0) refl e
   where
-    go : (b : Bool) → eqb (meant c) 0 ≡ b → cond b none (prepend (meant c) (reading false s)) ≡ some t →
+    go : (b : Bool) → eqb (meant c) 0 ≡ b → cond b none (prepend (meant c) (unescapeFrom false s)) ≡ some t →
         Unescaped (92 ∷ c ∷ s) t
     go true q f = absurd (Option·none-ne-some t f)
     go false q f =
-        let k = prepend-some (meant c) (reading false s) f in
+        let k = prepend-some (meant c) (unescapeFrom false s) f in
         subst (Unescaped (92 ∷ c ∷ s)) (k .2) (escaped (meant-escape c q) (y (k .0) (k .1)))
 
-reads : (b : Bool) (s : List ℕ) → Reads b s
-unfolding reading
-reads false [] = λ t e. subst (Unescaped []) (Option·some-injective [] t e) no-more
-reads true [] = λ t e. absurd (Option·none-ne-some t e)
-reads false (c ∷ s) = first-reads c s (reads true s) (reads false s)
-reads true (c ∷ s) = second-reads c s (reads false s)
+unescaped-from : (b : Bool) (s : List ℕ) → UnescapedFrom b s
+unfolding unescapeFrom
+unescaped-from false [] = λ t e. subst (Unescaped []) (Option·some-injective [] t e) no-more
+unescaped-from true [] = λ t e. absurd (Option·none-ne-some t e)
+unescaped-from false (c ∷ s) = unescaped-first c s (unescaped-from true s) (unescaped-from false s)
+unescaped-from true (c ∷ s) = unescaped-second c s (unescaped-from false s)
 
 pub unescape-is : (v : List ℕ) {t : List ℕ} → unescape v ≡ some t → Unescaped v t
-unescape-is v {t} e = reads false v t e
+unescape-is v {t} e = unescaped-from false v t e
 
 pub is-unescape : {v t : List ℕ} → Unescaped v t → unescape v ≡ some t
-unfolding reading
+unfolding unescapeFrom
 is-unescape no-more = refl
 is-unescape (as-it-stands {c} d h) = rw (ne-eqb c 92 d, is-unescape h)
 is-unescape (escaped d h) = let k = escape-meant d in rw (k .0, is-unescape h, k .1)

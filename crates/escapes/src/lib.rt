@@ -2,11 +2,12 @@
 ghost use mathlib.Core.Path.{_≡_};
 ghost use Prim.Native.Nat.{_+_, _≤_};
 ghost use lib.ListN.{length};
-ghost use Rattle.text.specs.Options.{plain, Fits};
+ghost use Rattle.text.specs.Options.{orEmpty, ReadsUpTo};
 ghost use Rattle.text.specs.Parts.{padded};
 ghost use Rattle.put.specs.Put.{Wrote};
 ghost use Rattle.escapes.specs.Escapes.{meant, unescape, escape};
-ghost use Rattle.escapes.specs.Strings.{stringOf, sizeOf, Letter};
+ghost use Rattle.escapes.specs.Strings.{stringOf, sizeOf};
+ghost use Rattle.escapes.specs.Letters.{Letter};
 use text::Dialect;
 
 // How many bytes a string has once unescaped, or that a backslash begins no escape.
@@ -80,8 +81,8 @@ pub fn string_len(d: Dialect, s: &[u8]) -> Size
 
 // Writes s, unescaped, at the front of out, and returns its length.
 fn put_unescaped(out: &mut [u8], s: &[u8]) -> usize
-    requires { ⌜ Fits (length (now out)) (unescape (now s)) ⌝ }
-    ensures { λ r. ⌜ Wrote (plain (unescape (now (s .entry)))) 0 (now (out .entry)) (now (out .exit)) r ⌝ }
+    requires { ⌜ ReadsUpTo (length (now out)) (unescape (now s)) ⌝ }
+    ensures { λ r. ⌜ Wrote (orEmpty (unescape (now (s .entry)))) 0 (now (out .entry)) (now (out .exit)) r ⌝ }
 {
     let mut after = false;
     let mut n = 0;
@@ -109,8 +110,8 @@ fn put_unescaped(out: &mut [u8], s: &[u8]) -> usize
 
 // Writes the string s, unescaped, at the front of out, and returns its length.
 pub fn put_string(out: &mut [u8], d: Dialect, s: &[u8]) -> usize
-    requires { ⌜ Fits (length (now out)) (stringOf d (now s)) ⌝ }
-    ensures { λ r. ⌜ Wrote (plain (stringOf d (now (s .entry)))) 0 (now (out .entry)) (now (out .exit)) r ⌝ }
+    requires { ⌜ ReadsUpTo (length (now out)) (stringOf d (now s)) ⌝ }
+    ensures { λ r. ⌜ Wrote (orEmpty (stringOf d (now (s .entry)))) 0 (now (out .entry)) (now (out .exit)) r ⌝ }
 {
     match d {
         Dialect::Iwd => put_unescaped(out, s),
@@ -120,8 +121,8 @@ pub fn put_string(out: &mut [u8], d: Dialect, s: &[u8]) -> usize
 
 // The string s of at most 32, 63 or 253 bytes, with zeros behind it.
 pub fn string_32(d: Dialect, s: &[u8]) -> [u8; 32]
-    requires { ⌜ Fits 32 (stringOf d (now s)) ⌝ }
-    ensures { λ r. ⌜ r ≡ padded 32 (plain (stringOf d (now (s .entry)))) ⌝ }
+    requires { ⌜ ReadsUpTo 32 (stringOf d (now s)) ⌝ }
+    ensures { λ r. ⌜ r ≡ padded 32 (orEmpty (stringOf d (now (s .entry)))) ⌝ }
 {
     let mut a = [0u8; 32];
     put_string(&mut a, d, s);
@@ -129,8 +130,8 @@ pub fn string_32(d: Dialect, s: &[u8]) -> [u8; 32]
 }
 
 pub fn string_63(d: Dialect, s: &[u8]) -> [u8; 63]
-    requires { ⌜ Fits 63 (stringOf d (now s)) ⌝ }
-    ensures { λ r. ⌜ r ≡ padded 63 (plain (stringOf d (now (s .entry)))) ⌝ }
+    requires { ⌜ ReadsUpTo 63 (stringOf d (now s)) ⌝ }
+    ensures { λ r. ⌜ r ≡ padded 63 (orEmpty (stringOf d (now (s .entry)))) ⌝ }
 {
     let mut a = [0u8; 63];
     put_string(&mut a, d, s);
@@ -138,8 +139,8 @@ pub fn string_63(d: Dialect, s: &[u8]) -> [u8; 63]
 }
 
 pub fn string_253(d: Dialect, s: &[u8]) -> [u8; 253]
-    requires { ⌜ Fits 253 (stringOf d (now s)) ⌝ }
-    ensures { λ r. ⌜ r ≡ padded 253 (plain (stringOf d (now (s .entry)))) ⌝ }
+    requires { ⌜ ReadsUpTo 253 (stringOf d (now s)) ⌝ }
+    ensures { λ r. ⌜ r ≡ padded 253 (orEmpty (stringOf d (now (s .entry)))) ⌝ }
 {
     let mut a = [0u8; 253];
     put_string(&mut a, d, s);

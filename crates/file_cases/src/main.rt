@@ -79,7 +79,7 @@ fn answer(input: &[u8]) {
     }
     let from = end + 1;
     if end == 1 {
-        move_service(&input[from..], hex::value(input[0]) as usize);
+        move_service(&input[from..], hex::digit_value(input[0]) as usize);
     } else {
         check(&input[0..end], &input[from..]);
     }

@@ -1,17 +1,17 @@
 -- What `nibble` and `unhex` read is what the hex digits write.
 use Prim.Native.Nat.{ℕ, _+_, _-_, _*_, _<_}
 use native.Mathlib.Omega.{arith}
-use mathlib.Core.Path.{_≡_, refl, subst}
+use mathlib.Core.Path.{_≡_, refl, ap, subst}
 use mathlib.Core.Bool.{Bool, true, false, cond, _&&_, false≢true}
 use mathlib.Core.List.{List, [], _∷_}
-use mathlib.Core.Option.{none, some, Option·some-injective, Option·none-ne-some}
+use mathlib.Core.Option.{some, Option·some-injective, Option·none-ne-some}
 use borrow.Author.Tests.{lt-ltb}
 use lib.Dec.{ltb}
 use Rattle.text.specs.Bytes.{between}
 use Rattle.text.specs.Options.{prepend}
-use Rattle.text.specs.OptionLaws.{prepend-some}
+use Rattle.text.specs.OptionLaws.{only-some, then-some, prepend-some}
 use Rattle.text.specs.Laws.{and-true, inside, under, over, between-low, between-high}
-use Rattle.hex.specs.Hex.{nibble, unhex}
+use Rattle.hex.specs.Hex.{nibble, pairByte, unhex}
 use Rattle.hex.specs.HexRules.{HexDigit, decimal, lower, upper, HexPair, Hex, no-more, pair}
 
 -- ---- one digit
@@ -57,18 +57,15 @@ value-digit c = go (between 48 57 c) refl (between 97 102 c) refl (between 65 70
 
 -- ---- a pair
 
-pub pair-digits : {a b byte : ℕ} → HexPair a b byte →
-    (ltb (nibble a) 16 && ltb (nibble b) 16 ≡ true) × (nibble a * 16 + nibble b ≡ byte)
-pair-digits {a} {b} h =
-    let p = digit-value (h .first) in
-    let q = digit-value (h .second) in
-    let i = h .is in
-    (rw (p, q, lt-ltb (h .sixteens) 16 (digit-small (h .first)), lt-ltb (h .ones) 16 (digit-small (h .second))), rw (p, q) i)
+pub pair-is : (a b : ℕ) {byte : ℕ} → pairByte a b ≡ some byte → HexPair a b byte
+pair-is a b {byte} e =
+    let o = only-some (ltb (nibble a) 16 && ltb (nibble b) 16) (some (nibble a * 16 + nibble b)) e in
+    let k = and-true (ltb (nibble a) 16) (ltb (nibble b) 16) (o .0) in
+    record { sixteens = nibble a; ones = nibble b; first = value-digit a (k .0); second = value-digit b (k .1); is = Option·some-injective (nibble a * 16 + nibble b) byte (o .1) }
 
-pub digits-pair : (a b : ℕ) → ltb (nibble a) 16 && ltb (nibble b) 16 ≡ true → HexPair a b (nibble a * 16 + nibble b)
-digits-pair a b h =
-    let k = and-true (ltb (nibble a) 16) (ltb (nibble b) 16) h in
-    record { sixteens = nibble a; ones = nibble b; first = value-digit a (k .0); second = value-digit b (k .1); is = refl }
+pub is-pair : (a b : ℕ) {byte : ℕ} → HexPair a b byte → pairByte a b ≡ some byte
+is-pair a b h =
+    rw (digit-value (h .first), digit-value (h .second), lt-ltb (h .sixteens) 16 (digit-small (h .first)), lt-ltb (h .ones) 16 (digit-small (h .second))) (ap some (h .is))
 
 -- ---- pairs
 
@@ -76,16 +73,12 @@ pub unhex-writes : (s : List ℕ) {t : List ℕ} → unhex s ≡ some t → Hex 
 unfolding unhex
 unhex-writes [] {t} e = subst (Hex []) (Option·some-injective [] t e) no-more
 unhex-writes (a ∷ []) {t} e = absurd (Option·none-ne-some t e)
-unhex-writes (a ∷ b ∷ s) {t} e = go (ltb (nibble a) 16 && ltb (nibble b) 16) refl (λ u k. unhex-writes s k) e
-  where
-    go : (d : Bool) → ltb (nibble a) 16 && ltb (nibble b) 16 ≡ d → ((u : List ℕ) → unhex s ≡ some u → Hex s u) →
-        cond d (prepend (nibble a * 16 + nibble b) (unhex s)) none ≡ some t → Hex (a ∷ b ∷ s) t
-    go true q f e =
-        let k = prepend-some (nibble a * 16 + nibble b) (unhex s) e in
-        subst (Hex (a ∷ b ∷ s)) (k .2) (pair (digits-pair a b q) (f (k .0) (k .1)))
-    go false q f e = absurd (Option·none-ne-some t e)
+unhex-writes (a ∷ b ∷ s) {t} e =
+    let x = then-some (pairByte a b) (λ x. prepend x (unhex s)) e in
+    let k = prepend-some (x .0) (unhex s) (x .2) in
+    subst (Hex (a ∷ b ∷ s)) (k .2) (pair (pair-is a b (x .1)) (unhex-writes s (k .1)))
 
 pub writes-unhex : {s t : List ℕ} → Hex s t → unhex s ≡ some t
 unfolding unhex
 writes-unhex no-more = refl
-writes-unhex (pair h k) = let p = pair-digits h in rw (p .0, writes-unhex k, p .1)
+writes-unhex (pair {a} {b} h k) = rw (is-pair a b h, writes-unhex k)

@@ -6,12 +6,12 @@ ghost use mathlib.Core.Path.{_≡_};
 ghost use Prim.Native.Nat.{_+_, _≤_, _<_};
 ghost use lib.ListN.{length};
 ghost use Rattle.text.specs.Parts.{padded};
-ghost use Rattle.text.specs.Options.{isSome, plain, Fits};
+ghost use Rattle.text.specs.Options.{isSome, orEmpty, ReadsUpTo};
 ghost use Rattle.put.specs.Put.{Wrote};
-ghost use Rattle.hex.specs.Hex.{nibble, unhex, digit, hex};
+ghost use Rattle.hex.specs.Hex.{nibble, unhex, hexDigit, hex};
 
 // A hex digit's value, 16 where c is none.
-pub fn value(c: u8) -> u8
+pub fn digit_value(c: u8) -> u8
     ensures { λ r. ⌜ r ≡ nibble c ⌝ }
 {
     if c < 48 {
@@ -41,10 +41,10 @@ pub fn is_hex(s: &[u8]) -> bool
 {
     let mut i = 0;
     while i + 1 < s.len() {
-        if value(s[i]) == 16 {
+        if digit_value(s[i]) == 16 {
             return false;
         }
-        if value(s[i + 1]) == 16 {
+        if digit_value(s[i + 1]) == 16 {
             return false;
         }
         i += 2;
@@ -54,14 +54,14 @@ pub fn is_hex(s: &[u8]) -> bool
 
 // Writes the bytes that s gives in hex at the front of out, and returns how many.
 pub fn put_unhexed(out: &mut [u8], s: &[u8]) -> usize
-    requires { ⌜ Fits (length (now out)) (unhex (now s)) ⌝ }
-    ensures { λ r. ⌜ Wrote (plain (unhex (now (s .entry)))) 0 (now (out .entry)) (now (out .exit)) r ⌝ }
+    requires { ⌜ ReadsUpTo (length (now out)) (unhex (now s)) ⌝ }
+    ensures { λ r. ⌜ Wrote (orEmpty (unhex (now (s .entry)))) 0 (now (out .entry)) (now (out .exit)) r ⌝ }
 {
     let mut n = 0;
     let mut i = 0;
     while i + 1 < s.len() {
-        let a = value(s[i]);
-        let b = value(s[i + 1]);
+        let a = digit_value(s[i]);
+        let b = digit_value(s[i + 1]);
         out[n] = a * 16 + b;
         n += 1;
         i += 2;
@@ -71,8 +71,8 @@ pub fn put_unhexed(out: &mut [u8], s: &[u8]) -> usize
 
 // The bytes that s gives in hex, and zeros up to 32.
 pub fn unhexed_32(s: &[u8]) -> [u8; 32]
-    requires { ⌜ Fits 32 (unhex (now s)) ⌝ }
-    ensures { λ r. ⌜ r ≡ padded 32 (plain (unhex (now (s .entry)))) ⌝ }
+    requires { ⌜ ReadsUpTo 32 (unhex (now s)) ⌝ }
+    ensures { λ r. ⌜ r ≡ padded 32 (orEmpty (unhex (now (s .entry)))) ⌝ }
 {
     let mut a = [0u8; 32];
     put_unhexed(&mut a, s);
@@ -81,7 +81,7 @@ pub fn unhexed_32(s: &[u8]) -> [u8; 32]
 
 fn hex_digit(n: u8) -> u8
     requires { ⌜ n < 16 ⌝ }
-    ensures { λ r. ⌜ r ≡ digit n ⌝ }
+    ensures { λ r. ⌜ r ≡ hexDigit n ⌝ }
 {
     if n < 10 {
         return 48 + n;

@@ -7,14 +7,14 @@ use mathlib.Core.List.{List, []}
 use mathlib.Core.Option.{Option, none, some}
 use lib.ListN.{length}
 use Rattle.text.specs.Parts.{padded}
-use Rattle.text.specs.Options.{plain}
+use Rattle.text.specs.Options.{orEmpty}
 use Rattle.text.specs.Words.{word}
 use Rattle.text.specs.declared.Dialect.{Dialect}
 use Rattle.text.specs.declared.Dialect.the-variants.{Iwd, ConnMan}
-use Rattle.escapes.specs.Escapes.{reading}
+use Rattle.escapes.specs.Escapes.{unescapeFrom}
 use Rattle.addresses.specs.Addresses.{address, netmask, addresses}
 use Rattle.addresses.specs.declared.Separator.the-variants.{Spaces, Comma}
-use Rattle.kinds.specs.Kinds.{IPv4, dhcp, off, static, ipv4, key, ssid, string, passphrase}
+use Rattle.kinds.specs.Kinds.{IPv4, dhcp, off, static, ipv4, ssid, string, passphrase, preSharedKey}
 use Rattle.kinds.specs.Answers.{ssidAnswer, ipv4Answer}
 use Rattle.kinds.specs.declared.Ipv4.{Ipv4}
 use Rattle.kinds.specs.declared.Ssid.{Ssid}
@@ -49,12 +49,12 @@ use Rattle.joins.proofs.Choosing.{row-choice}
 -- ---- no string reads as one from no bytes
 
 string-none : (d : Dialect) (high : ℕ) → string d 1 high [] ≡ none
-unfolding string reading
+unfolding string unescapeFrom
 string-none Iwd high = refl
 string-none ConnMan high = refl
 
 phrase-none : (d : Dialect) → passphrase d [] ≡ none
-unfolding string reading
+unfolding string unescapeFrom
 phrase-none Iwd = refl
 phrase-none ConnMan = refl
 
@@ -84,7 +84,7 @@ network-padded none = refl
 network-padded (some x) = refl
 
 module _ (name : List ℕ) {file x : List ℕ} (h : IwdFileRows file x) where
-  pub iwd-joined : {n : IwdName} {login : Login} {hidden : Bool} {numbers : Ipv4} {count : ℕ} {domain : Domain} {i : Ipv6} {r : JoinRecord} → n ≡ iwdNameAnswer (networkOf name) → login ≡ loginAnswer (secretFrom (passphrase Iwd (bytesOf file x (base G.Security 0) N.IwdPassphrase)) (key (bytesOf file x (base G.Security 0) N.PreSharedKey))) → hidden ≡ orFalse (choiceIn (choiceBy (keySlot x (base G.Settings 0) N.IwdHidden .code))) → numbers ≡ numbersAnswer (staticOrDhcp (address (bytesOf file x (base G.Ipv4 0) N.Address)) (netmask (bytesOf file x (base G.Ipv4 0) N.Netmask)) (address (bytesOf file x (base G.Ipv4 0) N.Gateway))) → count ≡ length (plain (addresses Spaces (bytesOf file x (base G.Ipv4 0) N.Dns))) → domain ≡ domainAnswer (string Iwd 1 253 (bytesOf file x (base G.Ipv4 0) N.DomainName)) → i ≡ enabledIpv6 (choiceIn (choiceBy (keySlot x (base G.Ipv6 0) N.Enabled .code))) → r ≡ assembled (n .length) (n .bytes) login hidden numbers count domain i → r ≡ laid (iwdJoin (networkName (networkOf name)) (iwdEntry (sectionsOf Iwd file)))
+  pub iwd-joined : {n : IwdName} {login : Login} {hidden : Bool} {numbers : Ipv4} {count : ℕ} {domain : Domain} {i : Ipv6} {r : JoinRecord} → n ≡ iwdNameAnswer (networkOf name) → login ≡ loginAnswer (secretFrom (passphrase Iwd (bytesOf file x (base G.Security 0) N.IwdPassphrase)) (preSharedKey (bytesOf file x (base G.Security 0) N.PreSharedKey))) → hidden ≡ orFalse (choiceIn (choiceBy (keySlot x (base G.Settings 0) N.IwdHidden .code))) → numbers ≡ numbersAnswer (staticOrDhcp (address (bytesOf file x (base G.Ipv4 0) N.Address)) (netmask (bytesOf file x (base G.Ipv4 0) N.Netmask)) (address (bytesOf file x (base G.Ipv4 0) N.Gateway))) → count ≡ length (orEmpty (addresses Spaces (bytesOf file x (base G.Ipv4 0) N.Dns))) → domain ≡ domainAnswer (string Iwd 1 253 (bytesOf file x (base G.Ipv4 0) N.DomainName)) → i ≡ enabledIpv6 (choiceIn (choiceBy (keySlot x (base G.Ipv6 0) N.Enabled .code))) → r ≡ assembled (n .length) (n .bytes) login hidden numbers count domain i → r ≡ laid (iwdJoin (networkName (networkOf name)) (iwdEntry (sectionsOf Iwd file)))
   unfolding keysOf
   iwd-joined p q s t u v w e =
       e
@@ -119,7 +119,7 @@ numbers-laid n b l y s d i (some (static a m none)) = refl
 numbers-laid n b l y s d i (some (static a m (some g))) = refl
 
 module _ {file x : List ℕ} {b : ℕ} where
-  pub service-joined : {n : Ssid} {login : Login} {hidden : Bool} {numbers : Ipv4} {count : ℕ} {domain : Domain} {i : Ipv6} {r : JoinRecord} → n ≡ nameOf (ssidAnswer (ssid (bytesOf file x b N.Ssid))) (ssidAnswer (string ConnMan 1 32 (bytesOf file x b N.Name))) → login ≡ loginAnswer (secretFrom (passphrase ConnMan (bytesOf file x b N.Passphrase)) none) → hidden ≡ orFalse (choiceIn (choiceBy (keySlot x b N.Hidden .code))) → numbers ≡ ipv4Answer (ipv4 (bytesOf file x b N.Ipv4)) → count ≡ length (plain (addresses Comma (bytesOf file x b N.Nameservers))) → domain ≡ domainAnswer (string ConnMan 1 253 (bytesOf file x b N.Domain)) → i ≡ slotIpv6 x b → r ≡ assembled (n .length) (n .bytes) login hidden numbers count domain i → Typed ConnMan file x b G.Service (λ at. laid (serviceJoin at)) r
+  pub service-joined : {n : Ssid} {login : Login} {hidden : Bool} {numbers : Ipv4} {count : ℕ} {domain : Domain} {i : Ipv6} {r : JoinRecord} → n ≡ nameOf (ssidAnswer (ssid (bytesOf file x b N.Ssid))) (ssidAnswer (string ConnMan 1 32 (bytesOf file x b N.Name))) → login ≡ loginAnswer (secretFrom (passphrase ConnMan (bytesOf file x b N.Passphrase)) none) → hidden ≡ orFalse (choiceIn (choiceBy (keySlot x b N.Hidden .code))) → numbers ≡ ipv4Answer (ipv4 (bytesOf file x b N.Ipv4)) → count ≡ length (orEmpty (addresses Comma (bytesOf file x b N.Nameservers))) → domain ≡ domainAnswer (string ConnMan 1 253 (bytesOf file x b N.Domain)) → i ≡ slotIpv6 x b → r ≡ assembled (n .length) (n .bytes) login hidden numbers count domain i → Typed ConnMan file x b G.Service (λ at. laid (serviceJoin at)) r
   unfolding keysOf
   service-joined {n} {login} {hidden} {numbers} {count} {domain} {i} p q s t u v w e =
       record {
@@ -133,7 +133,7 @@ module _ {file x : List ℕ} {b : ℕ} where
               ap (λ (m : Ssid). m .bytes) named ∙ name-padded (readAs ssid (entryOf (word "SSID") es)) (readAs (string ConnMan 1 32) (entryOf (word "Name") es)),
               q ∙ ap (λ (o : Option (List ℕ)). loginAnswer (secretFrom o none)) (row-read N.Passphrase h (passphrase ConnMan) (phrase-none ConnMan)),
               s ∙ ap orFalse (row-choice N.Hidden h refl),
-              u ∙ ap (λ (o : Option (List (List ℕ))). length (plain o)) (row-read N.Nameservers h (addresses Comma) (addresses-none Comma)),
+              u ∙ ap (λ (o : Option (List (List ℕ))). length (orEmpty o)) (row-read N.Nameservers h (addresses Comma) (addresses-none Comma)),
               v ∙ ap domainAnswer (row-read N.Domain h (string ConnMan 1 253) (string-none ConnMan 253)),
               w ∙ ap (λ (a : Bool). cond a Ipv6.Off Ipv6.Auto) (row-word N.Ipv6 h L.Ipv6Method refl W.Off),
             );

@@ -9,10 +9,9 @@ use Rattle.addresses.specs.Addresses.{addressAnswer, address, netmask}
 use Rattle.addresses.specs.declared.Address.{Address}
 use Rattle.text.specs.declared.Dialect.{Dialect}
 use Rattle.kinds.specs.Kinds.{flag}
-use Rattle.kinds.specs.Answers.{keyAnswer}
 use Rattle.kinds.specs.declared.Kind.the-variants.{Flag}
+use Rattle.kinds.specs.Answers.{preSharedKeyAnswer}
 use Rattle.kinds.specs.declared.Ipv4.{Ipv4}
-use Rattle.kinds.specs.declared.Key.{Key}
 use Rattle.rules.specs.Sections.{Entry, entryOf}
 use Rattle.rules.specs.Asking.{readAs}
 use Rattle.rules.specs.WordNumbers.{isWord, wordNumber}
@@ -23,19 +22,20 @@ use Rattle.reader.specs.declared.KeyName.{KeyName}
 use Rattle.settings.specs.Values.{choice, choiceBy, lengthOr0}
 use Rattle.settings.proofs.Rowwise.{row-flag}
 use Rattle.joins.specs.Joins.{secretFrom, lengthOr24, staticOrDhcp}
-use Rattle.kinds.specs.Values.{netmask-good}
 use Rattle.joins.specs.Answers.{phraseAnswer, loginAnswer, loginOf, or24, numbersAnswer, numbersOf, choiceIn}
+use Rattle.kinds.specs.declared.PreSharedKey.{PreSharedKey}
+use Rattle.addresses.specs.MaskRuleLaws.{netmask-good}
 use Rattle.joins.specs.declared.Phrase.{Phrase}
 use Rattle.joins.specs.declared.Login.{Login}
 
 -- ---- the credential
 
-login-chosen : (o q : Option (List ℕ)) → loginOf (phraseAnswer o) (keyAnswer q) ≡ loginAnswer (secretFrom o q)
+login-chosen : (o q : Option (List ℕ)) → loginOf (phraseAnswer o) (preSharedKeyAnswer q) ≡ loginAnswer (secretFrom o q)
 login-chosen (some p) q = refl
 login-chosen none (some k) = refl
 login-chosen none none = refl
 
-pub login-is : (o q : Option (List ℕ)) {p : Phrase} {k : Key} {r : Login} → p ≡ phraseAnswer o → k ≡ keyAnswer q → r ≡ loginOf p k → r ≡ loginAnswer (secretFrom o q)
+pub login-is : (o q : Option (List ℕ)) {p : Phrase} {k : PreSharedKey} {r : Login} → p ≡ phraseAnswer o → k ≡ preSharedKeyAnswer q → r ≡ loginOf p k → r ≡ loginAnswer (secretFrom o q)
 login-is o q e f g = g ∙ ap₂ loginOf e f ∙ login-chosen o q
 
 -- ---- the numbers; a mask's length is not 0, so 0 can stand for none

@@ -7,7 +7,7 @@ use mathlib.Core.List.{List}
 use mathlib.Core.Option.{Option, none, some}
 use lib.ListN.{length}
 use Rattle.text.specs.Parts.{padded}
-use Rattle.text.specs.Options.{isSome, sized, plain, Fits}
+use Rattle.text.specs.Options.{isSome, sized, orEmpty, ReadsUpTo}
 use Rattle.text.specs.Laws.{inside, under, over}
 use Rattle.text.specs.declared.Dialect.{Dialect}
 use Rattle.text.specs.declared.Dialect.the-variants.{ConnMan}
@@ -46,11 +46,11 @@ sized-broken : (low high : ℕ) (o : Option (List ℕ)) → sizeOf o ≡ Broken 
 sized-broken low high none e = refl
 sized-broken low high (some t) e = long-broken e
 
-pub size-fits : (high : ℕ) (o : Option (List ℕ)) {n : ℕ} → sizeOf o ≡ Long n → n ≤ high → Fits high o
+pub size-fits : (high : ℕ) (o : Option (List ℕ)) {n : ℕ} → sizeOf o ≡ Long n → n ≤ high → ReadsUpTo high o
 size-fits high none e h = not-long e
 size-fits high (some t) e h = omega (arith, long-is e)
 
-size-plain : (o : Option (List ℕ)) {n : ℕ} → sizeOf o ≡ Long n → n ≡ length (plain o)
+size-plain : (o : Option (List ℕ)) {n : ℕ} → sizeOf o ≡ Long n → n ≡ length (orEmpty o)
 size-plain none e = not-long e
 size-plain (some t) e = sym (long-is e)
 
@@ -69,7 +69,7 @@ module _ (d : Dialect) (s : List ℕ) where
   unfolding string
   phrase-over q e h = q ∙ ap phraseAnswer (sym (sized-over 8 63 (stringOf d s) e h))
 
-  pub phrase-is : {b : List ℕ} {n : ℕ} → sizeOf (stringOf d s) ≡ Long n → 8 ≤ n → n ≤ 63 → b ≡ padded 63 (plain (stringOf d s)) → record { ok = true; length = n; bytes = b } ≡ phraseAnswer (passphrase d s)
+  pub phrase-is : {b : List ℕ} {n : ℕ} → sizeOf (stringOf d s) ≡ Long n → 8 ≤ n → n ≤ 63 → b ≡ padded 63 (orEmpty (stringOf d s)) → record { ok = true; length = n; bytes = b } ≡ phraseAnswer (passphrase d s)
   unfolding string
   phrase-is e h g q = rw (sized-inside 8 63 (stringOf d s) e h g, q, size-some (stringOf d s) e, size-plain (stringOf d s) e)
 
@@ -87,7 +87,7 @@ module _ (d : Dialect) (s : List ℕ) where
   unfolding string
   domain-over q e h = q ∙ ap domainAnswer (sym (sized-over 1 253 (stringOf d s) e h))
 
-  pub domain-is : {b : List ℕ} {n : ℕ} → sizeOf (stringOf d s) ≡ Long n → 1 ≤ n → n ≤ 253 → b ≡ padded 253 (plain (stringOf d s)) → record { length = n; bytes = b } ≡ domainAnswer (string d 1 253 s)
+  pub domain-is : {b : List ℕ} {n : ℕ} → sizeOf (stringOf d s) ≡ Long n → 1 ≤ n → n ≤ 253 → b ≡ padded 253 (orEmpty (stringOf d s)) → record { length = n; bytes = b } ≡ domainAnswer (string d 1 253 s)
   unfolding string
   domain-is e h g q = rw (sized-inside 1 253 (stringOf d s) e h g, q, size-plain (stringOf d s) e)
 
@@ -106,6 +106,6 @@ module _ (s : List ℕ) where
   unfolding string
   name-over h = ap ssidAnswer (sym (sized-over 1 32 (some s) refl h))
 
-  pub name-is : {b : List ℕ} → 1 ≤ length s → length s ≤ 32 → b ≡ padded 32 (plain (stringOf ConnMan s)) → record { ok = true; length = length s; bytes = b } ≡ ssidAnswer (string ConnMan 1 32 s)
+  pub name-is : {b : List ℕ} → 1 ≤ length s → length s ≤ 32 → b ≡ padded 32 (orEmpty (stringOf ConnMan s)) → record { ok = true; length = length s; bytes = b } ≡ ssidAnswer (string ConnMan 1 32 s)
   unfolding string
   name-is h g q = rw (sized-inside 1 32 (some s) refl h g, q)

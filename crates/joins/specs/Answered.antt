@@ -6,8 +6,8 @@ use mathlib.Core.Bool.{Bool, true, false, cond, not, _&&_, _||_, true≢false}
 use mathlib.Core.List.{List}
 use mathlib.Core.Option.{Option, none, some, Option·none-ne-some}
 use Rattle.text.specs.Words.{word, same}
-use Rattle.text.specs.Options.{isSome, andThen, mapped, orElse, only, plain}
-use Rattle.text.specs.OptionLaws.{Holds, sized-some}
+use Rattle.text.specs.Options.{isSome, andThen, mapped, orElse, only, orEmpty}
+use Rattle.text.specs.OptionLaws.{IfSome, sized-some}
 use Rattle.text.specs.declared.Dialect.{Dialect}
 use Rattle.text.specs.declared.Dialect.the-variants as D
 use Rattle.utf8.specs.Utf8.{utf8From, text, valueText}
@@ -19,8 +19,11 @@ use Rattle.kinds.specs.Kinds as K
 use Rattle.kinds.specs.Kinds.{IPv4, dhcp, off, static, wordOf, ipv4, ssid, string}
 use Rattle.kinds.specs.Typed as T
 use Rattle.kinds.specs.Typed.{typed}
-use Rattle.addresses.specs.Laws.{address-bytes}
-use Rattle.kinds.specs.Values.{string-size, key-size, ssid-size, netmask-good, addresses-good, Ipv4Good, ipv4-good, text-bytes, string-text}
+use Rattle.addresses.specs.Laws.{address-bytes, addresses-good}
+use Rattle.utf8.specs.ByteLaws.{text-bytes}
+use Rattle.escapes.specs.TextLaws.{string-text}
+use Rattle.addresses.specs.MaskRuleLaws.{netmask-good}
+use Rattle.kinds.specs.ValueLaws.{string-size, pre-shared-key-size, ssid-size, Ipv4Good, ipv4-good}
 use Rattle.kinds.specs.declared.Kind.the-variants as Kind
 use Rattle.kinds.specs.declared.Word.{Word}
 use Rattle.kinds.specs.declared.Word.the-variants as W
@@ -56,34 +59,34 @@ good-passphrase d v h e =
     let s = string-size d 8 63 v e in
     record { low = s .0; high = s .1; text = string-text d v h (string-of d 8 63 v e) }
 
-good-key : (v : List ℕ) {k : List ℕ} → K.key v ≡ some k → GoodKey k
-good-key v e = let s = key-size v e in record { long = s .0; bytes = s .1 }
+good-key : (v : List ℕ) {k : List ℕ} → K.preSharedKey v ≡ some k → GoodKey k
+good-key v e = let s = pre-shared-key-size v e in record { long = s .0; bytes = s .1 }
 
 good-domain : (d : Dialect) (v : List ℕ) {t : List ℕ} → valueText v ≡ true → string d 1 253 v ≡ some t → GoodDomain t
 good-domain d v h e = record { high = string-size d 1 253 v e .1; text = string-text d v h (string-of d 1 253 v e) }
 
 -- ---- the parts of a record, of what is read
 
-secret-formed : (p k : Option (List ℕ)) → Holds GoodPassphrase p → Holds GoodKey k → GoodSecret (secretFrom p k)
+secret-formed : (p k : Option (List ℕ)) → IfSome GoodPassphrase p → IfSome GoodKey k → GoodSecret (secretFrom p k)
 secret-formed (some p) k g h = g
 secret-formed none (some k) g h = h
 secret-formed none none g h = tt
 
-static-formed : (a : Option (List ℕ)) (m : Option ℕ) (g : Option (List ℕ)) → Holds (λ x. isAddress x ≡ true) a →
-    Holds (λ n. (1 ≤ n) × (n ≤ 32)) m → Holds (λ x. isAddress x ≡ true) g → GoodIpv4 (staticOrDhcp a m g)
+static-formed : (a : Option (List ℕ)) (m : Option ℕ) (g : Option (List ℕ)) → IfSome (λ x. isAddress x ≡ true) a →
+    IfSome (λ n. (1 ≤ n) × (n ≤ 32)) m → IfSome (λ x. isAddress x ≡ true) g → GoodIpv4 (staticOrDhcp a m g)
 static-formed none m g x y z = tt
 static-formed (some a) none g x y z = record { address = x; low = omega arith; high = omega arith; gateway = z }
 static-formed (some a) (some n) g x y z = record { address = x; low = y .0; high = y .1; gateway = z }
 
-servers-formed : (o : Option (List (List ℕ))) → Holds GoodServers o → GoodServers (plain o)
+servers-formed : (o : Option (List (List ℕ))) → IfSome GoodServers o → GoodServers (orEmpty o)
 servers-formed none h = record { high = omega arith; addresses = refl }
 servers-formed (some l) h = h
 
-good-servers : (sep : Separator) (at : Option Entry) → GoodServers (plain (readAs (addresses sep) at))
+good-servers : (sep : Separator) (at : Option Entry) → GoodServers (orEmpty (readAs (addresses sep) at))
 good-servers sep at =
     servers-formed (readAs (addresses sep) at) (read-holds GoodServers (addresses sep) at (λ e q x r. let h = addresses-good sep (e .value) r in record { high = h .1; addresses = h .2 }))
 
-domain-formed : (o : Option (List ℕ)) → Holds GoodDomain o → GoodDomain (plain o)
+domain-formed : (o : Option (List ℕ)) → IfSome GoodDomain o → GoodDomain (orEmpty o)
 unfolding text utf8From
 domain-formed none h = record { high = omega arith; text = refl }
 domain-formed (some d) h = h
@@ -100,9 +103,9 @@ module _ (name file : List ℕ) {n m : ℕ} (a : reading D.Iwd name file ≡ Acc
   iwd-secret-formed : GoodSecret (iwdJoin (networkName (networkOf name)) (iwdEntry (sectionsOf D.Iwd file)) .credential)
   unfolding groupOf keysOf
   iwd-secret-formed =
-      secret-formed (readAs (K.passphrase D.Iwd) (iwdEntry (sectionsOf D.Iwd file) (word "Security") (word "Passphrase"))) (readAs K.key (iwdEntry (sectionsOf D.Iwd file) (word "Security") (word "PreSharedKey")))
+      secret-formed (readAs (K.passphrase D.Iwd) (iwdEntry (sectionsOf D.Iwd file) (word "Security") (word "Passphrase"))) (readAs K.preSharedKey (iwdEntry (sectionsOf D.Iwd file) (word "Security") (word "PreSharedKey")))
       (read-holds GoodPassphrase (K.passphrase D.Iwd) (iwdEntry (sectionsOf D.Iwd file) (word "Security") (word "Passphrase")) (λ e q x r. good-passphrase D.Iwd (e .value) (group-value D.Iwd name file a (word "Security") (word "Passphrase") refl refl q .text) r))
-      (read-holds GoodKey K.key (iwdEntry (sectionsOf D.Iwd file) (word "Security") (word "PreSharedKey")) (λ e q x r. good-key (e .value) r))
+      (read-holds GoodKey K.preSharedKey (iwdEntry (sectionsOf D.Iwd file) (word "Security") (word "PreSharedKey")) (λ e q x r. good-key (e .value) r))
 
   iwd-domain-formed : GoodDomain (iwdJoin (networkName (networkOf name)) (iwdEntry (sectionsOf D.Iwd file)) .domain)
   unfolding groupOf keysOf
@@ -110,7 +113,7 @@ module _ (name file : List ℕ) {n m : ℕ} (a : reading D.Iwd name file ≡ Acc
       domain-formed (readAs (string D.Iwd 1 253) (iwdEntry (sectionsOf D.Iwd file) (word "IPv4") (word "DomainName")))
       (read-holds GoodDomain (string D.Iwd 1 253) (iwdEntry (sectionsOf D.Iwd file) (word "IPv4") (word "DomainName")) (λ e q x r. good-domain D.Iwd (e .value) (group-value D.Iwd name file a (word "IPv4") (word "DomainName") refl refl q .text) r))
 
-address-formed : (at : Option Entry) → Holds (λ x. isAddress x ≡ true) (readAs address at)
+address-formed : (at : Option Entry) → IfSome (λ x. isAddress x ≡ true) (readAs address at)
 address-formed at = read-holds (λ (x : List ℕ). isAddress x ≡ true) address at (λ e q x r. address-bytes (e .value) r)
 
 iwd-ipv4-formed : (at : List ℕ → Option Entry) →
@@ -222,7 +225,7 @@ ipv4-formed dhcp h = tt
 ipv4-formed off h = tt
 ipv4-formed (static a n g) h = record { address = h .address; low = h .low; high = h .high; gateway = h .gateway }
 
-or-dhcp-formed : (o : Option IPv4) → Holds GoodIpv4 o → GoodIpv4 (ipv4OrDhcp o)
+or-dhcp-formed : (o : Option IPv4) → IfSome GoodIpv4 o → GoodIpv4 (ipv4OrDhcp o)
 or-dhcp-formed none h = tt
 or-dhcp-formed (some i) h = h
 

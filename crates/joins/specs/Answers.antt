@@ -5,12 +5,12 @@ use mathlib.Core.List.{List}
 use mathlib.Core.Option.{Option, none, some}
 use lib.ListN.{length, replicate}
 use Rattle.text.specs.Parts.{padded}
-use Rattle.text.specs.Options.{isSome, plain}
+use Rattle.text.specs.Options.{isSome, orEmpty}
 use Rattle.addresses.specs.Addresses.{noAddress}
 use Rattle.addresses.specs.declared.Address.{Address}
 use Rattle.kinds.specs.Kinds.{IPv4}
 use Rattle.kinds.specs.declared.Ipv4.{Ipv4}
-use Rattle.kinds.specs.declared.Key.{Key}
+use Rattle.kinds.specs.declared.PreSharedKey.{PreSharedKey}
 use Rattle.kinds.specs.declared.Ssid.{Ssid}
 use Rattle.kinds.specs.declared.Method.the-variants.{Dhcp, Static}
 use Rattle.settings.specs.declared.Choice.{Choice}
@@ -24,16 +24,16 @@ use Rattle.joins.specs.declared.Hindrance.{Hindrance}
 use Rattle.joins.specs.declared.Hindrance.the-variants as H
 
 abbrev pub phraseAnswer : Option (List ℕ) → Phrase
-phraseAnswer o = record { ok = isSome o; length = length (plain o); bytes = padded 63 (plain o) }
+phraseAnswer o = record { ok = isSome o; length = length (orEmpty o); bytes = padded 63 (orEmpty o) }
 
 abbrev pub domainAnswer : Option (List ℕ) → Domain
-domainAnswer o = record { length = length (plain o); bytes = padded 253 (plain o) }
+domainAnswer o = record { length = length (orEmpty o); bytes = padded 253 (orEmpty o) }
 
 abbrev pub loginAnswer : Secret → Login
 loginAnswer s = record { credential = credentialOf s; length = length (passphraseOf s); passphrase = padded 63 (passphraseOf s); key = keyOf s }
 
 -- the same by what was read of a passphrase and a key
-abbrev pub loginOf : Phrase → Key → Login
+abbrev pub loginOf : Phrase → PreSharedKey → Login
 loginOf p k =
     cond (p .ok) (record { credential = C.Passphrase; length = p .length; passphrase = p .bytes; key = replicate 32 0 })
     (cond (k .ok) (record { credential = C.Key; length = 0; passphrase = replicate 63 0; key = k .bytes })

@@ -9,11 +9,11 @@ use lib.ListN.{replicate}
 use Rattle.text.specs.Bytes.{isKeyByte, isPlain}
 use Rattle.text.specs.Words.{word}
 use Rattle.utf8.specs.Utf8.{follow, utf8From, text}
-use Rattle.escapes.specs.Escapes.{reading as unescaping}
+use Rattle.escapes.specs.Escapes.{unescapeFrom}
 use Rattle.hex.specs.Hex.{nibble, unhex}
-use Rattle.addresses.specs.Addresses.{value, number, address, prefixLength, lengthUpTo, maskLength, netmask, addresses}
-use Rattle.kinds.specs.Kinds.{IPv4, dhcp, static, flag, wordOf, ipv4, entries, colonPairs, mac, key, ssid, string}
-use Rattle.kinds.specs.Typed.{typed, stringJudged, kindJudged, judged}
+use Rattle.addresses.specs.Addresses.{decimalValue, number, address, prefixLength, lengthUpTo, maskLength, netmask, addresses}
+use Rattle.kinds.specs.Kinds.{IPv4, dhcp, static, flag, wordOf, ipv4, entries, colonPairs, mac, preSharedKey, ssid, string}
+use Rattle.kinds.specs.Typed.{typed, kindJudged, judged}
 use Rattle.lines.specs.Lines.{bracketOf, settingOf, lineOf, valueStart}
 use Rattle.names.specs.Names.{nameOf, networkOf}
 use Rattle.rules.specs.Tables.{isService, groupOf, keysOf}
@@ -73,7 +73,7 @@ abbrev iwdAnswer : IwdCase → Joined
 iwdAnswer c = c .2
 
 pub iwd-table : map ofIwd iwdCases ≡ map iwdAnswer iwdCases
-unfolding reading lineFault grown sectionsOf serviceFault fileFault fault withLine isService groupOf keysOf nameOf networkOf isKeyByte isPlain bracketOf settingOf lineOf valueStart typed stringJudged kindJudged judged flag wordOf ipv4 entries colonPairs mac key ssid string value number address prefixLength lengthUpTo maskLength netmask addresses nibble unhex unescaping follow utf8From text
+unfolding reading lineFault grown sectionsOf serviceFault fileFault fault withLine isService groupOf keysOf nameOf networkOf isKeyByte isPlain bracketOf settingOf lineOf valueStart typed kindJudged judged flag wordOf ipv4 entries colonPairs mac preSharedKey ssid string decimalValue number address prefixLength lengthUpTo maskLength netmask addresses nibble unhex unescapeFrom follow utf8From text
 iwd-table = refl
 
 -- ---- ConnMan
@@ -102,5 +102,5 @@ abbrev serviceAnswer : ServiceCase → Joined
 serviceAnswer c = c .2
 
 pub service-table : map ofService serviceCases ≡ map serviceAnswer serviceCases
-unfolding reading lineFault grown sectionsOf serviceFault fileFault fault withLine isService groupOf keysOf nameOf networkOf isKeyByte isPlain bracketOf settingOf lineOf valueStart typed stringJudged kindJudged judged flag wordOf ipv4 entries colonPairs mac key ssid string value number address prefixLength lengthUpTo maskLength netmask addresses nibble unhex unescaping follow utf8From text
+unfolding reading lineFault grown sectionsOf serviceFault fileFault fault withLine isService groupOf keysOf nameOf networkOf isKeyByte isPlain bracketOf settingOf lineOf valueStart typed kindJudged judged flag wordOf ipv4 entries colonPairs mac preSharedKey ssid string decimalValue number address prefixLength lengthUpTo maskLength netmask addresses nibble unhex unescapeFrom follow utf8From text
 service-table = refl

@@ -6,7 +6,7 @@ use mathlib.Core.List.{List, []}
 use mathlib.Core.Option.{Option, none, some}
 use lib.ListN.{replicate}
 use Rattle.text.specs.Words.{word}
-use Rattle.text.specs.Options.{only, orElse, plain}
+use Rattle.text.specs.Options.{only, orElse, orEmpty}
 use Rattle.text.specs.declared.Dialect.the-variants as D
 use Rattle.addresses.specs.Addresses.{noAddress}
 use Rattle.kinds.specs.Kinds.{IPv4, dhcp, static}
@@ -73,7 +73,7 @@ wordIpv6 o = cond (isWord W.Off o) Ipv6.Off Ipv6.Auto
 -- "SSID, if present, is the name and Name is ignored"
 abbrev pub nameFrom : Option (List ℕ) → Option (List ℕ) → List ℕ
 nameFrom (some s) n = s
-nameFrom none n = plain n
+nameFrom none n = orEmpty n
 
 -- ---- the record of an iwd file, at giving the setting with a key in the group with a name
 
@@ -97,8 +97,8 @@ iwdJoin name at =
       credential = iwdSecret (at (word "Security"));
       hidden = orFalse (groupValue G.Settings at (word "Hidden"));
       ipv4 = iwdIpv4 (at (word "IPv4"));
-      servers = plain (groupValue G.Ipv4 at (word "DNS"));
-      domain = plain (groupValue G.Ipv4 at (word "DomainName"));
+      servers = orEmpty (groupValue G.Ipv4 at (word "DNS"));
+      domain = orEmpty (groupValue G.Ipv4 at (word "DomainName"));
       ipv6 = enabledIpv6 (groupValue G.Ipv6 at (word "Enabled"));
     }
 
@@ -116,8 +116,8 @@ serviceJoin at =
       credential = secretFrom (value (word "Passphrase")) none;
       hidden = orFalse (value (word "Hidden"));
       ipv4 = ipv4OrDhcp (value (word "IPv4"));
-      servers = plain (value (word "Nameservers"));
-      domain = plain (value (word "Domain"));
+      servers = orEmpty (value (word "Nameservers"));
+      domain = orEmpty (value (word "Domain"));
       ipv6 = wordIpv6 (value (word "IPv6"));
     }
 

@@ -157,7 +157,7 @@ iwd-passphrase-kept name file {j} a {e} q =
     let at = iwdEntry (sectionsOf D.Iwd file) in
     let h = joined-good (asked (reading D.Iwd name file)) none (iwdJoin (networkName (networkOf name)) at) a in
     let r = asked-reading (reading D.Iwd name file) (h .0) in
-    kept D.Iwd (readAs K.key (at (word "Security") (word "PreSharedKey"))) (ap (λ (i : Join). i .credential) (sym (h .1))) q (group-value D.Iwd name file (r .1 .1) (word "Security") (word "Passphrase") refl refl q)
+    kept D.Iwd (readAs K.preSharedKey (at (word "Security") (word "PreSharedKey"))) (ap (λ (i : Join). i .credential) (sym (h .1))) q (group-value D.Iwd name file (r .1 .1) (word "Security") (word "Passphrase") refl refl q)
 
 -- a record that is answered, of a service with a Passphrase line
 pub passphrase-kept : (name file : List ℕ) (w : ℕ) {j : Join} → serviceJoined name file w ≡ joined j → {e : Entry} →

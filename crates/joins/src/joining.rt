@@ -1,7 +1,7 @@
 // A join record from its parts, by the rows of the table of places.
 ghost use mathlib.Core.Path.{_≡_};
 ghost use lib.ListN.{length};
-ghost use Rattle.text.specs.Options.{plain};
+ghost use Rattle.text.specs.Options.{orEmpty};
 ghost use Rattle.addresses.specs.Addresses.{addresses};
 ghost use Rattle.reader.specs.History.{base};
 ghost use Rattle.reader.specs.Closing.{bytesOf};
@@ -68,7 +68,7 @@ fn assemble(
 // The record of an accepted iwd file, which has count name servers.
 pub fn iwd_join(name: &[u8], file: &[u8], x: &[u16; 976], count: usize) -> JoinRecord
     requires rows { ⌜ IwdFileRows (now file) (now x) ⌝ }
-    requires counted { ⌜ count ≡ length (plain (addresses Separator.Spaces (bytesOf (now file) (now x) (base Group.Ipv4 0) KeyName.Dns))) ⌝ }
+    requires counted { ⌜ count ≡ length (orEmpty (addresses Separator.Spaces (bytesOf (now file) (now x) (base Group.Ipv4 0) KeyName.Dns))) ⌝ }
     ensures { λ r. ⌜ r ≡ laid (iwdJoin (networkName (networkOf (now (name .entry)))) (iwdEntry (sectionsOf Dialect.Iwd (now (file .entry))))) ⌝ }
 {
     let network = names::read_iwd_name(name);
@@ -94,7 +94,7 @@ pub fn iwd_join(name: &[u8], file: &[u8], x: &[u16; 976], count: usize) -> JoinR
 // The record of a service that has one, by its row, with count name servers.
 pub fn service_join(file: &[u8], x: &[u16; 976], row: usize, count: usize) -> JoinRecord
     requires kept { ⌜ RowOf Dialect.ConnMan (now file) (now x) row Group.Service ⌝ }
-    requires counted { ⌜ count ≡ length (plain (addresses Separator.Comma (bytesOf (now file) (now x) row KeyName.Nameservers))) ⌝ }
+    requires counted { ⌜ count ≡ length (orEmpty (addresses Separator.Comma (bytesOf (now file) (now x) row KeyName.Nameservers))) ⌝ }
     ensures { λ r. ⌜ Typed Dialect.ConnMan (now (file .entry)) (now (x .entry)) row Group.Service (λ at. laid (serviceJoin at)) r ⌝ }
 {
     let name = parts::service_name(file, x, row);

@@ -4,7 +4,7 @@ ghost use mathlib.Core.Option.{none};
 ghost use Prim.Native.Nat.{_<_};
 ghost use Rattle.escapes.specs.Strings.{stringOf, sizeOf};
 ghost use Rattle.addresses.specs.Addresses.{address, netmask};
-ghost use Rattle.kinds.specs.Kinds.{key, ssid, string, passphrase};
+ghost use Rattle.kinds.specs.Kinds.{ssid, string, passphrase, preSharedKey};
 ghost use Rattle.kinds.specs.Answers.{ssidAnswer};
 ghost use Rattle.reader.specs.Closing.{InTable, KeyIn, keySlot, bytesOf};
 ghost use Rattle.settings.specs.Values.{choiceBy};
@@ -20,8 +20,8 @@ use crate::Phrase;
 use addresses::Address;
 use escapes::Size;
 use kinds::Ipv4;
-use kinds::Key;
 use kinds::Method;
+use kinds::PreSharedKey;
 use kinds::Ssid;
 use kinds::Word;
 use reader::KeyName;
@@ -136,7 +136,7 @@ fn read_name(s: &[u8]) -> Ssid
 }
 
 // The credential: a passphrase wins over a key.
-fn login_of(phrase: Phrase, psk: Key) -> Login
+fn login_of(phrase: Phrase, psk: PreSharedKey) -> Login
     ensures { λ r. ⌜ r ≡ loginOf phrase psk ⌝ }
 {
     if phrase.ok {
@@ -169,7 +169,7 @@ fn login_of(phrase: Phrase, psk: Key) -> Login
 pub fn iwd_login(file: &[u8], x: &[u16; 976], row: usize) -> Login
     requires { ⌜ RowOf Dialect.Iwd (now file) (now x) row Group.Security ⌝ }
     ensures { λ r. ⌜ r ≡ loginAnswer (secretFrom (passphrase Dialect.Iwd (bytesOf (now (file .entry)) (now (x .entry)) row KeyName.IwdPassphrase))
-        (key (bytesOf (now (file .entry)) (now (x .entry)) row KeyName.PreSharedKey))) ⌝ }
+        (preSharedKey (bytesOf (now (file .entry)) (now (x .entry)) row KeyName.PreSharedKey))) ⌝ }
 {
     let phrase = read_phrase(Dialect::Iwd, value_of(file, x, row, KeyName::IwdPassphrase));
     let psk = values::key_at(file, x, row, KeyName::PreSharedKey);
@@ -187,7 +187,7 @@ pub fn service_login(file: &[u8], x: &[u16; 976], row: usize) -> Login
     );
     login_of(
         phrase,
-        Key {
+        PreSharedKey {
             ok: false,
             bytes: [0; 32],
         },

@@ -1,41 +1,41 @@
 -- Entries one by one: what the loop keeps, a turn, and its ends.
-use mathlib.Core.Path.{_≡_, refl, ap, ap₂, sym, _∙_}
-use mathlib.Core.Bool.{Bool, true, false, not, false≢true}
+use mathlib.Core.Path.{_≡_, refl, ap, sym, _∙_}
+use mathlib.Core.Bool.{Bool, true, false, not}
 use mathlib.Core.List.{List, [], _∷_, _++_, append-assoc}
-use mathlib.Core.Option.{Option, none, some}
-use Prim.Native.Nat.{ℕ, zero, suc, _+_, _-_, _≤_, _<_}
+use mathlib.Core.Option.{none, some}
+use Prim.Native.Nat.{ℕ, suc, _+_, _-_, _≤_, _<_}
 use native.Mathlib.Omega.{arith}
 use borrow.Author.Tests.{eqb-true, eqb-false, not-true, not-false}
 use lib.Dec.{eqb}
-use lib.ListN.{length, take, drop, set, replicate, length-append, length-drop}
+use lib.ListN.{length, drop, set, replicate, length-append, length-drop}
 use lib.Seq.{length-take-le}
 use Rattle.text.specs.Bytes.{other, isEntryByte}
 use Rattle.text.specs.Parts.{all, part, pieces, padded}
 use Rattle.text.specs.Options.{isSome, prepend, only, sized, each}
 use Rattle.text.specs.Laws.{inside, over, padded-set, pieces-some}
 use Rattle.text.specs.Relations.{Sized}
-use Rattle.text.specs.OptionLaws.{some-is, only-some, sized-is, is-sized, unsized}
+use Rattle.text.specs.OptionLaws.{some-is, none-is, only-some, sized-is, is-sized, unsized}
 use Rattle.text.specs.Scans.{Stop, stop-low, pieces-end, pieces-at}
-use Rattle.put.specs.Gathering.{ahead, ahead-none, each-append, sized-each}
+use Rattle.put.proofs.Gathering.{ahead, ahead-none, each-read-append, sized-each}
 use Rattle.kinds.specs.Kinds.{entry, entries}
 use Rattle.kinds.specs.Answers.{startsFrom, endsFrom, entriesAnswer}
 
 -- ---- the places of one entry more
 
 -- the place behind the comma after the entries es, the first of which starts at a
-abbrev behind : ℕ → List (List ℕ) → ℕ
-behind a [] = a
-behind a (e ∷ es) = behind (a + length e + 1) es
+abbrev behindEntries : ℕ → List (List ℕ) → ℕ
+behindEntries a [] = a
+behindEntries a (e ∷ es) = behindEntries (a + length e + 1) es
 
-starts-snoc : (a : ℕ) (es : List (List ℕ)) (p : List ℕ) → startsFrom a (es ++ (p ∷ [])) ≡ startsFrom a es ++ (behind a es ∷ [])
+starts-snoc : (a : ℕ) (es : List (List ℕ)) (p : List ℕ) → startsFrom a (es ++ (p ∷ [])) ≡ startsFrom a es ++ (behindEntries a es ∷ [])
 starts-snoc a [] p = refl
 starts-snoc a (e ∷ es) p = ap (λ (l : List ℕ). a ∷ l) (starts-snoc (a + length e + 1) es p)
 
-ends-snoc : (a : ℕ) (es : List (List ℕ)) (p : List ℕ) → endsFrom a (es ++ (p ∷ [])) ≡ endsFrom a es ++ ((behind a es + length p) ∷ [])
+ends-snoc : (a : ℕ) (es : List (List ℕ)) (p : List ℕ) → endsFrom a (es ++ (p ∷ [])) ≡ endsFrom a es ++ ((behindEntries a es + length p) ∷ [])
 ends-snoc a [] p = refl
 ends-snoc a (e ∷ es) p = ap (λ (l : List ℕ). (a + length e) ∷ l) (ends-snoc (a + length e + 1) es p)
 
-behind-snoc : (a : ℕ) (es : List (List ℕ)) (p : List ℕ) → behind a (es ++ (p ∷ [])) ≡ behind a es + length p + 1
+behind-snoc : (a : ℕ) (es : List (List ℕ)) (p : List ℕ) → behindEntries a (es ++ (p ∷ [])) ≡ behindEntries a es + length p + 1
 behind-snoc a [] p = refl
 behind-snoc a (e ∷ es) p = behind-snoc (a + length e + 1) es p
 
@@ -77,11 +77,7 @@ entry-is p {x} e k =
     a .1 ∙ sym (only-some (all isEntryByte p) (some p) (s .1) .1)
 
 entry-none : (p : List ℕ) {x : Bool} → x ≡ isSome (entry p) → not x ≡ true → entry p ≡ none
-entry-none p {x} e k = go (entry p) (sym e ∙ not-true x k)
-  where
-    go : (o : Option (List ℕ)) → isSome o ≡ false → o ≡ none
-    go none h = refl
-    go (some a) h = absurd (false≢true (sym h))
+entry-none p {x} e k = none-is (entry p) (sym e ∙ not-true x k)
 
 ahead-some : (l m : List (List ℕ)) → ahead l (some m) ≡ some (l ++ m)
 ahead-some [] m = refl
@@ -95,7 +91,7 @@ pub record Entering (b : ℕ) (s : List ℕ) (at n : ℕ) (starts ends : List �
   pub rest : pieces 44 s ≡ done ++ pieces 44 (drop at s)
   pub good : each entry done ≡ some done
   pub long : length done ≡ n
-  pub place : b + at ≡ behind b done
+  pub place : b + at ≡ behindEntries b done
   pub first : starts ≡ padded 4 (startsFrom b done)
   pub last : ends ≡ padded 4 (endsFrom b done)
 
@@ -120,14 +116,14 @@ module _ {b : ℕ} {s : List ℕ} {at n : ℕ} {starts ends : List ℕ} (h : Ent
 
     pub entering-broken : not x ≡ true → entries s ≡ none
     unfolding entries
-    entering-broken k = rw (h .rest, each-append entry (h .done) (pieces 44 (drop at s)), h .good, here .1, entry-none (part at e s) p k) (ap (sized 1 4) (ahead-none (h .done)))
+    entering-broken k = rw (h .rest, each-read-append entry (h .done) (pieces 44 (drop at s)), h .good, here .1, entry-none (part at e s) p k) (ap (sized 1 4) (ahead-none (h .done)))
 
     module _ (k : not x ≡ false) (l : n < 4) where
       size : b + at + length (part at e s) ≡ b + e
       size = let m : length (part at e s) ≡ e - at = length-take-le (e - at) (drop at s) (simp length-drop (omega (arith, t .within))) in omega (arith, m, stop-low t)
 
       good-more : each entry (h .done ++ (part at e s ∷ [])) ≡ some (h .done ++ (part at e s ∷ []))
-      good-more = each-append entry (h .done) (part at e s ∷ []) ∙ rw (h .good, entry-is (part at e s) p k) (ahead-some (h .done) (part at e s ∷ []))
+      good-more = each-read-append entry (h .done) (part at e s ∷ []) ∙ rw (h .good, entry-is (part at e s) p k) (ahead-some (h .done) (part at e s ∷ []))
 
       first-more : set starts n (b + at) ≡ padded 4 (startsFrom b (h .done ++ (part at e s ∷ [])))
       first-more = ap (λ (v : List ℕ). set v n (b + at)) (h .first) ∙ padded-set 4 (startsFrom b (h .done)) n (b + at) (starts-long b (h .done) ∙ h .long) l ∙ rw (starts-snoc b (h .done) (part at e s), ← h .place)

@@ -3,15 +3,15 @@ use mathlib.Core.Path.{_≡_, refl, ap, sym, _∙_}
 use mathlib.Core.Bool.{Bool, true, false, cond, not}
 use mathlib.Core.List.{List, [], _∷_}
 use mathlib.Core.Option.{Option, none, some}
-use Prim.Native.Nat.{ℕ, suc, _≤_, _<_}
+use Prim.Native.Nat.{ℕ, _≤_, _<_}
 use native.Mathlib.Omega.{arith}
-use borrow.Author.Tests.{le-leb, lt-leb}
+use borrow.Author.Tests.{le-leb}
 use lib.Dec.{eqb, leb, eqb·suc-zero}
 use lib.ListN.{length}
 use Rattle.text.specs.Bytes.{between}
 use Rattle.text.specs.Parts.{pieces}
-use Rattle.text.specs.Options.{isSome, mapped, sized, plain, each}
-use Rattle.text.specs.Laws.{inside, under, over, between-low}
+use Rattle.text.specs.Options.{isSome, mapped, sized, orEmpty, each}
+use Rattle.text.specs.Laws.{under, between-low}
 use Rattle.text.specs.OptionLaws.{sized-some}
 use Rattle.text.specs.declared.Dialect.{Dialect}
 use Rattle.text.specs.declared.Place.{Place}
@@ -23,12 +23,12 @@ use Rattle.addresses.specs.declared.Address.{Address}
 use Rattle.addresses.specs.declared.Netmask.{Netmask}
 use Rattle.addresses.specs.declared.Separator.{Separator}
 use Rattle.kinds.specs.Kinds as K
-use Rattle.kinds.specs.Typed.{Typed, typed, kindJudged, stringJudged, judged, byKind, bytes}
+use Rattle.kinds.specs.Typed.{Typed, typed, kindJudged, byKind, bytes}
 use Rattle.kinds.specs.Typed as T
 use Rattle.kinds.specs.Answers.{yesNo, namedWord, ipv4Answer, entriesAnswer, macAnswer, valueAt, judgementAt}
 use Rattle.kinds.specs.Judging.{keptAt, flagJudgement, wordJudgement, maskJudgement}
 use Rattle.kinds.specs.declared.Kind.{Kind}
-use Rattle.kinds.specs.declared.Kind.the-variants.{Flag, Named, Address as AddressKind, Netmask as NetmaskKind, Ipv4 as Ipv4Kind, Addresses, Entries as EntriesKind, Mac as MacKind, Key, Ssid, Passphrase, Text}
+use Rattle.kinds.specs.declared.Kind.the-variants.{Flag, Named, Address as AddressKind, Netmask as NetmaskKind, Ipv4 as Ipv4Kind, Addresses, Entries as EntriesKind, Mac as MacKind, PreSharedKey, Ssid, Passphrase, Text}
 use Rattle.kinds.specs.declared.WordList.{WordList}
 use Rattle.kinds.specs.declared.YesNo.{YesNo}
 use Rattle.kinds.specs.declared.NamedWord.{NamedWord}
@@ -36,7 +36,7 @@ use Rattle.kinds.specs.declared.Ipv4.{Ipv4}
 use Rattle.kinds.specs.declared.Entries.{Entries}
 use Rattle.kinds.specs.declared.Mac.{Mac}
 use Rattle.kinds.specs.declared.Judgement.{Judgement}
-use Rattle.kinds.specs.declared.Judgement.the-variants.{Good, BrokenText, BrokenKind}
+use Rattle.kinds.specs.declared.Judgement.the-variants.{BrokenText, BrokenKind}
 use Rattle.kinds.specs.declared.Value.the-variants as W
 
 -- ---- what an answer says of the reading
@@ -57,10 +57,10 @@ mac-ok none e = ap (λ (x : Mac). x .ok) e
 mac-ok (some a) e = ap (λ (x : Mac). x .ok) e
 
 -- a list of at least one has a count
-counted : (high : ℕ) (o : Option (List (List ℕ))) {n : ℕ} → n ≡ length (plain (sized 1 high o)) → not (eqb n 0) ≡ isSome (sized 1 high o)
+counted : (high : ℕ) (o : Option (List (List ℕ))) {n : ℕ} → n ≡ length (orEmpty (sized 1 high o)) → not (eqb n 0) ≡ isSome (sized 1 high o)
 counted high o e = go (sized 1 high o) refl e
   where
-    go : (q : Option (List (List ℕ))) → sized 1 high o ≡ q → {n : ℕ} → n ≡ length (plain q) → not (eqb n 0) ≡ isSome q
+    go : (q : Option (List (List ℕ))) → sized 1 high o ≡ q → {n : ℕ} → n ≡ length (orEmpty q) → not (eqb n 0) ≡ isSome q
     go none r e = rw e
     go (some []) r e = absurd (omega (arith, between-low {x = 0} 1 high (sized-some 1 high o r .0)))
     go (some (a ∷ l)) r e = rw (e, eqb·suc-zero (length l))
@@ -105,7 +105,7 @@ module _ (d : Dialect) (v : List ℕ) (p : Place) {k : Kind} {r : Judgement} whe
   unfolding kindJudged typed
   ipv4-kind q e h = rw q (h ∙ kept-is p T.ipv4 (λ a. refl) (K.ipv4 v) (ipv4-ok (K.ipv4 v) e))
 
-  pub addresses-kind : {sep : Separator} → k ≡ Addresses sep → {n : ℕ} → n ≡ length (plain (A.addresses sep v)) → r ≡ keptAt p (not (eqb n 0)) → r ≡ judgementAt p (kindJudged d k v)
+  pub addresses-kind : {sep : Separator} → k ≡ Addresses sep → {n : ℕ} → n ≡ length (orEmpty (A.addresses sep v)) → r ≡ keptAt p (not (eqb n 0)) → r ≡ judgementAt p (kindJudged d k v)
   unfolding kindJudged typed A.addresses
   addresses-kind {sep} q e h = rw q (h ∙ kept-is p T.addresses (λ a. refl) (A.addresses sep v) (counted 4 (each A.address (A.fields sep v)) e))
 
@@ -117,20 +117,20 @@ module _ (d : Dialect) (v : List ℕ) (p : Place) {k : Kind} {r : Judgement} whe
   unfolding kindJudged typed
   mac-kind q e h = rw q (h ∙ kept-is p T.bytes (λ a. refl) (K.mac v) (mac-ok (K.mac v) e))
 
-  pub key-kind : k ≡ Key → {x : Bool} → x ≡ isSome (K.key v) → r ≡ keptAt p x → r ≡ judgementAt p (kindJudged d k v)
+  pub key-kind : k ≡ PreSharedKey → {x : Bool} → x ≡ isSome (K.preSharedKey v) → r ≡ keptAt p x → r ≡ judgementAt p (kindJudged d k v)
   unfolding kindJudged typed
-  key-kind q e h = rw q (h ∙ kept-is p T.bytes (λ a. refl) (K.key v) e)
+  key-kind q e h = rw q (h ∙ kept-is p T.bytes (λ a. refl) (K.preSharedKey v) e)
 
   pub ssid-kind : k ≡ Ssid → {x : Bool} → x ≡ isSome (K.ssid v) → r ≡ keptAt p x → r ≡ judgementAt p (kindJudged d k v)
   unfolding kindJudged typed
   ssid-kind q e h = rw q (h ∙ kept-is p T.bytes (λ a. refl) (K.ssid v) e)
 
-  pub passphrase-kind : k ≡ Passphrase → r ≡ judgementAt p (stringJudged d 8 63 v) → r ≡ judgementAt p (kindJudged d k v)
-  unfolding kindJudged typed stringJudged
+  pub passphrase-kind : k ≡ Passphrase → r ≡ judgementAt p (kindJudged d (Text 8 63) v) → r ≡ judgementAt p (kindJudged d k v)
+  unfolding kindJudged typed
   passphrase-kind q h = rw q h
 
-  pub text-kind : {low high : ℕ} → k ≡ Text low high → r ≡ judgementAt p (stringJudged d low high v) → r ≡ judgementAt p (kindJudged d k v)
-  unfolding kindJudged typed stringJudged
+  pub text-kind : {low high : ℕ} → k ≡ Text low high → r ≡ judgementAt p (kindJudged d (Text low high) v) → r ≡ judgementAt p (kindJudged d k v)
+  unfolding kindJudged typed
   text-kind q h = rw q h
 
 -- ---- strings
@@ -140,13 +140,13 @@ module _ (d : Dialect) (low high : ℕ) (v : List ℕ) (p : Place) {y : Size} (e
   size-broken none h q = refl
   size-broken (some t) h q = let z : _≡_ {A = ℕ} 0 1 = cc in absurd (omega arith)
 
-  pub string-broken : y ≡ S.Broken → BrokenText ≡ judgementAt p (stringJudged d low high v)
-  unfolding stringJudged
+  pub string-broken : y ≡ S.Broken → BrokenText ≡ judgementAt p (kindJudged d (Text low high) v)
+  unfolding kindJudged typed
   string-broken q = rw (size-broken (stringOf d v) e q)
 
   module _ {n : ℕ} (q : y ≡ S.Long n) where
-    sized-is : {t : Bool} → between low high n ≡ t → judgementAt p (stringJudged d low high v) ≡ keptAt p t
-    unfolding K.string stringJudged
+    sized-is : {t : Bool} → between low high n ≡ t → judgementAt p (kindJudged d (Text low high) v) ≡ keptAt p t
+    unfolding K.string kindJudged typed
     sized-is {t} h = go (stringOf d v) e
       where
         go : (o : Option (List ℕ)) → y ≡ sizeOf o → judgementAt p (cond (not (isSome o)) T.brokenText (byKind (mapped bytes (sized low high o)))) ≡ keptAt p t
@@ -157,8 +157,8 @@ module _ (d : Dialect) (low high : ℕ) (v : List ℕ) (p : Place) {y : Size} (e
             last true = refl
             last false = refl
 
-    pub string-short : n < low → BrokenKind ≡ judgementAt p (stringJudged d low high v)
+    pub string-short : n < low → BrokenKind ≡ judgementAt p (kindJudged d (Text low high) v)
     string-short h = sym (sized-is (under {x = n} low high h))
 
-    pub string-long : low ≤ n → {r : Judgement} → r ≡ keptAt p (leb n high) → r ≡ judgementAt p (stringJudged d low high v)
+    pub string-long : low ≤ n → {r : Judgement} → r ≡ keptAt p (leb n high) → r ≡ judgementAt p (kindJudged d (Text low high) v)
     string-long h g = g ∙ sym (sized-is {t = leb n high} (rw (le-leb low n h)))

@@ -1,34 +1,27 @@
 -- ConnMan's IPv4: one law for each return of its readers.
 use mathlib.Core.Path.{_≡_, refl, ap, sym, _∙_}
-use mathlib.Core.Bool.{Bool, true, false, not, true≢false, false≢true}
+use mathlib.Core.Bool.{true, false, not, true≢false, false≢true}
 use mathlib.Core.List.{List, [], _∷_}
 use mathlib.Core.Option.{Option, none, some}
-use Prim.Native.Nat.{ℕ, _+_, _≤_, _<_}
+use Prim.Native.Nat.{ℕ, _+_, _≤_}
 use native.Mathlib.Omega.{arith}
 use borrow.Author.Tests.{not-true, not-false}
 use lib.ListN.{length, drop}
 use Rattle.text.specs.Bytes.{other}
 use Rattle.text.specs.Parts.{part, pieces}
-use Rattle.text.specs.Options.{andThen, orElse}
+use Rattle.text.specs.Options.{andThen}
 use Rattle.text.specs.Laws.{pieces-some}
 use Rattle.text.specs.Scans.{Stop, pieces-end, pieces-at}
 use Rattle.addresses.specs.Addresses.{address, netmask, prefixLength, addressAnswer, netmaskAnswer}
+use Rattle.addresses.proofs.Reading.{address-refused, address-read}
 use Rattle.addresses.specs.declared.Address.{Address}
 use Rattle.addresses.specs.declared.Netmask.{Netmask}
 use Rattle.addresses.specs.declared.Netmask.the-variants.{Length, Broken}
-use Rattle.kinds.specs.Kinds.{IPv4, static, lengthOf, staticOf}
+use Rattle.kinds.specs.Kinds.{IPv4, static, maskOrLength, staticOf}
 use Rattle.kinds.specs.Answers.{ipv4Answer}
 use Rattle.kinds.specs.declared.Ipv4.{Ipv4}
 
 -- ---- answers taken apart
-
-address-none : (o : Option (List ℕ)) {x : Address} → x ≡ addressAnswer o → not (x .ok) ≡ true → o ≡ none
-address-none none e k = refl
-address-none (some a) e k = absurd (true≢false (sym (ap (λ (x : Address). x .ok) e) ∙ not-true _ k))
-
-address-some : (o : Option (List ℕ)) {x : Address} → x ≡ addressAnswer o → not (x .ok) ≡ false → o ≡ some (x .bytes)
-address-some none e k = absurd (false≢true (sym (ap (λ (x : Address). x .ok) e) ∙ not-false _ k))
-address-some (some a) e k = ap some (sym (ap (λ (x : Address). x .bytes) e))
 
 length-none : (o : Option ℕ) {r : Netmask} → r ≡ netmaskAnswer o → r ≡ Broken → o ≡ none
 length-none none e k = refl
@@ -41,24 +34,24 @@ length-some (some m) e k = ap some (cc)
 -- ---- a mask or its length
 
 module _ (s : List ℕ) {r : Netmask} (h : r ≡ netmaskAnswer (prefixLength s)) where
-  pub length-first : {n : ℕ} → r ≡ Length n → Length n ≡ netmaskAnswer (lengthOf s)
+  pub length-first : {n : ℕ} → r ≡ Length n → Length n ≡ netmaskAnswer (maskOrLength s)
   length-first k = rw (length-some (prefixLength s) h k)
 
-  pub length-second : r ≡ Broken → {t : Netmask} → t ≡ netmaskAnswer (netmask s) → t ≡ netmaskAnswer (lengthOf s)
+  pub length-second : r ≡ Broken → {t : Netmask} → t ≡ netmaskAnswer (netmask s) → t ≡ netmaskAnswer (maskOrLength s)
   length-second k e = rw (length-none (prefixLength s) h k) e
 
 -- ---- an address and its mask
 
 module _ (a m : List ℕ) {x : Address} (h : x ≡ addressAnswer (address a)) where
   pub static-bad : not (x .ok) ≡ true → staticOf (a ∷ m ∷ []) ≡ none
-  static-bad k = rw (address-none (address a) h k)
+  static-bad k = rw (address-refused (address a) h k)
 
-  module _ (k : not (x .ok) ≡ false) {r : Netmask} (g : r ≡ netmaskAnswer (lengthOf m)) where
+  module _ (k : not (x .ok) ≡ false) {r : Netmask} (g : r ≡ netmaskAnswer (maskOrLength m)) where
     pub static-unsized : r ≡ Broken → staticOf (a ∷ m ∷ []) ≡ none
-    static-unsized e = rw (address-some (address a) h k, length-none (lengthOf m) g e)
+    static-unsized e = rw (address-read (address a) h k, length-none (maskOrLength m) g e)
 
     pub static-good : {n : ℕ} → r ≡ Length n → staticOf (a ∷ m ∷ []) ≡ some (static (x .bytes) n none)
-    static-good e = rw (address-some (address a) h k, length-some (lengthOf m) g e)
+    static-good e = rw (address-read (address a) h k, length-some (maskOrLength m) g e)
 
 -- ---- with a gateway, from what was read without it
 
@@ -85,14 +78,14 @@ good (some a) (some n) h k y = rw (ap (λ (r : Ipv4). r .address) h, ap (λ (r :
 
 module _ (a m g : List ℕ) {r : Ipv4} (h : r ≡ ipv4Answer (staticOf (a ∷ m ∷ []))) where
   pub routed-bad : not (r .ok) ≡ true → staticOf (a ∷ m ∷ g ∷ []) ≡ none
-  routed-bad k = bad (address a) (lengthOf m) (address g) h (not-true _ k)
+  routed-bad k = bad (address a) (maskOrLength m) (address g) h (not-true _ k)
 
   module _ (k : not (r .ok) ≡ false) {x : Address} (q : x ≡ addressAnswer (address g)) where
     pub routed-none : not (x .ok) ≡ true → staticOf (a ∷ m ∷ g ∷ []) ≡ none
-    routed-none e = rw (address-none (address g) q e) (unrouted (address a) (lengthOf m))
+    routed-none e = rw (address-refused (address g) q e) (unrouted (address a) (maskOrLength m))
 
     pub routed-good : not (x .ok) ≡ false → staticOf (a ∷ m ∷ g ∷ []) ≡ some (static (r .address) (r .length) (some (x .bytes)))
-    routed-good e = rw (address-some (address g) q e) (good (address a) (lengthOf m) h (not-false _ k) (x .bytes))
+    routed-good e = rw (address-read (address g) q e) (good (address a) (maskOrLength m) h (not-false _ k) (x .bytes))
 
 -- ---- the pieces between slashes
 

@@ -5,7 +5,7 @@ use mathlib.Core.List.{List, [], _∷_}
 use mathlib.Core.Option.{Option, none, some}
 use lib.ListN.{length, replicate}
 use Rattle.text.specs.Parts.{padded}
-use Rattle.text.specs.Options.{plain}
+use Rattle.text.specs.Options.{orEmpty}
 use Rattle.text.specs.declared.Place.{Place}
 use Rattle.addresses.specs.Addresses.{noAddress}
 use Rattle.kinds.specs.Kinds.{IPv4, dhcp, off, static}
@@ -20,7 +20,7 @@ use Rattle.kinds.specs.declared.Method.the-variants.{Dhcp, Off, Static}
 use Rattle.kinds.specs.declared.Ipv4.{Ipv4}
 use Rattle.kinds.specs.declared.Entries.{Entries}
 use Rattle.kinds.specs.declared.Mac.{Mac}
-use Rattle.kinds.specs.declared.Key.{Key}
+use Rattle.kinds.specs.declared.PreSharedKey.{PreSharedKey}
 use Rattle.kinds.specs.declared.Ssid.{Ssid}
 use Rattle.kinds.specs.declared.Value.{Value}
 use Rattle.kinds.specs.declared.Value.the-variants.{Flag, Mask, Word as WordValue, Text}
@@ -60,15 +60,15 @@ endsFrom at (e ∷ es) = (at + length e) ∷ endsFrom (at + length e + 1) es
 -- a list whose first entry starts at b
 abbrev pub entriesAnswer : ℕ → Option (List (List ℕ)) → Entries
 entriesAnswer b o =
-    record { count = length (plain o); starts = padded 4 (startsFrom b (plain o)); ends = padded 4 (endsFrom b (plain o)) }
+    record { count = length (orEmpty o); starts = padded 4 (startsFrom b (orEmpty o)); ends = padded 4 (endsFrom b (orEmpty o)) }
 
 abbrev pub macAnswer : Option (List ℕ) → Mac
 macAnswer none = record { ok = false; bytes = replicate 6 0 }
 macAnswer (some b) = record { ok = true; bytes = b }
 
-abbrev pub keyAnswer : Option (List ℕ) → Key
-keyAnswer none = record { ok = false; bytes = replicate 32 0 }
-keyAnswer (some b) = record { ok = true; bytes = b }
+abbrev pub preSharedKeyAnswer : Option (List ℕ) → PreSharedKey
+preSharedKeyAnswer none = record { ok = false; bytes = replicate 32 0 }
+preSharedKeyAnswer (some b) = record { ok = true; bytes = b }
 
 abbrev pub ssidAnswer : Option (List ℕ) → Ssid
 ssidAnswer none = record { ok = false; length = 0; bytes = replicate 32 0 }

@@ -1,30 +1,21 @@
--- What `mac`, `key` and `ssid` read is what their hex digits write.
+-- What `mac`, `preSharedKey` and `ssid` read is what their hex digits write.
 use Prim.Native.Nat.{ℕ, _+_, _*_}
 use native.Mathlib.Omega.{arith}
 use mathlib.Core.Path.{_≡_, refl, ap, _∙_, subst}
-use mathlib.Core.Bool.{_&&_}
 use mathlib.Core.List.{List, [], _∷_}
 use mathlib.Core.Option.{Option, some, Option·some-injective, Option·none-ne-some}
 use borrow.Author.Tests.{eqb-true}
-use lib.Dec.{eqb, ltb}
+use lib.Dec.{eqb}
 use lib.ListN.{length}
 use Rattle.text.specs.Options.{andThen, prepend}
 use Rattle.text.specs.OptionLaws.{only-some, then-some, is-sized, sized-then, prepend-some}
-use Rattle.hex.specs.Hex.{nibble, unhex}
+use Rattle.hex.specs.Hex.{pairByte, unhex}
 use Rattle.hex.specs.HexRules.{HexPair}
-use Rattle.hex.specs.HexRuleLaws.{pair-digits, digits-pair, unhex-writes, writes-unhex}
-use Rattle.kinds.specs.Kinds.{pair, colonPairs, pairs, mac, key, ssid}
+use Rattle.hex.specs.HexRuleLaws.{pair-is, is-pair, unhex-writes, writes-unhex}
+use Rattle.kinds.specs.Kinds.{colonPairs, pairs, mac, preSharedKey, ssid}
 use Rattle.kinds.specs.ValueRules.{ColonPairs, last, next, MacIs, PreSharedKeyIs, SsidIs}
 
 -- ---- pairs with colons
-
-pair-is : (a b : ℕ) {byte : ℕ} → pair a b ≡ some byte → HexPair a b byte
-pair-is a b {byte} e =
-    let o = only-some (ltb (nibble a) 16 && ltb (nibble b) 16) (some (nibble a * 16 + nibble b)) e in
-    subst (HexPair a b) (Option·some-injective (nibble a * 16 + nibble b) byte (o .1)) (digits-pair a b (o .0))
-
-is-pair : (a b : ℕ) {byte : ℕ} → HexPair a b byte → pair a b ≡ some byte
-is-pair a b h = let p = pair-digits h in rw (p .0) (ap some (p .1))
 
 colon-is : (a b byte : ℕ) (s : List ℕ) {t : List ℕ} → HexPair a b byte → colonPairs s ≡ some t →
     ColonPairs (a ∷ b ∷ s) (byte ∷ t)
@@ -34,8 +25,8 @@ colon-is a b byte [] {t} h e =
 colon-is a b byte (c ∷ []) {t} h e = absurd (Option·none-ne-some t e)
 colon-is a b byte (c ∷ x ∷ []) {t} h e = absurd (Option·none-ne-some t e)
 colon-is a b byte (c ∷ x ∷ y ∷ s) {t} h e =
-    let o = only-some (eqb c 58) (andThen (pair x y) (λ z. prepend z (colonPairs s))) e in
-    let z = then-some (pair x y) (λ z. prepend z (colonPairs s)) (o .1) in
+    let o = only-some (eqb c 58) (andThen (pairByte x y) (λ z. prepend z (colonPairs s))) e in
+    let z = then-some (pairByte x y) (λ z. prepend z (colonPairs s)) (o .1) in
     let u = prepend-some (z .0) (colonPairs s) (z .2) in
     let k = colon-is x y (z .0) s (pair-is x y (z .1)) (u .1) in
     rw (eqb-true c 58 (o .0), ← u .2) (next h k)
@@ -44,7 +35,7 @@ pairs-are : (v : List ℕ) {t : List ℕ} → pairs v ≡ some t → ColonPairs 
 pairs-are [] {t} e = absurd (Option·none-ne-some t e)
 pairs-are (a ∷ []) {t} e = absurd (Option·none-ne-some t e)
 pairs-are (a ∷ b ∷ s) {t} e =
-    let z = then-some (pair a b) (λ z. prepend z (colonPairs s)) e in
+    let z = then-some (pairByte a b) (λ z. prepend z (colonPairs s)) e in
     let u = prepend-some (z .0) (colonPairs s) (z .2) in
     subst (ColonPairs (a ∷ b ∷ s)) (u .2) (colon-is a b (z .0) s (pair-is a b (z .1)) (u .1))
 
@@ -78,13 +69,13 @@ pub is-mac : (v : List ℕ) {t : List ℕ} → MacIs v t → mac v ≡ some t
 unfolding mac
 is-mac v h = rw (is-sized 17 17 (some v) (h .size) refl) (are-pairs (h .pairs))
 
-pub key-is : (v : List ℕ) {t : List ℕ} → key v ≡ some t → PreSharedKeyIs v t
-unfolding key
-key-is v e = let h = sized-then 64 64 unhex v e in record { size = h .0; digits = unhex-writes v (h .1) }
+pub pre-shared-key-is : (v : List ℕ) {t : List ℕ} → preSharedKey v ≡ some t → PreSharedKeyIs v t
+unfolding preSharedKey
+pre-shared-key-is v e = let h = sized-then 64 64 unhex v e in record { size = h .0; digits = unhex-writes v (h .1) }
 
-pub is-key : (v : List ℕ) {t : List ℕ} → PreSharedKeyIs v t → key v ≡ some t
-unfolding key
-is-key v h = rw (is-sized 64 64 (some v) (h .size) refl) (writes-unhex (h .digits))
+pub is-pre-shared-key : (v : List ℕ) {t : List ℕ} → PreSharedKeyIs v t → preSharedKey v ≡ some t
+unfolding preSharedKey
+is-pre-shared-key v h = rw (is-sized 64 64 (some v) (h .size) refl) (writes-unhex (h .digits))
 
 pub ssid-is : (v : List ℕ) {t : List ℕ} → ssid v ≡ some t → SsidIs v t
 unfolding ssid

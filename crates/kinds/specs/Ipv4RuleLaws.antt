@@ -20,7 +20,7 @@ use Rattle.addresses.specs.Addresses.{address, netmask, prefixLength}
 use Rattle.addresses.specs.AddressRules.{NumberIs, AddressIs, MaskIs, LengthIs}
 use Rattle.addresses.specs.AddressRuleLaws.{address-is, is-address, prefix-is, is-prefix}
 use Rattle.addresses.specs.MaskRuleLaws.{netmask-is, is-netmask}
-use Rattle.kinds.specs.Kinds.{IPv4, dhcp, off, static, lengthOf, staticOf, ipv4}
+use Rattle.kinds.specs.Kinds.{IPv4, dhcp, off, static, maskOrLength, staticOf, ipv4}
 use Rattle.kinds.specs.ValueRules.{Ipv4Is, word-off, word-dhcp, without-gateway, with-gateway}
 
 -- ---- "mask or length"
@@ -28,7 +28,7 @@ use Rattle.kinds.specs.ValueRules.{Ipv4Is, word-off, word-dhcp, without-
 abbrev MaskOrLength : List ℕ → ℕ → Type 0
 MaskOrLength m n = MaskIs m n ⊎ LengthIs m n
 
-length-is : (m : List ℕ) {n : ℕ} → lengthOf m ≡ some n → MaskOrLength m n
+length-is : (m : List ℕ) {n : ℕ} → maskOrLength m ≡ some n → MaskOrLength m n
 length-is m {n} e = go (prefixLength m) refl e
   where
     go : (o : Option ℕ) → prefixLength m ≡ o → orElse o (netmask m) ≡ some n → MaskOrLength m n
@@ -45,7 +45,7 @@ digits-undotted m {k} {a} h g =
     one (x ∷ []) h e = omega arith
     one (x ∷ y ∷ a) h e = absurd (h .1)
 
-is-length : (m : List ℕ) {n : ℕ} → MaskOrLength m n → lengthOf m ≡ some n
+is-length : (m : List ℕ) {n : ℕ} → MaskOrLength m n → maskOrLength m ≡ some n
 is-length m (inr h) = rw (is-prefix m h)
 is-length m {n} (inl h) = go (prefixLength m) refl
   where
@@ -59,12 +59,12 @@ static-is : (v : List ℕ) (ps : List (List ℕ)) → Pieces 47 v ps → {i : IP
 static-is v [] p {i} e = absurd (Option·none-ne-some i e)
 static-is v (a ∷ []) p {i} e = absurd (Option·none-ne-some i e)
 static-is v (a ∷ m ∷ []) p {i} e =
-    let x = then-some (address a) (λ x. andThen (lengthOf m) (λ n. some (static x n none))) e in
-    let n = then-some (lengthOf m) (λ n. some (static (x .0) n none)) (x .2) in
+    let x = then-some (address a) (λ x. andThen (maskOrLength m) (λ n. some (static x n none))) e in
+    let n = then-some (maskOrLength m) (λ n. some (static (x .0) n none)) (x .2) in
     subst (Ipv4Is v) (Option·some-injective (static (x .0) (n .0) none) i (n .2)) (without-gateway p (address-is a (x .1)) (length-is m (n .1)))
 static-is v (a ∷ m ∷ g ∷ []) p {i} e =
-    let x = then-some (address a) (λ x. andThen (lengthOf m) (λ n. andThen (address g) (λ y. some (static x n (some y))))) e in
-    let n = then-some (lengthOf m) (λ n. andThen (address g) (λ y. some (static (x .0) n (some y)))) (x .2) in
+    let x = then-some (address a) (λ x. andThen (maskOrLength m) (λ n. andThen (address g) (λ y. some (static x n (some y))))) e in
+    let n = then-some (maskOrLength m) (λ n. andThen (address g) (λ y. some (static (x .0) n (some y)))) (x .2) in
     let y = then-some (address g) (λ y. some (static (x .0) (n .0) (some y))) (n .2) in
     subst (Ipv4Is v) (Option·some-injective (static (x .0) (n .0) (some (y .0))) i (y .2)) (with-gateway p (address-is a (x .1)) (length-is m (n .1)) (address-is g (y .1)))
 static-is v (a ∷ m ∷ g ∷ h ∷ t) p {i} e = absurd (Option·none-ne-some i e)

@@ -1,5 +1,4 @@
 -- The code's judgements by what each reader answers.
-use Prim.Native.Nat.{ℕ}
 use mathlib.Core.Bool.{Bool, cond}
 use Rattle.text.specs.declared.Place.{Place}
 use Rattle.addresses.specs.declared.Netmask.{Netmask}

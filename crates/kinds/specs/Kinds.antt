@@ -1,9 +1,9 @@
 -- The kinds of values, as document 01 lists them under "Settings and their kinds". Each reads a part of the file: none where the value breaks its kind.
-use Prim.Native.Nat.{ℕ, _+_, _*_}
-use mathlib.Core.Bool.{Bool, true, false, cond, _&&_}
+use Prim.Native.Nat.{ℕ}
+use mathlib.Core.Bool.{Bool, true, false, cond}
 use mathlib.Core.List.{List, [], _∷_}
 use mathlib.Core.Option.{Option, none, some}
-use lib.Dec.{eqb, ltb}
+use lib.Dec.{eqb}
 use Rattle.text.specs.Bytes.{isEntryByte}
 use Rattle.text.specs.Parts.{all, pieces}
 use Rattle.text.specs.Words.{word, same, named}
@@ -11,7 +11,7 @@ use Rattle.text.specs.Options.{andThen, orElse, only, sized, prepend, each}
 use Rattle.text.specs.declared.Dialect.{Dialect}
 use Rattle.text.specs.declared.Dialect.the-variants.{Iwd, ConnMan}
 use Rattle.escapes.specs.Strings.{stringOf}
-use Rattle.hex.specs.Hex.{nibble, unhex}
+use Rattle.hex.specs.Hex.{pairByte, unhex}
 use Rattle.addresses.specs.Addresses.{address, netmask, prefixLength}
 use Rattle.kinds.specs.declared.Word.{Word}
 use Rattle.kinds.specs.declared.Word.the-variants.{Wifi, Ethernet, Off, Auto, Disabled, Enabled, Preferred, Psk, Ieee8021x, None, Wep}
@@ -51,15 +51,15 @@ pub data IPv4 : Type 0 where
   static : List ℕ → ℕ → Option (List ℕ) → IPv4
 
 -- "address `/` mask or length (1 to 32, no leading zero), and optionally `/` gateway"
-abbrev pub lengthOf : List ℕ → Option ℕ
-lengthOf s = orElse (prefixLength s) (netmask s)
+abbrev pub maskOrLength : List ℕ → Option ℕ
+maskOrLength s = orElse (prefixLength s) (netmask s)
 
 abbrev pub staticOf : List (List ℕ) → Option IPv4
 staticOf [] = none
 staticOf (a ∷ []) = none
-staticOf (a ∷ m ∷ []) = andThen (address a) (λ x. andThen (lengthOf m) (λ n. some (static x n none)))
+staticOf (a ∷ m ∷ []) = andThen (address a) (λ x. andThen (maskOrLength m) (λ n. some (static x n none)))
 staticOf (a ∷ m ∷ g ∷ []) =
-    andThen (address a) (λ x. andThen (lengthOf m) (λ n. andThen (address g) (λ y. some (static x n (some y)))))
+    andThen (address a) (λ x. andThen (maskOrLength m) (λ n. andThen (address g) (λ y. some (static x n (some y)))))
 staticOf (a ∷ m ∷ g ∷ h ∷ t) = none
 
 -- "ConnMan IPv4 is `off`, `dhcp`, or" those
@@ -78,29 +78,25 @@ entries s = sized 1 4 (each entry (pieces 44 s))
 
 -- ---- hex
 
--- two hex digits as a byte
-abbrev pub pair : ℕ → ℕ → Option ℕ
-pair a b = only (ltb (nibble a) 16 && ltb (nibble b) 16) (some (nibble a * 16 + nibble b))
-
 -- a colon and a pair, again and again
 unfoldable pub colonPairs : List ℕ → Option (List ℕ)
 colonPairs [] = some []
 colonPairs (c ∷ []) = none
 colonPairs (c ∷ a ∷ []) = none
-colonPairs (c ∷ a ∷ b ∷ s) = only (eqb c 58) (andThen (pair a b) (λ x. prepend x (colonPairs s)))
+colonPairs (c ∷ a ∷ b ∷ s) = only (eqb c 58) (andThen (pairByte a b) (λ x. prepend x (colonPairs s)))
 
 abbrev pub pairs : List ℕ → Option (List ℕ)
 pairs [] = none
 pairs (a ∷ []) = none
-pairs (a ∷ b ∷ s) = andThen (pair a b) (λ x. prepend x (colonPairs s))
+pairs (a ∷ b ∷ s) = andThen (pairByte a b) (λ x. prepend x (colonPairs s))
 
 -- "A MAC is 17 bytes, six pairs of hex digits with colons."
 unfoldable pub mac : List ℕ → Option (List ℕ)
 mac s = andThen (sized 17 17 (some s)) pairs
 
 -- "PreSharedKey (64 hex digits)"
-unfoldable pub key : List ℕ → Option (List ℕ)
-key s = andThen (sized 64 64 (some s)) unhex
+unfoldable pub preSharedKey : List ℕ → Option (List ℕ)
+preSharedKey s = andThen (sized 64 64 (some s)) unhex
 
 -- "SSID (2 to 64 hex digits, an even count)"
 unfoldable pub ssid : List ℕ → Option (List ℕ)

@@ -1,12 +1,15 @@
+-- What to read beside document 01: "Settings and their kinds", said twice
 pub mod Kinds
 pub mod Typed
 pub mod ValueRules
+pub mod Cases
+-- The laws
+pub mod WordRuleLaws
+pub mod HexValueLaws
+pub mod Ipv4RuleLaws
+pub mod ValueRuleLaws
+pub mod ValueLaws
+pub mod Written
+-- For the proofs only: the definitions laid out in the code's types, and what its private steps answer
 pub mod Answers
 pub mod Judging
-pub mod Cases
-pub mod Values
-pub mod Written
-pub mod WordRuleLaws
-pub mod Ipv4RuleLaws
-pub mod HexValueLaws
-pub mod ValueRuleLaws

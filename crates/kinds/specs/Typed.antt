@@ -1,6 +1,6 @@
 -- What a value is once it is read by its kind, and how a value is judged: refusal 11 before refusal 12.
 use Prim.Native.Nat.{ℕ}
-use mathlib.Core.Bool.{Bool, true, false, cond, not}
+use mathlib.Core.Bool.{Bool, false, cond, not}
 use mathlib.Core.List.{List}
 use mathlib.Core.Option.{Option, none, some}
 use Rattle.text.specs.Options.{isSome, mapped}
@@ -12,7 +12,7 @@ use Rattle.kinds.specs.Kinds as K
 use Rattle.kinds.specs.Kinds.{IPv4}
 use Rattle.kinds.specs.declared.Word.{Word}
 use Rattle.kinds.specs.declared.Kind.{Kind}
-use Rattle.kinds.specs.declared.Kind.the-variants.{Flag, Named, Address, Netmask, Ipv4, Addresses, Entries, Mac, Key, Ssid, Passphrase, Text}
+use Rattle.kinds.specs.declared.Kind.the-variants.{Flag, Named, Address, Netmask, Ipv4, Addresses, Entries, Mac, PreSharedKey, Ssid, Passphrase, Text}
 
 -- a typed value
 pub data Typed : Type 0 where
@@ -35,7 +35,7 @@ typed d Ipv4 v = mapped ipv4 (K.ipv4 v)
 typed d (Addresses sep) v = mapped addresses (A.addresses sep v)
 typed d Entries v = mapped entries (K.entries v)
 typed d Mac v = mapped bytes (K.mac v)
-typed d Key v = mapped bytes (K.key v)
+typed d PreSharedKey v = mapped bytes (K.preSharedKey v)
 typed d Ssid v = mapped bytes (K.ssid v)
 typed d Passphrase v = mapped bytes (K.passphrase d v)
 typed d (Text low high) v = mapped bytes (K.string d low high v)
@@ -53,7 +53,7 @@ stringBroken d Ipv4 v = false
 stringBroken d (Addresses sep) v = false
 stringBroken d Entries v = false
 stringBroken d Mac v = false
-stringBroken d Key v = false
+stringBroken d PreSharedKey v = false
 stringBroken d Ssid v = false
 stringBroken d Passphrase v = escapesBroken d v
 stringBroken d (Text low high) v = escapesBroken d v
@@ -69,9 +69,6 @@ byKind none = brokenKind
 byKind (some t) = good t
 
 -- by its kind, where its text is good so far
-unfoldable pub stringJudged : Dialect → ℕ → ℕ → List ℕ → Judged
-stringJudged d low high v = cond (escapesBroken d v) brokenText (byKind (mapped bytes (K.string d low high v)))
-
 unfoldable pub kindJudged : Dialect → Kind → List ℕ → Judged
 kindJudged d k v = cond (stringBroken d k v) brokenText (byKind (typed d k v))
 

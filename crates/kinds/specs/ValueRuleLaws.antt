@@ -25,10 +25,10 @@ use Rattle.kinds.specs.Kinds as D
 use Rattle.kinds.specs.Typed as T
 use Rattle.kinds.specs.Typed.{Typed, typed, escapesBroken, stringBroken}
 use Rattle.kinds.specs.ValueRules as R
-use Rattle.kinds.specs.ValueRules.{Entry, EntriesAre, TextIs, ValueIs, IsString, WholeText}
+use Rattle.kinds.specs.ValueRules.{EntryIs, EntriesAre, TextIs, ValueIs, IsString, WholeText}
 use Rattle.kinds.specs.WordRuleLaws.{flag-means, means-flag, word-means, means-word}
 use Rattle.kinds.specs.Ipv4RuleLaws.{ipv4-is, is-ipv4}
-use Rattle.kinds.specs.HexValueLaws.{mac-is, is-mac, key-is, is-key, ssid-is, is-ssid}
+use Rattle.kinds.specs.HexValueLaws.{mac-is, is-mac, pre-shared-key-is, is-pre-shared-key, ssid-is, is-ssid}
 use Rattle.kinds.specs.declared.Kind.{Kind}
 use Rattle.kinds.specs.declared.Kind.the-variants as K
 
@@ -36,7 +36,7 @@ use Rattle.kinds.specs.declared.Kind.the-variants as K
 
 -- an entry is read as it stands
 abbrev AsItStands : List ℕ → List ℕ → Type 0
-AsItStands p e = (p ≡ e) × Entry e
+AsItStands p e = (p ≡ e) × EntryIs e
 
 entry-is : (p e : List ℕ) → D.entry p ≡ some e → AsItStands p e
 entry-is p e i =
@@ -48,13 +48,13 @@ entry-is p e i =
 is-entry : (p e : List ℕ) → AsItStands p e → D.entry p ≡ some e
 is-entry p e h = is-sized 1 253 (only (all isEntryByte p) (some p)) (h .1 .size) (rw (h .0, h .1 .bytes))
 
-read-as : (ps l : List (List ℕ)) → Pairwise AsItStands ps l → (ps ≡ l) × Each Entry l
+read-as : (ps l : List (List ℕ)) → Pairwise AsItStands ps l → (ps ≡ l) × Each EntryIs l
 read-as [] [] h = (refl, tt)
 read-as [] (e ∷ l) h = absurd h
 read-as (p ∷ ps) [] h = absurd h
 read-as (p ∷ ps) (e ∷ l) h = let k = read-as ps l (h .1) in (ap₂ _∷_ (h .0 .0) (k .0), (h .0 .1, k .1))
 
-as-read : (l : List (List ℕ)) → Each Entry l → Pairwise AsItStands l l
+as-read : (l : List (List ℕ)) → Each EntryIs l → Pairwise AsItStands l l
 as-read [] h = tt
 as-read (e ∷ l) h = ((refl, h .0), as-read l (h .1))
 
@@ -101,7 +101,7 @@ typed-value d (K.Addresses sep) v e =
     given d (K.Addresses sep) v T.addresses (addresses sep v) (λ l q. R.addresses (addresses-is sep v q)) e
 typed-value d K.Entries v e = given d K.Entries v T.entries (D.entries v) (λ l q. R.entries (entries-are v q)) e
 typed-value d K.Mac v e = given d K.Mac v T.bytes (D.mac v) (λ b q. R.mac (mac-is v q)) e
-typed-value d K.Key v e = given d K.Key v T.bytes (D.key v) (λ b q. R.key (key-is v q)) e
+typed-value d K.PreSharedKey v e = given d K.PreSharedKey v T.bytes (D.preSharedKey v) (λ b q. R.preSharedKey (pre-shared-key-is v q)) e
 typed-value d K.Ssid v e = given d K.Ssid v T.bytes (D.ssid v) (λ b q. R.ssid (ssid-is v q)) e
 typed-value d K.Passphrase v e =
     given d K.Passphrase v T.bytes (D.passphrase d v) (λ b q. R.passphrase (text-is d 8 63 v q)) e
@@ -118,7 +118,7 @@ value-typed d k v (R.ipv4 h) = ap (mapped T.ipv4) (is-ipv4 v h)
 value-typed d k v (R.addresses {sep} h) = ap (mapped T.addresses) (is-addresses sep v h)
 value-typed d k v (R.entries h) = ap (mapped T.entries) (are-entries v h)
 value-typed d k v (R.mac h) = ap (mapped T.bytes) (is-mac v h)
-value-typed d k v (R.key h) = ap (mapped T.bytes) (is-key v h)
+value-typed d k v (R.preSharedKey h) = ap (mapped T.bytes) (is-pre-shared-key v h)
 value-typed d k v (R.ssid h) = ap (mapped T.bytes) (is-ssid v h)
 value-typed d k v (R.passphrase h) = ap (mapped T.bytes) (is-text d 8 63 v h)
 value-typed d k v (R.text {low} {high} h) = ap (mapped T.bytes) (is-text d low high v h)
@@ -145,7 +145,7 @@ string-whole d K.Ipv4 v e h = absurd h
 string-whole d (K.Addresses sep) v e h = absurd h
 string-whole d K.Entries v e h = absurd h
 string-whole d K.Mac v e h = absurd h
-string-whole d K.Key v e h = absurd h
+string-whole d K.PreSharedKey v e h = absurd h
 string-whole d K.Ssid v e h = absurd h
 string-whole d K.Passphrase v e h = escapes-whole d v e
 string-whole d (K.Text low high) v e h = escapes-whole d v e
@@ -182,7 +182,7 @@ whole-unbroken d K.Ipv4 v w = refl
 whole-unbroken d (K.Addresses sep) v w = refl
 whole-unbroken d K.Entries v w = refl
 whole-unbroken d K.Mac v w = refl
-whole-unbroken d K.Key v w = refl
+whole-unbroken d K.PreSharedKey v w = refl
 whole-unbroken d K.Ssid v w = refl
 whole-unbroken d K.Passphrase v w = whole-escapes d v (w .escapes tt)
 whole-unbroken d (K.Text low high) v w = whole-escapes d v (w .escapes tt)

@@ -14,7 +14,7 @@ use Rattle.text.specs.Relations.{Each, Some, Sized}
 use Rattle.text.specs.Words.{word}
 use Rattle.text.specs.declared.Dialect.{Dialect}
 use Rattle.text.specs.declared.Dialect.the-variants.{Iwd, ConnMan}
-use Rattle.utf8.specs.WellFormed.{WellFormed}
+use Rattle.utf8.specs.WellFormed.{WellFormedUtf8}
 use Rattle.escapes.specs.StringRules.{StringIs}
 use Rattle.hex.specs.HexRules.{HexPair, Hex}
 use Rattle.addresses.specs.AddressRules.{AddressIs, MaskIs, LengthIs, AddressesIs}
@@ -65,14 +65,14 @@ pub data Ipv4Is (v : List ℕ) : IPv4 → Type 0 where
 -- ---- lists of entries
 
 -- "entries of 1 to 253 bytes without comma, space or tab"
-pub record Entry (p : List ℕ) : Type 0 where
+pub record EntryIs (p : List ℕ) : Type 0 where
   pub size : Sized 1 253 p
   pub bytes : all isEntryByte p ≡ true
 
 -- "SearchDomains and Timeservers (1 to 4 entries .., one comma between)"
 pub record EntriesAre (v : List ℕ) (l : List (List ℕ)) : Type 0 where
   pub commas : Pieces 44 v l
-  pub each : Each Entry l
+  pub each : Each EntryIs l
   pub count : Sized 1 4 l
 
 -- ---- hex
@@ -117,7 +117,7 @@ pub data ValueIs (d : Dialect) : Kind → List ℕ → Typed → Type 0 where
       → AddressesIs sep v l → ValueIs d (K.Addresses sep) v (T.addresses l)
   entries : {v : List ℕ} {l : List (List ℕ)} → EntriesAre v l → ValueIs d K.Entries v (T.entries l)
   mac : {v bytes : List ℕ} → MacIs v bytes → ValueIs d K.Mac v (T.bytes bytes)
-  key : {v bytes : List ℕ} → PreSharedKeyIs v bytes → ValueIs d K.Key v (T.bytes bytes)
+  preSharedKey : {v bytes : List ℕ} → PreSharedKeyIs v bytes → ValueIs d K.PreSharedKey v (T.bytes bytes)
   ssid : {v bytes : List ℕ} → SsidIs v bytes → ValueIs d K.Ssid v (T.bytes bytes)
   -- "Passphrase (string, 8 to 63 bytes after unescaping)"
   passphrase : {v bytes : List ℕ} → TextIs d 8 63 v bytes → ValueIs d K.Passphrase v (T.bytes bytes)
@@ -135,7 +135,7 @@ IsString K.Ipv4 = ⊥
 IsString (K.Addresses sep) = ⊥
 IsString K.Entries = ⊥
 IsString K.Mac = ⊥
-IsString K.Key = ⊥
+IsString K.PreSharedKey = ⊥
 IsString K.Ssid = ⊥
 IsString K.Passphrase = Unit
 IsString (K.Text low high) = Unit
@@ -143,7 +143,7 @@ IsString (K.Text low high) = Unit
 -- "Value text is broken (11) if it is not UTF-8, holds byte 0 or byte 13, or, for an iwd string, has a backslash not
 -- beginning one of the five escapes.": text that is not broken
 pub record WholeText (d : Dialect) (kind : Kind) (v : List ℕ) : Type 0 where
-  pub encoded : WellFormed v
+  pub encoded : WellFormedUtf8 v
   pub no-zero : all (other 0) v ≡ true
   pub no-return : all (other 13) v ≡ true
   pub escapes : IsString kind → (bytes : List ℕ) × StringIs d v bytes

@@ -8,7 +8,7 @@ use mathlib.Core.Option.{some}
 use borrow.Author.Tests.{eqb-true}
 use lib.Dec.{eqb}
 use lib.ListN.{length}
-use Rattle.text.specs.Bytes.{between, inLine, isBlank, isDigit, isLowerHex}
+use Rattle.text.specs.Bytes.{isByte, between, inLine, isBlank, isDigit, isLowerHex}
 use Rattle.text.specs.Parts.{all, after, empty}
 use Rattle.text.specs.Laws.{inside, between-low, between-high, pass-other, all-cons, all-weaken, all-other}
 use Rattle.text.specs.OptionLaws.{is-sized}
@@ -17,24 +17,24 @@ use Rattle.utf8.specs.Utf8.{text, valueText, recordText}
 use Rattle.utf8.specs.Laws.{isPrintable, text-printable}
 use Rattle.escapes.specs.Escapes.{escape}
 use Rattle.escapes.specs.Laws.{unescape-escape, escape-line, escape-start}
-use Rattle.escapes.specs.Text.{escape-text}
-use Rattle.hex.specs.Hex.{hex, isByte}
+use Rattle.escapes.specs.TextLaws.{escape-text}
+use Rattle.hex.specs.Hex.{hex}
 use Rattle.hex.specs.Laws.{unhex-hex, hex-lower, hex-length}
-use Rattle.addresses.specs.Addresses.{isAddress, areAddresses, dotted, behind, listed, isListByte}
+use Rattle.addresses.specs.Addresses.{isAddress, areAddresses, dotted, withSeparators, listed, isListByte}
 use Rattle.addresses.specs.Laws.{are-cons}
 use Rattle.addresses.specs.Written.{dotted-bytes, dotted-some, listed-bytes}
 use Rattle.addresses.specs.declared.Separator.the-variants.{Spaces}
-use Rattle.kinds.specs.Kinds.{key, string}
+use Rattle.kinds.specs.Kinds.{preSharedKey, string}
 
 -- a value's text that stands behind the `=` of a line: no byte 10 in it, and no blank in front
-pub record Stands (v : List ℕ) : Type 0 where
+pub record StandsOnLine (v : List ℕ) : Type 0 where
   pub text : valueText v ≡ true
   pub line : all inLine v ≡ true
   pub start : after isBlank v ≡ v
 
 -- ---- strings
 
-pub escape-stands : (t : List ℕ) → recordText t ≡ true → Stands (escape t)
+pub escape-stands : (t : List ℕ) → recordText t ≡ true → StandsOnLine (escape t)
 escape-stands t h = record { text = escape-text t ∙ h; line = escape-line t; start = escape-start t }
 
 pub string-escape : (low high : ℕ) (t : List ℕ) → low ≤ length t → length t ≤ high →
@@ -44,7 +44,7 @@ string-escape low high t h g = rw (unescape-escape t, inside {x = length t} low 
 
 -- ---- printable bytes
 
-pub printable-stands : (v : List ℕ) → all isPrintable v ≡ true → after isBlank v ≡ v → Stands v
+pub printable-stands : (v : List ℕ) → all isPrintable v ≡ true → after isBlank v ≡ v → StandsOnLine v
 printable-stands v h s = record { text = text-printable true v h; line = all-other isPrintable 10 refl v h; start = s }
 
 -- bytes none of which is a blank, alone and in front of others
@@ -71,14 +71,14 @@ lower-printable x h = go (isDigit x) refl h
     go false e f =
         inside {x = x} 32 126 (omega (arith, between-low {x = x} 97 102 f)) (omega (arith, between-high {x = x} 97 102 f))
 
-pub hex-stands : (t : List ℕ) → all isByte t ≡ true → Stands (hex t)
+pub hex-stands : (t : List ℕ) → all isByte t ≡ true → StandsOnLine (hex t)
 hex-stands t b =
     let h = hex-lower t b in
     printable-stands (hex t) (all-weaken isLowerHex isPrintable lower-printable (hex t) h) (start-whole isLowerHex refl refl (hex t) h)
 
-pub key-hex : (k : List ℕ) → length k ≡ 32 → all isByte k ≡ true → key (hex k) ≡ some k
-unfolding key
-key-hex k n b =
+pub pre-shared-key-hex : (k : List ℕ) → length k ≡ 32 → all isByte k ≡ true → preSharedKey (hex k) ≡ some k
+unfolding preSharedKey
+pre-shared-key-hex k n b =
     let l = hex-length k in
     rw (is-sized 64 64 (some (hex k)) (record { least = omega arith; most = omega arith }) refl, unhex-hex k b)
 
@@ -88,7 +88,7 @@ dotted-printable : (x : ℕ) → between 46 57 x ≡ true → isPrintable x ≡ 
 dotted-printable x h =
     inside {x = x} 32 126 (omega (arith, between-low {x = x} 46 57 h)) (omega (arith, between-high {x = x} 46 57 h))
 
-pub dotted-stands : (a : List ℕ) → isAddress a ≡ true → Stands (dotted a)
+pub dotted-stands : (a : List ℕ) → isAddress a ≡ true → StandsOnLine (dotted a)
 dotted-stands a w =
     let h = dotted-bytes a w in
     printable-stands (dotted a) (all-weaken (between 46 57) isPrintable dotted-printable (dotted a) h) (start-whole (between 46 57) refl refl (dotted a) h)
@@ -100,7 +100,7 @@ list-printable x h = go (eqb x 32) refl h
     go true e f = inside {x = x} 32 126 (omega (arith, eqb-true x 32 e)) (omega (arith, eqb-true x 32 e))
     go false e f = dotted-printable x f
 
-pub listed-stands : (l : List (List ℕ)) → areAddresses l ≡ true → Stands (listed Spaces l)
+pub listed-stands : (l : List (List ℕ)) → areAddresses l ≡ true → StandsOnLine (listed Spaces l)
 listed-stands l w =
     printable-stands (listed Spaces l) (all-weaken (isListByte Spaces) isPrintable list-printable (listed Spaces l) (listed-bytes Spaces l w)) (start l w)
   where
@@ -108,4 +108,4 @@ listed-stands l w =
     start [] w = refl
     start (a ∷ l) w =
         let h = are-cons a l w .0 in
-        start-append (between 46 57) refl refl (dotted a) (behind Spaces l) (dotted-some a h) (dotted-bytes a h)
+        start-append (between 46 57) refl refl (dotted a) (withSeparators Spaces l) (dotted-some a h) (dotted-bytes a h)

@@ -5,7 +5,7 @@ ghost use mathlib.Core.List.{[], _∷_};
 ghost use mathlib.Core.Option.{none};
 ghost use Rattle.addresses.specs.Addresses.{noAddress, netmaskAnswer};
 ghost use Rattle.text.specs.Parts.{pieces};
-ghost use Rattle.kinds.specs.Kinds.{lengthOf, staticOf, ipv4};
+ghost use Rattle.kinds.specs.Kinds.{maskOrLength, staticOf, ipv4};
 ghost use Rattle.kinds.specs.Answers.{ipv4Answer};
 use crate::Ipv4;
 use crate::Method;
@@ -35,7 +35,7 @@ fn no_ipv4() -> Ipv4
 
 // A mask's length: a number of 1 to 32, or a mask.
 fn read_length(s: &[u8]) -> Netmask
-    ensures { λ r. ⌜ r ≡ netmaskAnswer (lengthOf (now (s .entry))) ⌝ }
+    ensures { λ r. ⌜ r ≡ netmaskAnswer (maskOrLength (now (s .entry))) ⌝ }
 {
     let n = addresses::masks::read_prefix_length(s);
     match n {

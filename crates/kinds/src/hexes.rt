@@ -2,10 +2,10 @@
 ghost use mathlib.Core.Path.{_≡_};
 ghost use mathlib.Core.Option.{none};
 ghost use Rattle.text.specs.Options.{isSome};
-ghost use Rattle.kinds.specs.Kinds.{mac, key, ssid};
-ghost use Rattle.kinds.specs.Answers.{macAnswer, keyAnswer, ssidAnswer};
-use crate::Key;
+ghost use Rattle.kinds.specs.Kinds.{mac, preSharedKey, ssid};
+ghost use Rattle.kinds.specs.Answers.{macAnswer, preSharedKeyAnswer, ssidAnswer};
 use crate::Mac;
+use crate::PreSharedKey;
 use crate::Ssid;
 
 fn no_mac() -> Mac
@@ -24,8 +24,8 @@ pub fn read_mac(s: &[u8]) -> Mac
     if s.len() != 17 {
         return no_mac();
     }
-    let a = hex::value(s[0]);
-    let b = hex::value(s[1]);
+    let a = hex::digit_value(s[0]);
+    let b = hex::digit_value(s[1]);
     if 15 < a {
         return no_mac();
     }
@@ -37,8 +37,8 @@ pub fn read_mac(s: &[u8]) -> Mac
     let mut n = 1;
     let mut i = 2;
     while i < 17 {
-        let c = hex::value(s[i + 1]);
-        let d = hex::value(s[i + 2]);
+        let c = hex::digit_value(s[i + 1]);
+        let d = hex::digit_value(s[i + 2]);
         if s[i] != 58 {
             return no_mac();
         }
@@ -56,8 +56,8 @@ pub fn read_mac(s: &[u8]) -> Mac
 }
 
 // Whether s is 64 hex digits.
-pub fn is_key(s: &[u8]) -> bool
-    ensures { λ r. ⌜ r ≡ isSome (key (now (s .entry))) ⌝ }
+pub fn is_pre_shared_key(s: &[u8]) -> bool
+    ensures { λ r. ⌜ r ≡ isSome (preSharedKey (now (s .entry))) ⌝ }
 {
     if s.len() != 64 {
         return false;
@@ -66,14 +66,14 @@ pub fn is_key(s: &[u8]) -> bool
 }
 
 // 64 hex digits as a 32-byte key.
-pub fn read_key(s: &[u8]) -> Key
-    ensures { λ r. ⌜ r ≡ keyAnswer (key (now (s .entry))) ⌝ }
+pub fn read_pre_shared_key(s: &[u8]) -> PreSharedKey
+    ensures { λ r. ⌜ r ≡ preSharedKeyAnswer (preSharedKey (now (s .entry))) ⌝ }
 {
-    if is_key(s) {
+    if is_pre_shared_key(s) {
         let bytes = hex::unhexed_32(s);
-        return Key { ok: true, bytes };
+        return PreSharedKey { ok: true, bytes };
     }
-    Key {
+    PreSharedKey {
         ok: false,
         bytes: [0; 32],
     }

@@ -2,7 +2,7 @@
 ghost use mathlib.Core.Path.{_≡_};
 ghost use lib.ListN.{length};
 ghost use Rattle.text.specs.Parts.{partAt, Inside};
-ghost use Rattle.kinds.specs.Typed.{kindJudged, stringJudged, judged};
+ghost use Rattle.kinds.specs.Typed.{kindJudged, judged};
 ghost use Rattle.kinds.specs.Answers.{judgementAt};
 ghost use Rattle.kinds.specs.Judging.{keptAt, flagJudgement, wordJudgement, maskJudgement};
 use crate::Judgement;
@@ -58,7 +58,7 @@ fn mask_judgement(m: Netmask) -> Judgement
 
 // A string of low to high bytes once unescaped.
 fn string_judgement(d: Dialect, v: &[u8], low: u8, high: u8, at: Place) -> Judgement
-    ensures { λ r. ⌜ r ≡ judgementAt at (stringJudged d low high (now (v .entry))) ⌝ }
+    ensures { λ r. ⌜ r ≡ judgementAt at (kindJudged d (Kind.Text low high) (now (v .entry))) ⌝ }
 {
     let size = escapes::string_len(d, v);
     let Size::Long(n) = size else {
@@ -95,7 +95,7 @@ fn judge_kind(d: Dialect, kind: Kind, v: &[u8], at: Place) -> Judgement
             let m = hexes::read_mac(v);
             kept(m.ok, at)
         }
-        Kind::Key => kept(hexes::is_key(v), at),
+        Kind::PreSharedKey => kept(hexes::is_pre_shared_key(v), at),
         Kind::Ssid => kept(hexes::is_ssid(v), at),
         Kind::Passphrase => string_judgement(d, v, 8, 63, at),
         Kind::Text(low, high) => string_judgement(d, v, low, high, at),

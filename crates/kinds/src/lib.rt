@@ -45,7 +45,7 @@ pub enum Kind {
     Addresses(Separator),
     Entries,
     Mac,
-    Key,
+    PreSharedKey,
     Ssid,
     Passphrase,
     Text(u8, u8),
@@ -104,8 +104,8 @@ pub struct Mac {
     pub bytes: [u8; 6],
 }
 
-// A 32-byte key.
-pub struct Key {
+// The 32-byte key of a PreSharedKey.
+pub struct PreSharedKey {
     pub ok: bool,
     pub bytes: [u8; 32],
 }

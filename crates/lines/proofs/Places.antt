@@ -1,21 +1,55 @@
 -- What the form of a line says of it: it is the line, its places lie in it, and a value starts where `valueStart` says.
 use Prim.Native.Nat.{ℕ, suc, _+_, _-_, _≤_, _<_}
-use native.Mathlib.Nat.{le-refl, not-suc-le-zero}
+use native.Mathlib.Nat.{le-refl}
 use native.Mathlib.Omega.{arith}
-use mathlib.Core.Path.{_≡_, refl, ap, ap₂, sym, _∙_, subst}
+use mathlib.Core.Path.{_≡_, refl, ap, ap₂, sym, _∙_}
 use mathlib.Core.Bool.{Bool, true, false, cond, not, _&&_}
 use mathlib.Core.List.{List, [], _∷_}
 use lib.Dec.{eqb}
 use lib.ListN.{length, take, drop, length-drop}
 use lib.Seq.{take-all, drop-drop}
 use Rattle.text.specs.Bytes.{isBlank, isHeaderByte, isKeyByte}
-use Rattle.text.specs.Parts.{lead, front, after, all, empty, part, partAt, Inside, trimmed}
+use Rattle.text.specs.Parts.{lead, front, after, all, empty, partAt, Inside, trimmed}
 use Rattle.text.specs.Scans.{Stop, stop-low, stop-front, stop-after}
 use Rattle.text.specs.declared.Dialect.{Dialect}
 use Rattle.text.specs.declared.Dialect.the-variants.{Iwd, ConnMan}
 use Rattle.lines.specs.Lines.{Line, blank, comment, header, setting, broken, extends, closed, bracketOf, ended, equalOf, behindEqual, settingOf, bodyOf, lineOf, valueStart}
-use Rattle.lines.specs.Forms.{runEnd, runAt, valueFrom, valueAt, formIn, formAt, lineIn, Placed, Starts, Forms}
+use Rattle.lines.specs.Forms.{runEnd, valueFrom, valuePlace, formIn, formAt}
+use Rattle.lines.specs.declared.Form.{Form}
+use Rattle.lines.specs.declared.Form.the-variants.{Blank, Comment, Header, Setting, Broken}
 use Rattle.lines.specs.declared.Break.the-variants.{Unrecognized, Extension, BadHeader}
+
+-- ---- what a form says of its line
+
+-- the line that a form with places in l stands for
+abbrev pub lineOfForm : List ℕ → Form → Line
+lineOfForm l Blank = blank
+lineOfForm l Comment = comment
+lineOfForm l (Header p) = header (partAt l p)
+lineOfForm l (Setting k v) = setting (partAt l k) (partAt l v)
+lineOfForm l (Broken b) = broken b
+
+-- the places lie in n bytes
+abbrev pub PlacesInside : ℕ → Form → Type 0
+PlacesInside n Blank = Unit
+PlacesInside n Comment = Unit
+PlacesInside n (Header p) = Inside n p
+PlacesInside n (Setting k v) = Inside n k × Inside n v
+PlacesInside n (Broken b) = Unit
+
+-- a value starts where `valueStart` says
+abbrev pub ValueStarts : Dialect → List ℕ → Form → Type 0
+ValueStarts d l Blank = Unit
+ValueStarts d l Comment = Unit
+ValueStarts d l (Header p) = Unit
+ValueStarts d l (Setting k v) = v .start ≡ valueStart d l
+ValueStarts d l (Broken b) = Unit
+
+-- the form r is the line l, and its places lie in l
+pub record Forms (d : Dialect) (l : List ℕ) (r : Form) : Type 0 where
+  pub is : lineOfForm l r ≡ lineOf d l
+  pub placed : PlacesInside (length l) r
+  pub starts : ValueStarts d l r
 
 -- two lines of different kinds
 never : {A : Type 0} → _≡_ {A = ℕ} 0 1 → A
@@ -55,10 +89,10 @@ ended-fronted Iwd t = record { short = le-refl (length t); is = take-all (length
 ended-fronted ConnMan t = trimmed-fronted t
 
 module _ (d : Dialect) (l : List ℕ) (v : ℕ) (h : v ≤ length l) where
-  value-part : partAt l (valueAt d l v) ≡ ended d (drop v l)
+  value-part : partAt l (valuePlace d l v) ≡ ended d (drop v l)
   value-part = ap (λ (n : ℕ). take n (drop v l)) (let z : v + length (ended d (drop v l)) - v ≡ length (ended d (drop v l)) = omega arith in z) ∙ ended-fronted d (drop v l) .is
 
-  value-inside : Inside (length l) (valueAt d l v)
+  value-inside : Inside (length l) (valuePlace d l v)
   value-inside = record { low = omega arith; high = omega (arith, ended-fronted d (drop v l) .short, length-drop v l) }
 
 -- ---- what a header and a setting are made of
@@ -154,17 +188,17 @@ module _ (d : Dialect) (l : List ℕ) (i : ℕ) (h : i ≤ length l) where
       go (c ∷ s) q r = cases (eqb c 35) (eqb c 91) c s q r
 
 -- what is to be shown of the form of the line x, whose text starts at i
-record Fits (d : Dialect) (l : List ℕ) (i : ℕ) (x : Line) : Type 0 where
-  is : lineIn l (formIn d l i x) ≡ x
-  placed : Placed (length l) (formIn d l i x)
-  starts : length l - length (behindEqual d (drop i l)) ≡ valueStart d l → Starts d l (formIn d l i x)
+record FormFits (d : Dialect) (l : List ℕ) (i : ℕ) (x : Line) : Type 0 where
+  is : lineOfForm l (formIn d l i x) ≡ x
+  placed : PlacesInside (length l) (formIn d l i x)
+  starts : length l - length (behindEqual d (drop i l)) ≡ valueStart d l → ValueStarts d l (formIn d l i x)
 
-header-fits : (d : Dialect) (l : List ℕ) (i : ℕ) {n : List ℕ} → HeaderAt d l i n → Fits d l i (header n)
+header-fits : (d : Dialect) (l : List ℕ) (i : ℕ) {n : List ℕ} → HeaderAt d l i n → FormFits d l i (header n)
 header-fits d l i h =
     let s : Stop isHeaderByte l (i + 1) (runEnd isHeaderByte l (i + 1)) = run-stop isHeaderByte l (i + 1) (omega (arith, h .within)) in
     record { is = ap header (sym (stop-front s) ∙ bracket-header d (drop (i + 1) l) (h .is)); placed = stop-inside s; starts = λ e. tt }
 
-setting-fits : (d : Dialect) (l : List ℕ) (i : ℕ) {k v : List ℕ} → SettingAt d l i k v → Fits d l i (setting k v)
+setting-fits : (d : Dialect) (l : List ℕ) (i : ℕ) {k v : List ℕ} → SettingAt d l i k v → FormFits d l i (setting k v)
 setting-fits d l i {k} {v} h =
     record {
       is = ap₂ setting (sym (stop-front key) ∙ made .key-is) (value-part d l start (value .within) ∙ sym (ap (ended d) value-rest) ∙ made .value-is);
@@ -211,7 +245,7 @@ form-says d l = let w = fits (lineOf d l) refl in record { is = w .is; placed = 
     first : lead isBlank l ≤ length l
     first = lead-length isBlank l
 
-    fits : (x : Line) → lineOf d l ≡ x → Fits d l (lead isBlank l) x
+    fits : (x : Line) → lineOf d l ≡ x → FormFits d l (lead isBlank l) x
     fits blank e = record { is = refl; placed = tt; starts = λ q. tt }
     fits comment e = record { is = refl; placed = tt; starts = λ q. tt }
     fits (header n) e = header-fits d l (lead isBlank l) (body-header d l (lead isBlank l) first e)

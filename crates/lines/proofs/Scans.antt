@@ -1,7 +1,7 @@
 -- A line by index: one law for each return of the code.
 use mathlib.Core.Path.{_≡_, refl, ap, ap₂, sym, _∙_}
 use mathlib.Core.Bool.{Bool, true, false, cond, not, _&&_, and-false}
-use mathlib.Core.List.{List, [], _∷_}
+use mathlib.Core.List.{List, _∷_}
 use Prim.Native.Nat.{ℕ, _+_, _-_, _≤_, _<_}
 use native.Mathlib.Nat.{le-refl, zero-add}
 use native.Mathlib.Omega.{arith}
@@ -16,7 +16,7 @@ use Rattle.text.specs.Scans.{Stop, Trim, stop-front, stop-after, stop-low, stop
 use Rattle.text.specs.declared.Dialect.{Dialect}
 use Rattle.text.specs.declared.Dialect.the-variants.{Iwd, ConnMan}
 use Rattle.lines.specs.Lines.{Line, comment, header, setting, broken, closed, headerOf, bracketOf, ended, equalOf, settingOf, bodyOf, lineOf}
-use Rattle.lines.specs.Forms.{Begins, Ends, runEnd, valueFrom, valueAt, formIn, formAt}
+use Rattle.lines.specs.Forms.{Begins, ValueEnd, runEnd, valueFrom, valuePlace, formIn, formAt}
 use Rattle.lines.specs.declared.Break.the-variants.{Unrecognized, Extension, BadHeader}
 use Rattle.lines.specs.declared.Form.{Form}
 use Rattle.lines.specs.declared.Form.the-variants.{Blank, Comment, Header, Setting, Broken}
@@ -77,13 +77,13 @@ module _ {d : Dialect} {l : List ℕ} (at : ℕ) {x : Bool} (is : Begins d l (at
 
 -- ---- a setting
 
-pub ends-iwd : (d : Dialect) (l : List ℕ) (from : ℕ) → from ≤ length l → d ≡ Iwd → Ends d l from (length l)
+pub ends-iwd : (d : Dialect) (l : List ℕ) (from : ℕ) → from ≤ length l → d ≡ Iwd → ValueEnd d l from (length l)
 ends-iwd d l from h q = rw q (record { low = h; within = le-refl (length l); is = take-all (length l - from) (drop from l) (simp length-drop (le-refl _)) })
 
-pub ends-connman : (d : Dialect) {l : List ℕ} {from e : ℕ} → Trim l from e → d ≡ ConnMan → Ends d l from e
+pub ends-connman : (d : Dialect) {l : List ℕ} {from e : ℕ} → Trim l from e → d ≡ ConnMan → ValueEnd d l from e
 ends-connman d t q = rw q (record { low = t .low; within = t .within; is = t .is })
 
-ends-at : {d : Dialect} {l : List ℕ} {v e : ℕ} → Ends d l v e → record { start = v; end = e } ≡ valueAt d l v
+ends-at : {d : Dialect} {l : List ℕ} {v e : ℕ} → ValueEnd d l v e → record { start = v; end = e } ≡ valuePlace d l v
 ends-at {d} {l} {v} {e} t =
     let long : length (part v e l) ≡ e - v = part-long l v e (t .low) (t .within) in
     ap (λ (i : ℕ). record { start = v; end = i }) (let z : e ≡ v + length (ended d (drop v l)) = omega (arith, long, t .low, ap length (t .is)) in z)
@@ -113,11 +113,11 @@ module _ (d : Dialect) {l : List ℕ} {at k e : ℕ} (h : Stop (isKeyByte d) l a
       value-from : {v : ℕ} → Stop isBlank l (e + 1) v → v ≡ valueFrom l k
       value-from s = s .is ∙ ap (λ (i : ℕ). runEnd isBlank l (i + 1)) (g .is)
 
-      pub setting-good : getD l e 0 ≡ 61 → {v f : ℕ} → Stop isBlank l (e + 1) v → Ends d l v f → Setting (record { start = at; end = k }) (record { start = v; end = f }) ≡ formIn d l at (settingOf d (drop at l))
+      pub setting-good : getD l e 0 ≡ 61 → {v f : ℕ} → Stop isBlank l (e + 1) v → ValueEnd d l v f → Setting (record { start = at; end = k }) (record { start = v; end = f }) ≡ formIn d l at (settingOf d (drop at l))
       setting-good q s t =
           ap (Setting (record { start = at; end = k })) (ends-at t)
-          ∙ ap (λ (i : ℕ). Setting (record { start = at; end = k }) (valueAt d l i)) (value-from s)
-          ∙ ap (λ (i : ℕ). Setting (record { start = at; end = i }) (valueAt d l (valueFrom l i))) (h .is)
+          ∙ ap (λ (i : ℕ). Setting (record { start = at; end = k }) (valuePlace d l i)) (value-from s)
+          ∙ ap (λ (i : ℕ). Setting (record { start = at; end = i }) (valuePlace d l (valueFrom l i))) (h .is)
           ∙ ap (formIn d l at) (setting-is keyed (eq-eqb _ _ q))
 
 -- ---- a line

@@ -2,7 +2,6 @@
 use mathlib.Core.Path.{_≡_, refl}
 use mathlib.Core.List.{List, [], _∷_, map}
 use Prim.Native.String.{String}
-use Prim.Native.Nat.{ℕ}
 use Rattle.text.specs.Words.{word}
 use Rattle.text.specs.Bytes.{isKeyByte}
 use Rattle.text.specs.declared.Dialect.{Dialect}

@@ -5,10 +5,10 @@ use mathlib.Core.Bool.{Bool}
 use mathlib.Core.List.{List}
 use lib.ListN.{length, drop}
 use Rattle.text.specs.Bytes.{isBlank, isHeaderByte, isKeyByte}
-use Rattle.text.specs.Parts.{lead, part, partAt, Inside}
+use Rattle.text.specs.Parts.{lead, part}
 use Rattle.text.specs.declared.Dialect.{Dialect}
 use Rattle.text.specs.declared.Place.{Place}
-use Rattle.lines.specs.Lines.{Line, blank, comment, header, setting, broken, extends, ended, lineOf, valueStart}
+use Rattle.lines.specs.Lines.{Line, blank, comment, header, setting, broken, extends, ended, lineOf}
 use Rattle.lines.specs.declared.Form.{Form}
 use Rattle.lines.specs.declared.Form.the-variants.{Blank, Comment, Header, Setting, Broken}
 
@@ -24,8 +24,8 @@ abbrev pub valueFrom : List ℕ → ℕ → ℕ
 valueFrom l k = runEnd isBlank l (runEnd isBlank l k + 1)
 
 -- the place of the value that starts at v
-abbrev pub valueAt : Dialect → List ℕ → ℕ → Place
-valueAt d l v = record { start = v; end = v + length (ended d (drop v l)) }
+abbrev pub valuePlace : Dialect → List ℕ → ℕ → Place
+valuePlace d l v = record { start = v; end = v + length (ended d (drop v l)) }
 
 -- what a line is, by places in l, where its first byte that is no blank is at i: a header's name stands behind its
 -- `[`, a setting's key at i, and its value behind the `=` and its whitespace
@@ -34,44 +34,12 @@ formIn d l i blank = Blank
 formIn d l i comment = Comment
 formIn d l i (header name) = Header (runAt isHeaderByte l (i + 1))
 formIn d l i (setting key value) =
-    Setting (runAt (isKeyByte d) l i) (valueAt d l (valueFrom l (runEnd (isKeyByte d) l i)))
+    Setting (runAt (isKeyByte d) l i) (valuePlace d l (valueFrom l (runEnd (isKeyByte d) l i)))
 formIn d l i (broken b) = Broken b
 
 -- the form of the line l
 unfoldable pub formAt : Dialect → List ℕ → Form
 formAt d l = formIn d l (lead isBlank l) (lineOf d l)
-
--- ---- what a form says of its line: shown of `formAt` in proofs/Places
-
--- the line that a form with places in l stands for
-abbrev pub lineIn : List ℕ → Form → Line
-lineIn l Blank = blank
-lineIn l Comment = comment
-lineIn l (Header p) = header (partAt l p)
-lineIn l (Setting k v) = setting (partAt l k) (partAt l v)
-lineIn l (Broken b) = broken b
-
--- the places lie in n bytes
-abbrev pub Placed : ℕ → Form → Type 0
-Placed n Blank = Unit
-Placed n Comment = Unit
-Placed n (Header p) = Inside n p
-Placed n (Setting k v) = Inside n k × Inside n v
-Placed n (Broken b) = Unit
-
--- a value starts where `valueStart` says
-abbrev pub Starts : Dialect → List ℕ → Form → Type 0
-Starts d l Blank = Unit
-Starts d l Comment = Unit
-Starts d l (Header p) = Unit
-Starts d l (Setting k v) = v .start ≡ valueStart d l
-Starts d l (Broken b) = Unit
-
--- the form r is the line l, and its places lie in l
-pub record Forms (d : Dialect) (l : List ℕ) (r : Form) : Type 0 where
-  pub is : lineIn l r ≡ lineOf d l
-  pub placed : Placed (length l) r
-  pub starts : Starts d l r
 
 -- ---- the answers of the steps
 
@@ -80,7 +48,7 @@ pub record Begins (d : Dialect) (l : List ℕ) (from : ℕ) (r : Bool) : Type 0 
   pub is : r ≡ extends d (drop from l)
 
 -- the end of a value
-pub record Ends (d : Dialect) (l : List ℕ) (from e : ℕ) : Type 0 where
+pub record ValueEnd (d : Dialect) (l : List ℕ) (from e : ℕ) : Type 0 where
   pub low : from ≤ e
   pub within : e ≤ length l
   pub is : part from e l ≡ ended d (drop from l)

@@ -1,16 +1,15 @@
 -- What is written reads back: a line as that line, and lines as those lines.
 use Prim.Native.Nat.{ℕ}
-use mathlib.Core.Path.{_≡_, refl, ap, ap₂, sym, _∙_}
-use mathlib.Core.Bool.{Bool, true, false, cond, not, _&&_, true≢false}
+use mathlib.Core.Path.{_≡_, refl, ap, ap₂, _∙_}
+use mathlib.Core.Bool.{true, false, true≢false}
 use mathlib.Core.List.{List, [], _∷_, _++_, map}
-use lib.Dec.{eqb}
 use Rattle.text.specs.Bytes.{inLine, isBlank, isHeaderByte, isKeyByte}
-use Rattle.text.specs.Parts.{all, front, after, empty, lines}
+use Rattle.text.specs.Parts.{all, after, empty, lines}
 use Rattle.text.specs.Laws.{all-cons, all-append, all-other, pass-other, front-append, after-append, lines-append}
 use Rattle.text.specs.declared.Dialect.{Dialect}
 use Rattle.text.specs.declared.Dialect.the-variants.{Iwd, ConnMan}
-use Rattle.lines.specs.Lines.{Line, blank, comment, header, setting, broken, begins, extends, headerOf, bracketOf, ended, equalOf, settingOf, bodyOf, lineOf}
-use Rattle.lines.specs.Rendering.{equals, render, rendered, HeaderText, SettingText, Writable, AllWritable}
+use Rattle.lines.specs.Lines.{Line, blank, comment, header, setting, broken, extends, bracketOf, equalOf, settingOf, lineOf}
+use Rattle.lines.specs.Rendering.{equals, render, rendered, HeaderText, SettingText, WritableLine, WritableLines}
 
 -- ---- a header
 
@@ -57,7 +56,7 @@ setting-render ConnMan k v w =
 
 -- ---- a line
 
-pub line-render : (d : Dialect) (l : Line) → Writable d l → lineOf d (render d l) ≡ l
+pub line-render : (d : Dialect) (l : Line) → WritableLine d l → lineOf d (render d l) ≡ l
 unfolding lineOf
 line-render d blank w = refl
 line-render d comment w = refl
@@ -69,7 +68,7 @@ equals-line : (d : Dialect) → all inLine (equals d) ≡ true
 equals-line Iwd = refl
 equals-line ConnMan = refl
 
-pub render-line : (d : Dialect) (l : Line) → Writable d l → all inLine (render d l) ≡ true
+pub render-line : (d : Dialect) (l : Line) → WritableLine d l → all inLine (render d l) ≡ true
 render-line d blank w = refl
 render-line d comment w = refl
 render-line d (header n) w = all-append inLine n (93 ∷ []) (all-other isHeaderByte 10 refl n (w .bytes)) refl
@@ -79,15 +78,15 @@ render-line d (broken b) w = absurd w
 
 -- ---- lines
 
-pub lines-rendered : (d : Dialect) (ls : List Line) → AllWritable d ls → lines (rendered d ls) ≡ map (render d) ls
+pub lines-rendered : (d : Dialect) (ls : List Line) → WritableLines d ls → lines (rendered d ls) ≡ map (render d) ls
 lines-rendered d [] w = refl
 lines-rendered d (l ∷ ls) w =
     lines-append (render d l) (rendered d ls) (render-line d l (w .0))
     ∙ ap (λ (r : List (List ℕ)). render d l ∷ r) (lines-rendered d ls (w .1))
 
-map-render : (d : Dialect) (ls : List Line) → AllWritable d ls → map (lineOf d) (map (render d) ls) ≡ ls
+map-render : (d : Dialect) (ls : List Line) → WritableLines d ls → map (lineOf d) (map (render d) ls) ≡ ls
 map-render d [] w = refl
 map-render d (l ∷ ls) w = ap₂ _∷_ (line-render d l (w .0)) (map-render d ls (w .1))
 
-pub lines-back : (d : Dialect) (ls : List Line) → AllWritable d ls → map (lineOf d) (lines (rendered d ls)) ≡ ls
+pub lines-back : (d : Dialect) (ls : List Line) → WritableLines d ls → map (lineOf d) (lines (rendered d ls)) ≡ ls
 lines-back d ls w = ap (map (lineOf d)) (lines-rendered d ls w) ∙ map-render d ls w

@@ -40,13 +40,13 @@ pub record SettingText (d : Dialect) (key value : List ℕ) : Type 0 where
   pub start : after isBlank value ≡ value
   pub end : ended d value ≡ value
 
-abbrev pub Writable : Dialect → Line → Type 0
-Writable d blank = Unit
-Writable d comment = Unit
-Writable d (header name) = HeaderText d name
-Writable d (setting key value) = SettingText d key value
-Writable d (broken b) = ⊥
+abbrev pub WritableLine : Dialect → Line → Type 0
+WritableLine d blank = Unit
+WritableLine d comment = Unit
+WritableLine d (header name) = HeaderText d name
+WritableLine d (setting key value) = SettingText d key value
+WritableLine d (broken b) = ⊥
 
-abbrev pub AllWritable : Dialect → List Line → Type 0
-AllWritable d [] = Unit
-AllWritable d (l ∷ ls) = Writable d l × AllWritable d ls
+abbrev pub WritableLines : Dialect → List Line → Type 0
+WritableLines d [] = Unit
+WritableLines d (l ∷ ls) = WritableLine d l × WritableLines d ls

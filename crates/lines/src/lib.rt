@@ -6,7 +6,7 @@ ghost use mathlib.Core.Path.{_≡_};
 ghost use Prim.Native.Nat.{_+_, _≤_, _<_};
 ghost use lib.ListN.{length, drop};
 ghost use Rattle.lines.specs.Lines.{bracketOf, settingOf};
-ghost use Rattle.lines.specs.Forms.{Begins, Ends, formIn, formAt};
+ghost use Rattle.lines.specs.Forms.{Begins, ValueEnd, formIn, formAt};
 use text::Class;
 use text::Dialect;
 use text::Place;
@@ -72,7 +72,7 @@ fn header_form(d: Dialect, line: &[u8], at: usize) -> Form
 // The end of the value that starts at from.
 fn value_end(d: Dialect, line: &[u8], from: usize) -> usize
     requires { ⌜ from ≤ length (now line) ⌝ }
-    ensures { λ r. ⌜ Ends d (now (line .entry)) from r ⌝ }
+    ensures { λ r. ⌜ ValueEnd d (now (line .entry)) from r ⌝ }
 {
     match d {
         Dialect::Iwd => line.len(),

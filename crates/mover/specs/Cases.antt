@@ -7,9 +7,9 @@ use lib.ListN.{replicate}
 use Rattle.text.specs.Bytes.{isKeyByte, isPlain}
 use Rattle.text.specs.Words.{word}
 use Rattle.utf8.specs.Utf8.{follow, utf8From, text}
-use Rattle.escapes.specs.Escapes.{writing}
+use Rattle.escapes.specs.Escapes.{escapeFrom}
 use Rattle.hex.specs.Hex.{nibble, unhex}
-use Rattle.addresses.specs.Addresses.{value, number, address, prefixLength, lengthUpTo, maskLength, netmask, addresses, decimal, dotted, maskBytes}
+use Rattle.addresses.specs.Addresses.{decimalValue, number, address, prefixLength, lengthUpTo, maskLength, netmask, addresses, decimal, dotted, maskBytes}
 use Rattle.kinds.specs.Kinds.{flag, wordOf, ipv4, entries, colonPairs, mac, ssid, string}
 use Rattle.kinds.specs.Typed.{typed, kindJudged, judged}
 use Rattle.lines.specs.Lines.{bracketOf, settingOf, lineOf, valueStart}
@@ -45,5 +45,5 @@ worked =
     ∷ []
 
 pub worked-moves : worked ≡ writes (word "Desk 4.psk") (word "[Settings]\nHidden=true\n[Security]\nPassphrase=low\\\\tide 88\n[IPv4]\nAddress=10.20.0.14\nNetmask=255.255.255.0\nGateway=10.20.0.1\nDNS=10.20.0.2 10.20.0.3\n[IPv6]\nEnabled=false\n") ∷ refuses ShortBuffer 0 ∷ refuses ShortBuffer 0 ∷ refuses NoService 0 ∷ refuses FileName 0 ∷ refuses Missing 1 ∷ refuses NoPlace 2 ∷ refuses NoPlace 4 ∷ []
-unfolding moving reading lineFault grown sectionsOf serviceFault fault withLine isService groupOf keysOf stem isKeyByte isPlain bracketOf settingOf lineOf valueStart typed kindJudged judged flag wordOf ipv4 entries colonPairs mac ssid string value number address prefixLength lengthUpTo maskLength netmask addresses decimal dotted maskBytes nibble unhex writing follow utf8From text nameText fileText
+unfolding moving reading lineFault grown sectionsOf serviceFault fault withLine isService groupOf keysOf stem isKeyByte isPlain bracketOf settingOf lineOf valueStart typed kindJudged judged flag wordOf ipv4 entries colonPairs mac ssid string decimalValue number address prefixLength lengthUpTo maskLength netmask addresses decimal dotted maskBytes nibble unhex escapeFrom follow utf8From text nameText fileText
 worked-moves = refl

@@ -5,14 +5,15 @@ use mathlib.Core.Path.{_≡_, refl}
 use mathlib.Core.List.{List}
 use mathlib.Core.Option.{Option, none, some}
 use lib.ListN.{length}
-use Rattle.text.specs.Options.{plain}
+use Rattle.text.specs.Options.{orEmpty}
 use Rattle.text.specs.Words.{word}
 use Rattle.text.specs.declared.Dialect.the-variants as D
 use Rattle.addresses.specs.Addresses.{addresses}
 use Rattle.addresses.specs.declared.Separator.the-variants.{Comma}
 use Rattle.kinds.specs.Kinds as K
 use Rattle.kinds.specs.Kinds.{IPv4, dhcp, off, static, ipv4, ssid, string}
-use Rattle.kinds.specs.Values.{string-size, ssid-size, addresses-good, Ipv4Good, ipv4-good}
+use Rattle.addresses.specs.Laws.{addresses-good}
+use Rattle.kinds.specs.ValueLaws.{string-size, ssid-size, Ipv4Good, ipv4-good}
 use Rattle.rules.specs.Tables.{keysOf}
 use Rattle.rules.specs.Sections.{Entry}
 use Rattle.rules.specs.Asking.{readAs}
@@ -22,19 +23,19 @@ use Rattle.joins.specs.Joins.{secretFrom, ipv4OrDhcp, nameFrom, serviceJoin}
 
 -- what a kind reads has at most m elements
 read-short : {A : Type 0} (f : List ℕ → Option (List A)) (m : ℕ) →
-    ((v : List ℕ) (t : List A) → f v ≡ some t → length t ≤ m) → (o : Option Entry) → length (plain (readAs f o)) ≤ m
+    ((v : List ℕ) (t : List A) → f v ≡ some t → length t ≤ m) → (o : Option Entry) → length (orEmpty (readAs f o)) ≤ m
 read-short f m h none = omega arith
 read-short {A} f m h (some e) = go (f (e .value)) refl
   where
-    go : (o : Option (List A)) → f (e .value) ≡ o → length (plain o) ≤ m
+    go : (o : Option (List A)) → f (e .value) ≡ o → length (orEmpty o) ≤ m
     go none q = omega arith
     go (some t) q = h (e .value) t q
 
-name-short : (s n : Option (List ℕ)) → length (plain s) ≤ 32 → length (plain n) ≤ 32 → length (nameFrom s n) ≤ 32
+name-short : (s n : Option (List ℕ)) → length (orEmpty s) ≤ 32 → length (orEmpty n) ≤ 32 → length (nameFrom s n) ≤ 32
 name-short (some s) n h g = h
 name-short none n h g = g
 
-secret-plain : (o : Option (List ℕ)) → passphraseOf (secretFrom o none) ≡ plain o
+secret-plain : (o : Option (List ℕ)) → passphraseOf (secretFrom o none) ≡ orEmpty o
 secret-plain none = refl
 secret-plain (some p) = refl
 

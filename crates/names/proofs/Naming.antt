@@ -6,16 +6,16 @@ use mathlib.Core.Option.{Option, none, some}
 use Prim.Native.Nat.{ℕ, _+_, _-_, _*_, _/_, _≤_, _<_}
 use native.Mathlib.Nat.{le-refl}
 use native.Mathlib.Omega.{arith}
-use borrow.Author.Tests.{eq-eqb, ne-eqb, eqb-true, eqb-false, not-true, not-false}
+use borrow.Author.Tests.{eq-eqb, ne-eqb, not-true, not-false}
 use lib.Dec.{eqb}
 use lib.ListN.{length, take, drop, getD, length-append, length-drop}
 use lib.Seq.{take-at, take-all}
 use Rattle.text.specs.Bytes.{other, isPlain, isLowerHex, isAlphanumeric}
 use Rattle.text.specs.Parts.{all, after, part, empty, padded}
 use Rattle.text.specs.Words.{word, same, named}
-use Rattle.text.specs.Options.{isSome, andThen, only, sized, plain, Fits}
+use Rattle.text.specs.Options.{isSome, andThen, only, sized, orEmpty, ReadsUpTo}
 use Rattle.text.specs.Laws.{inside, over, part-some}
-use Rattle.text.specs.Scans.{Stop, stop-front, stop-after, stop-all, stop-some}
+use Rattle.text.specs.Scans.{Stop, stop-front, stop-after}
 use Rattle.hex.specs.Hex.{unhex, hex}
 use Rattle.hex.specs.Laws.{hex-length, unhex-length}
 use Rattle.names.specs.declared.Suffix.{Suffix}
@@ -66,12 +66,12 @@ module _ {h : List ℕ} (d : Decoded h) (l : length h ≤ 64) where
   decoded-length : length h ≡ 2 * length (d .text)
   decoded-length = unhex-length h (d .is)
 
-  pub decoded-fits : Fits 32 (unhex h)
+  pub decoded-fits : ReadsUpTo 32 (unhex h)
   decoded-fits = rw (d .is) (omega (arith, decoded-length))
 
-  module _ {a : List ℕ} (w : a ≡ padded 32 (plain (unhex h))) where
+  module _ {a : List ℕ} (w : a ≡ padded 32 (orEmpty (unhex h))) where
     decoded-padded : a ≡ padded 32 (d .text)
-    decoded-padded = w ∙ ap (λ (o : Option (List ℕ)). padded 32 (plain o)) (d .is)
+    decoded-padded = w ∙ ap (λ (o : Option (List ℕ)). padded 32 (orEmpty o)) (d .is)
 
     decoded-part : part 0 (length h / 2) a ≡ d .text
     decoded-part = ap (part 0 (length h / 2)) decoded-padded ∙ take-at (d .text) _ (length h / 2 - 0) (omega (arith, decoded-length))

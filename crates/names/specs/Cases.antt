@@ -8,7 +8,7 @@ use Prim.Native.String.{String}
 use lib.ListN.{replicate}
 use Rattle.text.specs.Bytes.{isPlain}
 use Rattle.text.specs.Words.{word}
-use Rattle.hex.specs.Hex.{nibble, unhex, digit, hex}
+use Rattle.hex.specs.Hex.{nibble, unhex, hexDigit, hex}
 use Rattle.names.specs.declared.Suffix.the-variants.{Open, Psk}
 use Rattle.names.specs.Names.{stem, nameOf, Network, network, networkOf, fileName, connmanName}
 
@@ -17,7 +17,7 @@ abbrev cafe : List ℕ
 cafe = 0x43 ∷ 0x61 ∷ 0x66 ∷ 0xc3 ∷ 0xa9 ∷ []
 
 pub cafe-file-name : fileName cafe Psk ≡ word "=436166c3a9.psk"
-unfolding isPlain stem hex digit
+unfolding isPlain stem hex hexDigit
 cafe-file-name = refl
 
 abbrev iwdNames : List (String × Option Network)

@@ -8,12 +8,12 @@ use native.Mathlib.Omega.{arith}
 use borrow.Author.Tests.{eqb-true, ne-eqb, ltb-false, not-true}
 use lib.Dec.{eqb, ltb}
 use lib.ListN.{length, length-append, take-append-drop}
-use Rattle.text.specs.Bytes.{between, other, isPlain, isLowerHex}
+use Rattle.text.specs.Bytes.{isByte, between, other, isPlain, isLowerHex}
 use Rattle.text.specs.Parts.{all, lead, front, after}
 use Rattle.text.specs.Words.{same, named}
 use Rattle.text.specs.Options.{andThen, only}
 use Rattle.text.specs.Laws.{inside, over, between-low, between-high, pass-other, all-cons, all-weaken, all-other, front-append, after-append, same-eq}
-use Rattle.hex.specs.Hex.{unhex, hex, isByte}
+use Rattle.hex.specs.Hex.{unhex, hex}
 use Rattle.hex.specs.Laws.{unhex-hex, hex-unhex, hex-lower, hex-length, unhex-bytes}
 use Rattle.names.specs.declared.Suffix.{Suffix}
 use Rattle.names.specs.declared.Suffix.the-variants.{Open, Psk}

@@ -6,11 +6,11 @@ use mathlib.Core.List.{List, [], _∷_, _++_}
 use mathlib.Core.Option.{Option, none, some}
 use lib.Dec.{eqb}
 use lib.ListN.{length, replicate}
-use Rattle.text.specs.Bytes.{other, isAlphanumeric, isPlain, isLowerHex}
+use Rattle.text.specs.Bytes.{isByte, other, isAlphanumeric, isPlain, isLowerHex}
 use Rattle.text.specs.Parts.{all, front, after, empty, padded}
 use Rattle.text.specs.Words.{word, same, named}
 use Rattle.text.specs.Options.{andThen, only, sized}
-use Rattle.hex.specs.Hex.{unhex, hex, isByte}
+use Rattle.hex.specs.Hex.{unhex, hex}
 use Rattle.names.specs.declared.Suffix.{Suffix}
 use Rattle.names.specs.declared.Suffix.the-variants.{Open, Psk}
 use Rattle.names.specs.declared.IwdName.{IwdName}

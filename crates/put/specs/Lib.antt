@@ -1,4 +1,4 @@
+-- What to read: what a writer leaves in a buffer
 pub mod Put
+-- The laws; what only the proofs need is in proofs/
 pub mod Laws
-pub mod Filling
-pub mod Gathering

@@ -11,11 +11,11 @@ use Rattle.text.specs.Words.{word}
 use Rattle.text.specs.declared.Dialect.{Dialect}
 use Rattle.text.specs.declared.Dialect.the-variants.{Iwd, ConnMan}
 use Rattle.utf8.specs.Utf8.{follow, utf8From, text}
-use Rattle.escapes.specs.Escapes.{reading as unescaping, writing, unescape, escape}
-use Rattle.hex.specs.Hex.{nibble, unhex, digit, hex}
-use Rattle.addresses.specs.Addresses.{value, number, address, prefixLength, lengthUpTo, maskLength, netmask, addresses}
-use Rattle.kinds.specs.Kinds.{flag, wordOf, ipv4, entries, colonPairs, mac, key, ssid, string, dhcp, static}
-use Rattle.kinds.specs.Typed.{typed, stringJudged, kindJudged, judged}
+use Rattle.escapes.specs.Escapes.{unescape, escape, unescapeFrom, escapeFrom}
+use Rattle.hex.specs.Hex.{nibble, unhex, hex, hexDigit}
+use Rattle.addresses.specs.Addresses.{number, address, prefixLength, lengthUpTo, maskLength, netmask, addresses, decimalValue}
+use Rattle.kinds.specs.Kinds.{flag, wordOf, ipv4, entries, colonPairs, mac, ssid, string, dhcp, static, preSharedKey}
+use Rattle.kinds.specs.Typed.{typed, kindJudged, judged}
 use Rattle.lines.specs.Lines.{bracketOf, settingOf, lineOf, valueStart}
 use Rattle.names.specs.Names.{nameOf, networkOf, stem}
 use Rattle.records.specs.Record.{Secret, noSecret, passphrase}
@@ -99,5 +99,5 @@ abbrev answer : Case → Answer
 answer c = c .2
 
 pub table : map computed cases ≡ map answer cases
-unfolding reading lineFault grown sectionsOf serviceFault fileFault fault withLine isService groupOf keysOf nameOf networkOf stem isKeyByte isPlain bracketOf settingOf lineOf valueStart typed stringJudged kindJudged judged flag wordOf ipv4 entries colonPairs mac key ssid string value number address prefixLength lengthUpTo maskLength netmask addresses nibble unhex digit hex unescaping writing follow utf8From text nameText moving
+unfolding reading lineFault grown sectionsOf serviceFault fileFault fault withLine isService groupOf keysOf nameOf networkOf stem isKeyByte isPlain bracketOf settingOf lineOf valueStart typed kindJudged judged flag wordOf ipv4 entries colonPairs mac preSharedKey ssid string decimalValue number address prefixLength lengthUpTo maskLength netmask addresses nibble unhex hexDigit hex unescapeFrom escapeFrom follow utf8From text nameText moving
 table = refl

@@ -9,7 +9,7 @@ use mathlib.Core.Option.{none}
 use lib.ListN.{length, take, drop, getD, replicate}
 use Rattle.text.specs.Parts.{part, lines}
 use Rattle.text.specs.Words.{word}
-use Rattle.text.specs.Options.{plain}
+use Rattle.text.specs.Options.{orEmpty}
 use Rattle.text.specs.declared.Dialect.the-variants.{Iwd, ConnMan}
 use Rattle.kinds.specs.Kinds.{entries}
 use Rattle.rules.specs.AnswerRows.{AnswerRow, bare, placed, hasRow, ownRows}
@@ -261,7 +261,7 @@ pub record ListStands (file : List ℕ) (es : List (List ℕ)) (c : CEntries) : 
 
 -- the entries of a list of service w
 abbrev pub entriesOf : List ℕ → ℕ → List ℕ → List (List ℕ)
-entriesOf file w key = plain (readAs entries (settingOf w file key))
+entriesOf file w key = orEmpty (readAs entries (settingOf w file key))
 
 pub record Lists (file : List ℕ) (w : ℕ) (a : CServiceSettings) : Type 0 where
   pub search-domains : ListStands file (entriesOf file w (word "SearchDomains")) (a .addresses .«search_domains»)

@@ -12,7 +12,7 @@ use Rattle.text.specs.Parts.{lines}
 use Rattle.text.specs.Words.{word}
 use Rattle.text.specs.Bytes.{between}
 use Rattle.text.specs.Laws.{inside, between-high}
-use Rattle.text.specs.OptionLaws.{Holds}
+use Rattle.text.specs.OptionLaws.{IfSome}
 use Rattle.text.specs.declared.Dialect.{Dialect}
 use Rattle.text.specs.declared.Dialect.the-variants.{Iwd, ConnMan}
 use Rattle.rules.specs.Sections.{Entry, Section}
@@ -74,7 +74,7 @@ reading-given k rs (R.Accepted n m) h = h
 reading-given k rs (R.Refused r l) h = h
 
 text-given : (file : List ℕ) (rs : List AnswerRow) (a : Answer) (o : Option Entry) →
-    Given (length (lines file)) (bare 0 ∷ rs) a → Holds (EntryStands file) o →
+    Given (length (lines file)) (bare 0 ∷ rs) a → IfSome (EntryStands file) o →
     hasRow (length (lines file)) (placed 0 ∷ rs) (textAt (lookupPlace (lookupOf a o)) .number) (textAt (lookupPlace (lookupOf a o)) .line) ≡ true
 text-given file rs Good none h e = rw (inside {x = 0} 0 (length (lines file)) (omega arith) (omega arith))
 text-given file rs Good (some x) h e =

@@ -13,8 +13,8 @@ use Rattle.text.specs.Bytes.{between, isEntryByte}
 use Rattle.text.specs.Parts.{all, onto, part, pieces, padded}
 use Rattle.text.specs.Words.{word}
 use Rattle.text.specs.Laws.{between-high}
-use Rattle.text.specs.Options.{only, each, andThen, prepend, plain}
-use Rattle.text.specs.OptionLaws.{Holds, sized-some, then-some, only-some}
+use Rattle.text.specs.Options.{only, each, andThen, prepend, orEmpty}
+use Rattle.text.specs.OptionLaws.{IfSome, sized-some, then-some, only-some}
 use Rattle.text.specs.declared.Dialect.{Dialect}
 use Rattle.text.specs.declared.Dialect.the-variants.{Iwd, ConnMan}
 use Rattle.kinds.specs.Kinds.{entry, entries}
@@ -40,7 +40,7 @@ use Rattle.qewaris.specs.ExportsHold.{number-some}
 
 -- ---- strings
 
-string-stands : (file : List ℕ) (a : Answer) (o : Option Entry) → Holds (EntryStands file) o →
+string-stands : (file : List ℕ) (a : Answer) (o : Option Entry) → IfSome (EntryStands file) o →
     Stands file (lookupOf a o) (textAt (lookupPlace (lookupOf a o)))
 string-stands file Good none h = record { within = omega arith; value = refl }
 string-stands file Good (some e) h =
@@ -159,14 +159,14 @@ each-entry (p ∷ ps) {es} e =
     go a q (some t) k f z =
         ap₂ (λ (x : List ℕ) (y : List (List ℕ)). x ∷ y) q (f t k) ∙ Option·some-injective (a ∷ t) es z
 
-list-stands : (file : List ℕ) (o : Option Entry) → Holds (EntryStands file) o →
-    ListStands file (plain (readAs entries o)) (entriesAt (entriesAnswer (entryStart o) (readAs entries o)))
+list-stands : (file : List ℕ) (o : Option Entry) → IfSome (EntryStands file) o →
+    ListStands file (orEmpty (readAs entries o)) (entriesAt (entriesAnswer (entryStart o) (readAs entries o)))
 unfolding entries
 list-stands file none h = record { count = refl; each = λ i k. absurd (omega (arith, k)) }
 list-stands file (some e) h = go (entries (e .value)) refl
   where
     go : (r : Option (List (List ℕ))) → entries (e .value) ≡ r →
-        ListStands file (plain r) (entriesAt (entriesAnswer (e .start) r))
+        ListStands file (orEmpty r) (entriesAt (entriesAnswer (e .start) r))
     go none q = record { count = refl; each = λ i k. absurd (omega (arith, k)) }
     go (some es) q =
         let s = sized-some 1 4 (each entry (pieces 44 (e .value))) q in

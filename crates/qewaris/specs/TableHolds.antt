@@ -11,7 +11,7 @@ use Rattle.text.specs.Bytes.{between}
 use Rattle.text.specs.Parts.{lines}
 use Rattle.text.specs.Words.{word}
 use Rattle.text.specs.Options.{only, orElse, isSome}
-use Rattle.text.specs.OptionLaws.{Holds}
+use Rattle.text.specs.OptionLaws.{IfSome}
 use Rattle.text.specs.Relations.{Each}
 use Rattle.text.specs.RelationLaws.{each-append}
 use Rattle.text.specs.declared.Dialect.{Dialect}
@@ -97,16 +97,16 @@ module _ (file : List ℕ) where
   OnLine l = isLine file l ≡ true
 
   -- a setting's line, where what it holds is such that an absent one does not hold it
-  line-only : (b : Option Entry → Bool) → b none ≡ false → (o : Option Entry) → Holds (EntryStands file) o →
-      Holds OnLine (only (b o) (some (entryLine o)))
+  line-only : (b : Option Entry → Bool) → b none ≡ false → (o : Option Entry) → IfSome (EntryStands file) o →
+      IfSome OnLine (only (b o) (some (entryLine o)))
   line-only b q none h = rw q tt
   line-only b q (some e) h = go (b (some e))
     where
-      go : (t : Bool) → Holds OnLine (only t (some (e .line)))
+      go : (t : Bool) → IfSome OnLine (only t (some (e .line)))
       go true = h .line
       go false = tt
 
-  line-if : (b : Option Entry → Bool) → b none ≡ false → (o : Option Entry) → Holds (EntryStands file) o →
+  line-if : (b : Option Entry → Bool) → b none ≡ false → (o : Option Entry) → IfSome (EntryStands file) o →
       Each OnLine (lineIf (b o) o)
   line-if b q none h = rw q tt
   line-if b q (some e) h = go (b (some e))
@@ -115,15 +115,15 @@ module _ (file : List ℕ) where
       go true = (h .line, tt)
       go false = tt
 
-  either-line : (a b : Option ℕ) → Holds OnLine a → Holds OnLine b → Holds OnLine (orElse a b)
+  either-line : (a b : Option ℕ) → IfSome OnLine a → IfSome OnLine b → IfSome OnLine (orElse a b)
   either-line none b p q = q
   either-line (some l) b p q = p
 
-  earliest-line : (ls : List ℕ) → Each OnLine ls → Holds OnLine (earliest ls)
+  earliest-line : (ls : List ℕ) → Each OnLine ls → IfSome OnLine (earliest ls)
   earliest-line [] h = tt
   earliest-line (l ∷ ls) h = go (earliest ls) (earliest-line ls (h .1))
     where
-      go : (o : Option ℕ) → Holds OnLine o → isLine file (least l o) ≡ true
+      go : (o : Option ℕ) → IfSome OnLine o → isLine file (least l o) ≡ true
       go none q = h .0
       go (some m) q = choose (leb l m)
         where
@@ -135,10 +135,10 @@ module _ (file : List ℕ) where
     abbrev at : List ℕ → Option Entry
     at = settingOf w file
 
-    stands : (key : List ℕ) → Holds (EntryStands file) (at key)
+    stands : (key : List ℕ) → IfSome (EntryStands file) (at key)
     stands key = service-stands ConnMan file w key
 
-    no-record-line : Holds OnLine (noRecord at)
+    no-record-line : IfSome OnLine (noRecord at)
     unfolding keysOf
     no-record-line =
         either-line (only (wired at) (some (entryLine (at (word "Type"))))) (only (foreign at) (some (entryLine (at (word "Security")))))
@@ -170,13 +170,13 @@ module _ (file : List ℕ) where
         (given (word "SearchDomains")))
         (given (word "Timeservers"))
 
-    unplaced-line : Holds OnLine (earliest (unplaced at))
+    unplaced-line : IfSome OnLine (earliest (unplaced at))
     unplaced-line = earliest-line (unplaced at) unplaced-lines
 
 -- ---- records and files
 
 record-given : (k : ℕ) (a : Answer) (o : Option ℕ) (j : Join) → Given k serviceRows a →
-    Holds (λ l. between 1 k l ≡ true) o →
+    IfSome (λ l. between 1 k l ≡ true) o →
     Given k serviceRecordRows (recordAnswer (J.orRefused a (orNoPlace o j)) .answer)
 record-given k Good none j h p = refl
 record-given k Good (some l) j h p = rw p
@@ -188,7 +188,7 @@ room-given k true x y = refl
 room-given k false x y = refl
 
 move-given : (k : ℕ) (a : Answer) (o : Option ℕ) (j : Join) (n f : List ℕ) → Given k serviceRows a →
-    Holds (λ l. between 1 k l ≡ true) o →
+    IfSome (λ l. between 1 k l ≡ true) o →
     Given k moveRows (writtenAnswer (orRefused a (orUnplaced o (writingOf j n f))) .answer)
 move-given k Good none j n f h p = room-given k (room (nameText j) n && room (fileText j) f) (nameText j) (fileText j)
 move-given k Good (some l) j n f h p = rw p

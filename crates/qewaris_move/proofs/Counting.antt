@@ -8,20 +8,20 @@ use borrow.Author.Tests.{le-leb, not-true, not-false}
 use lib.ListN.{length, drop, getD, drop-of-length-le}
 use Rattle.text.specs.Bytes.{isDigit}
 use Rattle.text.specs.Laws.{view-more, between-low, between-high}
-use Rattle.addresses.specs.Addresses.{value}
+use Rattle.addresses.specs.Addresses.{decimalValue}
 use Rattle.qewaris_move.specs.Number.{orZero, serviceNumber}
 
 -- from i on the digits that are left go behind v, and v is still small
 pub record Counting (s : List ℕ) (i v : ℕ) : Type 0 where
   pub within : i ≤ length s
   pub short : length s ≤ 3
-  pub rest : orZero (value v (drop i s)) ≡ serviceNumber s
+  pub rest : orZero (decimalValue v (drop i s)) ≡ serviceNumber s
   pub none-yet : i < 1 → v ≤ 0
   pub one-digit : i < 2 → v ≤ 9
   pub two-digits : i < 3 → v ≤ 99
 
 pub counting-first : (s : List ℕ) → length s ≤ 3 → Counting s 0 0
-unfolding value
+unfolding decimalValue
 counting-first s h = record {
   within = omega arith;
   short = h;
@@ -31,7 +31,7 @@ counting-first s h = record {
   two-digits = λ l. omega arith;
 }
   where
-    go : (s : List ℕ) → length s ≤ 3 → orZero (value 0 s) ≡ serviceNumber s
+    go : (s : List ℕ) → length s ≤ 3 → orZero (decimalValue 0 s) ≡ serviceNumber s
     go [] h = refl
     go (x ∷ s) h = rw (le-leb (length (x ∷ s)) 3 h, le-leb 1 (length (x ∷ s)) (omega arith))
 
@@ -43,12 +43,12 @@ pub record Small (v c : ℕ) : Type 0 where
 
 module _ (s : List ℕ) {i v : ℕ} (p : Counting s i v) where
   pub counting-end : length s ≤ i → v ≡ serviceNumber s
-  unfolding value
-  counting-end l = sym (ap (λ (t : List ℕ). orZero (value v t)) (drop-of-length-le s {i = i} l)) ∙ p .rest
+  unfolding decimalValue
+  counting-end l = sym (ap (λ (t : List ℕ). orZero (decimalValue v t)) (drop-of-length-le s {i = i} l)) ∙ p .rest
 
   module _ (l : i < length s) {b : Bool} (e : b ≡ isDigit (getD s i 0)) where
     pub counting-other : not b ≡ true → 0 ≡ serviceNumber s
-    unfolding value
+    unfolding decimalValue
     counting-other h = (rw (view-more s i l, sym e ∙ not-true b h) at (p .rest))
 
     counting-digit : not b ≡ false → isDigit (getD s i 0) ≡ true
@@ -62,7 +62,7 @@ module _ (s : List ℕ) {i v : ℕ} (p : Counting s i v) where
     }
 
     pub counting-turn : not b ≡ false → Counting s (i + 1) (v * 10 + (getD s i 0 - 48))
-    unfolding value
+    unfolding decimalValue
     counting-turn h =
         let most : getD s i 0 ≤ 57 = counting-small h .high in
         record {

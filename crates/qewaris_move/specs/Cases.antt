@@ -3,7 +3,7 @@ use mathlib.Core.Path.{_≡_, refl}
 use mathlib.Core.List.{List, [], _∷_, _++_, map}
 use Prim.Native.Nat.{ℕ}
 use Rattle.text.specs.Words.{word}
-use Rattle.addresses.specs.Addresses.{value}
+use Rattle.addresses.specs.Addresses.{decimalValue}
 use Rattle.qewaris_move.specs.Number.{serviceNumber}
 
 abbrev numberLines : List (List ℕ × ℕ)
@@ -24,5 +24,5 @@ numberLines =
     ∷ []
 
 pub number-lines : map (λ (c : List ℕ × ℕ). serviceNumber (c .0)) numberLines ≡ map (λ (c : List ℕ × ℕ). c .1) numberLines
-unfolding value
+unfolding decimalValue
 number-lines = refl

@@ -10,7 +10,7 @@ use lib.ListN.{length, take, length-take}
 use lib.Seq.{take-all}
 use Rattle.text.specs.Words.{word}
 use Rattle.text.specs.declared.Dialect.the-variants.{ConnMan}
-use Rattle.addresses.specs.Addresses.{value}
+use Rattle.addresses.specs.Addresses.{decimalValue}
 use Rattle.rules.specs.Reading.{reading}
 use Rattle.rules.specs.Asking.{askedOf}
 use Rattle.rules.specs.declared.Reading.{Reading}
@@ -30,7 +30,7 @@ use Rattle.qewaris_move.specs.Number.{orZero, serviceNumber}
 
 -- four bytes of a number line already count as 0, whatever follows
 pub number-long : (s : List ℕ) → 3 < length s → serviceNumber s ≡ 0
-number-long s h = ap (λ (o : Option (List ℕ)). orZero (andThen o (value 0))) (unsized 1 3 s (λ z. omega (arith, z .most)))
+number-long s h = ap (λ (o : Option (List ℕ)). orZero (andThen o (decimalValue 0))) (unsized 1 3 s (λ z. omega (arith, z .most)))
 
 pub number-front : (s : List ℕ) (m : ℕ) → 3 < m → serviceNumber (take m s) ≡ serviceNumber s
 number-front s m h = go (leb (length s) m) refl

@@ -3,7 +3,7 @@ use Prim.Native.Nat.{ℕ}
 use mathlib.Core.List.{List}
 use mathlib.Core.Option.{Option, none, some}
 use Rattle.text.specs.Options.{andThen, sized}
-use Rattle.addresses.specs.Addresses.{value}
+use Rattle.addresses.specs.Addresses.{decimalValue}
 
 -- what was read, or 0
 abbrev pub orZero : Option ℕ → ℕ
@@ -12,4 +12,4 @@ orZero (some v) = v
 
 -- "anything but 1 to 3 decimal digits counts as 0"
 abbrev pub serviceNumber : List ℕ → ℕ
-serviceNumber s = orZero (andThen (sized 1 3 (some s)) (value 0))
+serviceNumber s = orZero (andThen (sized 1 3 (some s)) (decimalValue 0))

@@ -10,11 +10,11 @@ use Rattle.text.specs.Laws.{part-long, part-part}
 use Rattle.text.specs.declared.Dialect.{Dialect}
 use Rattle.text.specs.declared.Place.{Place}
 use Rattle.lines.specs.Lines.{blank, comment, header, setting, broken, lineOf, valueStart}
-use Rattle.lines.specs.Forms.{formAt, Forms, lineIn, Placed, Starts}
+use Rattle.lines.specs.Forms.{formAt}
 use Rattle.lines.specs.declared.Break.{Break}
 use Rattle.lines.specs.declared.Form.{Form}
 use Rattle.lines.specs.declared.Form.the-variants as F
-use Rattle.lines.proofs.Places.{form-says}
+use Rattle.lines.proofs.Places.{Forms, lineOfForm, PlacesInside, ValueStarts, form-says}
 use Rattle.kinds.specs.declared.Value.{Value}
 use Rattle.rules.specs.Sections.{Section}
 use Rattle.rules.specs.Faults.{breakOf, fault}
@@ -48,28 +48,28 @@ module _ (d : Dialect) (file : List ℕ) (s e : ℕ) (low : s ≤ e) (within : e
     h = subst (Forms d line) (sym at) (form-says d line)
 
     pub line-blank : {x : List ℕ} {c : Current} → f ≡ F.Blank → LineSays d file x c s line L.Blank
-    line-blank q = record { says = λ gs e rows. sym (h .is) ∙ ap (lineIn line) q }
+    line-blank q = record { says = λ gs e rows. sym (h .is) ∙ ap (lineOfForm line) q }
 
     pub line-comment : {x : List ℕ} {c : Current} → f ≡ F.Comment → LineSays d file x c s line L.Comment
-    line-comment q = record { says = λ gs e rows. sym (h .is) ∙ ap (lineIn line) q }
+    line-comment q = record { says = λ gs e rows. sym (h .is) ∙ ap (lineOfForm line) q }
 
     pub line-broken : {x : List ℕ} {c : Current} {b : Break} → f ≡ F.Broken b → {r : Refusal} → r ≡ breakOf b → LineSays d file x c s line (L.Refused r)
     unfolding fault
-    line-broken q v = record { says = λ gs e rows. rw (sym (h .is) ∙ ap (lineIn line) q, v) }
+    line-broken q v = record { says = λ gs e rows. rw (sym (h .is) ∙ ap (lineOfForm line) q, v) }
 
     module _ {p : Place} (q : f ≡ F.Header p) where
       header-inside : Inside (length line) p
-      header-inside = subst (Placed (length line)) q (h .placed)
+      header-inside = subst (PlacesInside (length line)) q (h .placed)
 
       pub header-fits : (p .start ≤ p .end) × (s + p .end ≤ length file)
       header-fits = fits header-inside
 
       pub line-header : {x : List ℕ} {c : Current} {r : Place} → r ≡ moved p → LineSays d file x c s line (L.Header r)
-      line-header v = rw v (record { says = λ gs e rows. (sym (h .is) ∙ ap (lineIn line) q ∙ ap header (part-moved header-inside), inside header-inside) })
+      line-header v = rw v (record { says = λ gs e rows. (sym (h .is) ∙ ap (lineOfForm line) q ∙ ap header (part-moved header-inside), inside header-inside) })
 
     module _ {k v : Place} (q : f ≡ F.Setting k v) where
       setting-inside : Inside (length line) k × Inside (length line) v
-      setting-inside = subst (Placed (length line)) q (h .placed)
+      setting-inside = subst (PlacesInside (length line)) q (h .placed)
 
       pub key-fits : (k .start ≤ k .end) × (s + k .end ≤ length file)
       key-fits = fits (setting-inside .0)
@@ -82,10 +82,10 @@ module _ (d : Dialect) (file : List ℕ) (s e : ℕ) (low : s ≤ e) (within : e
         setting-inside-file = rw (m, n) (inside (setting-inside .0), inside (setting-inside .1))
 
         is-setting : lineOf d line ≡ setting (partAt file a) (partAt file b)
-        is-setting = rw (m, n) (sym (h .is) ∙ ap (lineIn line) q ∙ ap₂ setting (part-moved (setting-inside .0)) (part-moved (setting-inside .1)))
+        is-setting = rw (m, n) (sym (h .is) ∙ ap (lineOfForm line) q ∙ ap₂ setting (part-moved (setting-inside .0)) (part-moved (setting-inside .1)))
 
         starts : b .start ≡ s + valueStart d line
-        starts = ap (λ (p : Place). p .start) n ∙ ap (λ (i : ℕ). s + i) (subst (Starts d line) q (h .starts))
+        starts = ap (λ (p : Place). p .start) n ∙ ap (λ (i : ℕ). s + i) (subst (ValueStarts d line) q (h .starts))
 
         pub line-setting : {x : List ℕ} {c : Current} {r : Line} → SettingSays d file x c a b r → LineSays d file x c s line r
         line-setting {r = r} t = record { says = λ gs e rows. go r gs (t .says gs e rows) }

@@ -12,7 +12,7 @@ use Rattle.kinds.specs.declared.Kind.the-variants.{Flag, Named, Address, Netmas
 use Rattle.kinds.specs.declared.WordList.the-variants as W
 use Rattle.rules.specs.Tables as T
 use Rattle.rules.specs.Tables.{keysOf}
-use Rattle.rules.specs.KeyPlaces.{keyNames}
+use Rattle.tables.specs.KeyPlaces.{keyNames}
 use Rattle.rules.specs.declared.Group.{Group}
 use Rattle.rules.specs.declared.Group.the-variants as G
 use Rattle.reader.specs.declared.KeyName.{KeyName}

@@ -6,11 +6,10 @@ use mathlib.Core.List.{List, [], _∷_}
 use mathlib.Core.Option.{Option}
 use lib.Dec.{eqb}
 use lib.ListN.{length, take, drop}
-use Rattle.text.specs.Bytes.{between}
+use Rattle.text.specs.Bytes.{isByte, between}
 use Rattle.text.specs.Parts.{all}
-use Rattle.text.specs.OptionLaws.{Holds}
+use Rattle.text.specs.OptionLaws.{IfSome}
 use Rattle.utf8.specs.Utf8.{recordText}
-use Rattle.hex.specs.Hex.{isByte}
 use Rattle.addresses.specs.Addresses.{isAddress, areAddresses}
 use Rattle.names.specs.Names.{NetworkName}
 use Rattle.kinds.specs.Kinds.{IPv4, dhcp, off, static}
@@ -51,7 +50,7 @@ pub record GoodStatic (a : List ℕ) (n : ℕ) (g : Option (List ℕ)) : Type 0 
   pub address : isAddress a ≡ true
   pub low : 1 ≤ n
   pub high : n ≤ 32
-  pub gateway : Holds (λ x. isAddress x ≡ true) g
+  pub gateway : IfSome (λ x. isAddress x ≡ true) g
 
 abbrev pub GoodIpv4 : IPv4 → Type 0
 GoodIpv4 dhcp = Unit

@@ -7,8 +7,8 @@ use native.Mathlib.Nat.{le-refl}
 use native.Mathlib.Omega.{arith}
 use lib.ListN.{length, take, replicate, length-append, length-replicate}
 use lib.Seq.{take-append-seam}
+use Rattle.text.specs.Bytes.{isByte}
 use Rattle.text.specs.Laws.{and-true, all-append}
-use Rattle.hex.specs.Hex.{isByte}
 use Rattle.addresses.specs.Addresses.{noAddress}
 use Rattle.records.specs.Record.{Join, passphraseOf, laid, laidServers, joined}
 use Rattle.records.specs.Formed.{domainText, WellFormed, Laid, held, credentialFormed, ipv4Formed, serversFormed, domainFormed, formed, Arrays}

@@ -9,10 +9,9 @@ use borrow.Author.Tests.{eqb-true, not-true}
 use lib.Dec.{eqb}
 use lib.ListN.{length, take, drop, replicate, length-append, length-replicate, length-drop, take-append-drop}
 use lib.Seq.{length-take-le, take-append-seam, drop-append-seam}
-use Rattle.text.specs.Bytes.{between}
+use Rattle.text.specs.Bytes.{isByte, between}
 use Rattle.text.specs.Parts.{all, padded}
 use Rattle.text.specs.Laws.{and-true, all-cons, inside, between-low, between-high}
-use Rattle.hex.specs.Hex.{isByte}
 use Rattle.addresses.specs.Addresses.{isAddress, areAddresses, noAddress, rows}
 use Rattle.addresses.specs.Laws.{address-length, are-cons}
 use Rattle.kinds.specs.Kinds.{IPv4, dhcp, off, static}

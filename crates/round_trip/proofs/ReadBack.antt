@@ -18,7 +18,7 @@ use Rattle.round_trip.specs.Structs.{writing-record, writing-servers}
 use Rattle.comparing.specs.Same.{sameRecord, sameServers}
 use Rattle.comparing.specs.SameLaws.{same-record-refl, same-servers-refl}
 use Rattle.round_trip.specs.Back.{isGood, sameAnswer, readSame, RoundTrips}
-use Rattle.round_trip.proofs.Agreeing.{differs, agrees}
+use Rattle.comparing.proofs.Agreeing.{differs, agrees}
 
 -- ---- an answer x and its servers t, which are y and u, against a record and servers
 

@@ -13,10 +13,9 @@ use denote.Plain.{UInt}
 use denote.Array.{Array, each}
 use denote.Shadow.{shadow}
 use denote.Struct.Declared.{row}
-use Rattle.text.specs.Bytes.{between}
+use Rattle.text.specs.Bytes.{isByte, between}
 use Rattle.text.specs.Parts.{all}
 use Rattle.text.specs.Laws.{inside}
-use Rattle.hex.specs.Hex.{isByte}
 use Rattle.addresses.specs.Addresses.{isAddress, areAddresses}
 use Rattle.records.specs.Formed.{Arrays}
 use Rattle.records.specs.declared.JoinRecord.{JoinRecord}

@@ -5,7 +5,7 @@ use mathlib.Core.Bool.{Bool, true, false}
 use mathlib.Core.List.{List, [], _∷_, _++_}
 use mathlib.Core.Option.{Option, none, some}
 use Rattle.text.specs.Words.{word, same}
-use Rattle.text.specs.OptionLaws.{Holds}
+use Rattle.text.specs.OptionLaws.{IfSome}
 use Rattle.text.specs.declared.Dialect.{Dialect}
 use Rattle.text.specs.declared.Dialect.the-variants.{Iwd}
 use Rattle.addresses.specs.Addresses.{isAddress}
@@ -37,7 +37,7 @@ secret-good noSecret w = tt
 secret-good (passphrase p) w = (passphrase-row p w, tt)
 secret-good (key k) w = (key-row k w, tt)
 
-gateway-good : (g : Option (List ℕ)) → Holds (λ x. isAddress x ≡ true) g → GoodRows Iwd G.Ipv4 (gatewayRows g)
+gateway-good : (g : Option (List ℕ)) → IfSome (λ x. isAddress x ≡ true) g → GoodRows Iwd G.Ipv4 (gatewayRows g)
 gateway-good none w = tt
 gateway-good (some g) w = (gateway-row g w, tt)
 

@@ -6,14 +6,14 @@ use mathlib.Core.Bool.{Bool, true, false, not, _&&_, _||_, true≢false}
 use mathlib.Core.List.{List, [], _∷_}
 use mathlib.Core.Option.{none, some}
 use Rattle.text.specs.Words.{word, same}
-use Rattle.text.specs.Options.{isSome, andThen, plain}
+use Rattle.text.specs.Options.{isSome, andThen, orEmpty}
 use Rattle.text.specs.declared.Dialect.the-variants.{Iwd}
 use Rattle.addresses.specs.Addresses.{address, netmask, addresses}
 use Rattle.addresses.specs.Written.{address-dotted, netmask-dotted}
 use Rattle.addresses.specs.declared.Separator.the-variants.{Spaces}
 use Rattle.kinds.specs.Kinds as K
 use Rattle.kinds.specs.Kinds.{IPv4, dhcp, off, static, flag, string}
-use Rattle.kinds.specs.Written.{string-escape, key-hex}
+use Rattle.kinds.specs.Written.{string-escape, pre-shared-key-hex}
 use Rattle.rules.specs.Sections.{Section}
 use Rattle.rules.specs.Groups.{has, fileFault}
 use Rattle.records.specs.Record.{Secret, noSecret, passphrase, key}
@@ -32,10 +32,10 @@ unfolding flag
 hidden-rows-read false = refl
 hidden-rows-read true = refl
 
-pub secret-rows-read : (c : Secret) → GoodSecret c → secretFrom (andThen (rowValue (word "Passphrase") (secretRows c)) (K.passphrase Iwd)) (andThen (rowValue (word "PreSharedKey") (secretRows c)) K.key) ≡ c
+pub secret-rows-read : (c : Secret) → GoodSecret c → secretFrom (andThen (rowValue (word "Passphrase") (secretRows c)) (K.passphrase Iwd)) (andThen (rowValue (word "PreSharedKey") (secretRows c)) K.preSharedKey) ≡ c
 secret-rows-read noSecret w = refl
 secret-rows-read (passphrase p) w = rw (string-escape 8 63 p (w .low) (w .high))
-secret-rows-read (key k) w = rw (key-hex k (w .long) (w .bytes))
+secret-rows-read (key k) w = rw (pre-shared-key-hex k (w .long) (w .bytes))
 
 pub number-rows-read : (i : IPv4) → GoodIpv4 i → hasPlace i ≡ true → staticOrDhcp (andThen (rowValue (word "Address") (numberRows i)) address) (andThen (rowValue (word "Netmask") (numberRows i)) netmask) (andThen (rowValue (word "Gateway") (numberRows i)) address) ≡ i
 number-rows-read dhcp w p = refl
@@ -43,11 +43,11 @@ number-rows-read off w p = absurd (true≢false (sym p))
 number-rows-read (static a n none) w p = absurd (true≢false (sym p))
 number-rows-read (static a n (some g)) w p = rw (address-dotted a (w .address), netmask-dotted n (w .low) (w .high), address-dotted g (w .gateway))
 
-pub server-rows-read : (l : List (List ℕ)) → GoodServers l → plain (andThen (rowValue (word "DNS") (serverRows l)) (addresses Spaces)) ≡ l
+pub server-rows-read : (l : List (List ℕ)) → GoodServers l → orEmpty (andThen (rowValue (word "DNS") (serverRows l)) (addresses Spaces)) ≡ l
 server-rows-read [] w = refl
 server-rows-read (a ∷ l) w = rw (servers-listed a l w)
 
-pub domain-rows-read : (d : List ℕ) → GoodDomain d → plain (andThen (rowValue (word "DomainName") (domainRows d)) (string Iwd 1 253)) ≡ d
+pub domain-rows-read : (d : List ℕ) → GoodDomain d → orEmpty (andThen (rowValue (word "DomainName") (domainRows d)) (string Iwd 1 253)) ≡ d
 domain-rows-read [] w = refl
 domain-rows-read (c ∷ d) w = rw (string-escape 1 253 (c ∷ d) (omega arith) (w .high))
 

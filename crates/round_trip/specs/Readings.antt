@@ -12,7 +12,7 @@ use Rattle.text.specs.Options.{isSome}
 use Rattle.text.specs.Laws.{and-true}
 use Rattle.text.specs.declared.Dialect.{Dialect}
 use Rattle.lines.specs.Lines.{Line, header, setting, valueStart}
-use Rattle.lines.specs.Rendering.{render, rendered, Writable, AllWritable}
+use Rattle.lines.specs.Rendering.{render, rendered, WritableLine, WritableLines}
 use Rattle.lines.specs.Laws.{line-render, lines-rendered}
 use Rattle.rules.specs.Sections.{Entry, Section, given, nameGiven, withLine}
 use Rattle.rules.specs.Faults.{fault}
@@ -51,7 +51,7 @@ reads-none : (d : Dialect) (gs : List Section) → LeavesBlocks d gs [] (bareBlo
 unfolding grown
 reads-none d gs = record { obey = λ n s. tt; leaves = λ n s. refl }
 
-reads-line : (d : Dialect) (gs : List Section) (l : Line) (ls : List Line) (bs : List Block) → Writable d l → fault d gs l ≡ none → ((n s at : ℕ) → LeavesBlocks d (withLine d n s at l gs) ls bs) → LeavesBlocks d gs (l ∷ ls) bs
+reads-line : (d : Dialect) (gs : List Section) (l : Line) (ls : List Line) (bs : List Block) → WritableLine d l → fault d gs l ≡ none → ((n s at : ℕ) → LeavesBlocks d (withLine d n s at l gs) ls bs) → LeavesBlocks d gs (l ∷ ls) bs
 unfolding grown
 reads-line d gs l ls bs w f h =
     record {
@@ -120,19 +120,19 @@ reads-blocks d (b ∷ bs) gs w a u = go (b .rows) (w .0 .rows) (w .0 .apart) (λ
 
 -- ---- a file
 
-writable-append : (d : Dialect) (a b : List Line) → AllWritable d a → AllWritable d b → AllWritable d (a ++ b)
+writable-append : (d : Dialect) (a b : List Line) → WritableLines d a → WritableLines d b → WritableLines d (a ++ b)
 writable-append d [] b v w = w
 writable-append d (l ∷ a) b v w = (v .0, writable-append d a b (v .1) w)
 
-rows-writable : (d : Dialect) (g : Group) (rs : List WrittenRow) → GoodRows d g rs → AllWritable d (rowLines rs)
+rows-writable : (d : Dialect) (g : Group) (rs : List WrittenRow) → GoodRows d g rs → WritableLines d (rowLines rs)
 rows-writable d g [] w = tt
 rows-writable d g (r ∷ rs) w = (w .0 .text, rows-writable d g rs (w .1))
 
-group-writable : (d : Dialect) (b : Block) (w : GoodBlock d b) (rs : List WrittenRow) → GoodRows d (w .group) rs → AllWritable d (headedLines (b .name) rs)
+group-writable : (d : Dialect) (b : Block) (w : GoodBlock d b) (rs : List WrittenRow) → GoodRows d (w .group) rs → WritableLines d (headedLines (b .name) rs)
 group-writable d b w [] v = tt
 group-writable d b w (r ∷ rs) v = (w .header, rows-writable d (w .group) (r ∷ rs) v)
 
-pub blocks-writable : (d : Dialect) (bs : List Block) → GoodBlocks d bs → AllWritable d (blockLines bs)
+pub blocks-writable : (d : Dialect) (bs : List Block) → GoodBlocks d bs → WritableLines d (blockLines bs)
 blocks-writable d [] w = tt
 blocks-writable d (b ∷ bs) w = writable-append d (headedLines (b .name) (b .rows)) (blockLines bs) (group-writable d b (w .0) (b .rows) (w .0 .rows)) (blocks-writable d bs (w .1))
 

@@ -6,7 +6,7 @@ use mathlib.Core.Bool.{true, false}
 use mathlib.Core.List.{List}
 use mathlib.Core.Option.{Option, some}
 use Rattle.text.specs.Words.{word, same}
-use Rattle.text.specs.Options.{isSome, andThen, mapped, plain}
+use Rattle.text.specs.Options.{isSome, andThen, mapped, orEmpty}
 use Rattle.text.specs.declared.Dialect.the-variants.{Iwd}
 use Rattle.addresses.specs.Addresses.{address, netmask, addresses}
 use Rattle.addresses.specs.declared.Separator.the-variants.{Spaces}
@@ -72,7 +72,7 @@ module _ (j : Join) (w : WellFormed j) where
   secret-read : iwdSecret (iwdEntry (groupsOf j) (word "Security")) ≡ j .credential
   unfolding keysOf
   secret-read =
-      ap₂ secretFrom (reads (word "Security") (word "Passphrase") (K.passphrase Iwd)) (reads (word "Security") (word "PreSharedKey") K.key)
+      ap₂ secretFrom (reads (word "Security") (word "Passphrase") (K.passphrase Iwd)) (reads (word "Security") (word "PreSharedKey") K.preSharedKey)
       ∙ secret-rows-read (j .credential) (w .credential)
 
   hidden-read : orFalse (readAs (flag Iwd) (iwdEntry (groupsOf j) (word "Settings") (word "Hidden"))) ≡ j .hidden
@@ -83,14 +83,14 @@ module _ (j : Join) (w : WellFormed j) where
   ipv4-read p =
       rw (number-reads (word "Address") refl refl address, number-reads (word "Netmask") refl refl netmask, number-reads (word "Gateway") refl refl address) (number-rows-read (j .ipv4) (w .ipv4) p)
 
-  servers-read : plain (readAs (addresses Spaces) (iwdEntry (groupsOf j) (word "IPv4") (word "DNS"))) ≡ j .servers
+  servers-read : orEmpty (readAs (addresses Spaces) (iwdEntry (groupsOf j) (word "IPv4") (word "DNS"))) ≡ j .servers
   servers-read =
-      ap plain (reads (word "IPv4") (word "DNS") (addresses Spaces) ∙ ap (λ (o : Option (List ℕ)). andThen o (addresses Spaces)) (server-value (j .ipv4) (j .servers) (j .domain)))
+      ap orEmpty (reads (word "IPv4") (word "DNS") (addresses Spaces) ∙ ap (λ (o : Option (List ℕ)). andThen o (addresses Spaces)) (server-value (j .ipv4) (j .servers) (j .domain)))
       ∙ server-rows-read (j .servers) (w .servers)
 
-  domain-read : plain (readAs (string Iwd 1 253) (iwdEntry (groupsOf j) (word "IPv4") (word "DomainName"))) ≡ j .domain
+  domain-read : orEmpty (readAs (string Iwd 1 253) (iwdEntry (groupsOf j) (word "IPv4") (word "DomainName"))) ≡ j .domain
   domain-read =
-      ap plain (reads (word "IPv4") (word "DomainName") (string Iwd 1 253) ∙ ap (λ (o : Option (List ℕ)). andThen o (string Iwd 1 253)) (domain-value (j .ipv4) (j .servers) (j .domain)))
+      ap orEmpty (reads (word "IPv4") (word "DomainName") (string Iwd 1 253) ∙ ap (λ (o : Option (List ℕ)). andThen o (string Iwd 1 253)) (domain-value (j .ipv4) (j .servers) (j .domain)))
       ∙ domain-rows-read (j .domain) (w .domain)
 
   ipv6-read : enabledIpv6 (readAs (flag Iwd) (iwdEntry (groupsOf j) (word "IPv6") (word "Enabled"))) ≡ j .ipv6

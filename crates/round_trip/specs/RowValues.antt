@@ -21,7 +21,7 @@ use Rattle.addresses.specs.declared.Separator.the-variants.{Spaces}
 use Rattle.kinds.specs.Kinds as K
 use Rattle.kinds.specs.Typed as T
 use Rattle.kinds.specs.Typed.{Typed, typed, stringBroken}
-use Rattle.kinds.specs.Written.{Stands, escape-stands, string-escape, printable-stands, hex-stands, key-hex, dotted-stands, listed-stands}
+use Rattle.kinds.specs.Written.{StandsOnLine, escape-stands, string-escape, printable-stands, hex-stands, pre-shared-key-hex, dotted-stands, listed-stands}
 use Rattle.kinds.specs.declared.Kind.{Kind}
 use Rattle.rules.specs.Tables.{keysOf, kindOf}
 use Rattle.rules.specs.GoodValues.{value-faultless}
@@ -36,7 +36,7 @@ record WritableKey (g : Group) (k : List ℕ) (x : Kind) : Type 0 where
   bytes : all (isKeyByte Iwd) k ≡ true
   listed : kindOf g k ≡ some x
 
-row-good : {g : Group} {k : List ℕ} {x : Kind} {v : List ℕ} {t : Typed} → WritableKey g k x → Stands v →
+row-good : {g : Group} {k : List ℕ} {x : Kind} {v : List ℕ} {t : Typed} → WritableKey g k x → StandsOnLine v →
     stringBroken Iwd x v ≡ false → typed Iwd x v ≡ some t → GoodRow Iwd g (k, v)
 row-good {x = x} {v = v} w s b e =
     record {
@@ -71,7 +71,7 @@ passphrase-row p w =
 pub key-row : (k : List ℕ) → GoodKey k → GoodRow Iwd Security (word "PreSharedKey", hex k)
 unfolding keysOf isKeyByte typed
 key-row k w =
-    row-good (record { long = refl; bytes = refl; listed = refl }) (hex-stands k (w .bytes)) refl (ap (mapped T.bytes) (key-hex k (w .long) (w .bytes)))
+    row-good (record { long = refl; bytes = refl; listed = refl }) (hex-stands k (w .bytes)) refl (ap (mapped T.bytes) (pre-shared-key-hex k (w .long) (w .bytes)))
 
 pub domain-row : (c : ℕ) (d : List ℕ) → GoodDomain (c ∷ d) → GoodRow Iwd Ipv4 (word "DomainName", escape (c ∷ d))
 unfolding keysOf isKeyByte typed

@@ -11,7 +11,7 @@ use Rattle.text.specs.Bytes.{between, isBlank, isHeaderByte, isKeyByte}
 use Rattle.text.specs.Parts.{front, after, empty, trimmed, lines}
 use Rattle.text.specs.Laws.{and-true, inside}
 use Rattle.text.specs.Options.{mapped, only, orElse}
-use Rattle.text.specs.OptionLaws.{Holds, holds-some}
+use Rattle.text.specs.OptionLaws.{IfSome, if-some}
 use Rattle.text.specs.Relations.{Each}
 use Rattle.text.specs.declared.Dialect.{Dialect}
 use Rattle.text.specs.declared.Dialect.the-variants.{Iwd, ConnMan}
@@ -95,37 +95,37 @@ module _ (k l : ℕ) (here : between 1 k l ≡ true) where
 
   -- only ConnMan has services to count, and only iwd has extensions
   header-has-row : (d : Dialect) (n : List ℕ) (o : Option Group) (gs : List Section) → groupOf d n ≡ o →
-      Holds (Own d) (headerFault n o gs)
+      IfSome (Own d) (headerFault n o gs)
   header-has-row d n none gs q = either d N.UnknownGroup refl
   header-has-row d n (some g) gs q = go d q (nameGiven n gs)
     where
       many : (d : Dialect) → groupOf d n ≡ some g → (a b : Bool) → serves g ≡ a →
-          Holds (Own d) (cond (a && b) (some ManyServices) none)
+          IfSome (Own d) (cond (a && b) (some ManyServices) none)
       many d q false b p = tt
       many d q true false p = tt
       many Iwd q true true p = absurd (true≢false (sym p ∙ iwd-plain n g q))
       many ConnMan q true true p = line-has-row k (ownRows ConnMan) 13 l here refl
 
       go : (d : Dialect) → groupOf d n ≡ some g → (a : Bool) →
-          Holds (Own d) (cond a (some RepeatedGroup) (cond (serves g && leb 8 (services gs)) (some ManyServices) none))
+          IfSome (Own d) (cond a (some RepeatedGroup) (cond (serves g && leb 8 (services gs)) (some ManyServices) none))
       go d q true = either d RepeatedGroup refl
       go d q false = many d q (serves g) (leb 8 (services gs)) refl
 
-  value-has-row : (d : Dialect) (j : Judged) → Holds (Own d) (valueFault j)
+  value-has-row : (d : Dialect) (j : Judged) → IfSome (Own d) (valueFault j)
   value-has-row d (good t) = tt
   value-has-row d brokenText = either d N.ValueText refl
   value-has-row d brokenKind = either d N.ValueKind refl
 
   key-has-row : (d : Dialect) (key v : List ℕ) (o : Option Kind) (es : List Entry) →
-      Holds (Own d) (keyFault d key v o es)
+      IfSome (Own d) (keyFault d key v o es)
   key-has-row d key v none es = either d N.UnknownKey refl
   key-has-row d key v (some x) es = go (given key es)
     where
-      go : (b : Bool) → Holds (Own d) (cond b (some RepeatedKey) (valueFault (judged d x v)))
+      go : (b : Bool) → IfSome (Own d) (cond b (some RepeatedKey) (valueFault (judged d x v)))
       go true = either d RepeatedKey refl
       go false = value-has-row d (judged d x v)
 
-  setting-has-row : (d : Dialect) (key v : List ℕ) (gs : List Section) → Holds (Own d) (settingFault d key v gs)
+  setting-has-row : (d : Dialect) (key v : List ℕ) (gs : List Section) → IfSome (Own d) (settingFault d key v gs)
   setting-has-row d key v [] = either d N.NoGroup refl
   setting-has-row d key v (g ∷ gs) = key-has-row d key v (kindOf (g .group) key) (g .entries)
 
@@ -134,7 +134,7 @@ module _ (k l : ℕ) (here : between 1 k l ≡ true) where
   extension-has-row ConnMan t e = absurd (no-extension t e)
 
   fault-has-row : (d : Dialect) (gs : List Section) (t : List ℕ) (x : Line) → lineOf d t ≡ x →
-      Holds (Own d) (fault d gs x)
+      IfSome (Own d) (fault d gs x)
   unfolding fault
   fault-has-row d gs t blank e = tt
   fault-has-row d gs t comment e = tt
@@ -149,13 +149,13 @@ module _ (k l : ℕ) (here : between 1 k l ≡ true) where
 -- a fault of a group, which has the line l
 module _ (k l : ℕ) where
   iwd-rule : (a b : Bool) →
-      Holds (λ f. hasRow k (ownRows Iwd) (numberOf (f .refusal)) (f .line) ≡ true) (faultAt 0 (lackOrClash a b))
+      IfSome (λ f. hasRow k (ownRows Iwd) (numberOf (f .refusal)) (f .line) ≡ true) (faultAt 0 (lackOrClash a b))
   iwd-rule true b = refl
   iwd-rule false true = refl
   iwd-rule false false = tt
 
   service-rule : between 1 k l ≡ true → (a b : Bool) →
-      Holds (λ f. hasRow k (ownRows ConnMan) (numberOf (f .refusal)) (f .line) ≡ true) (faultAt l (lackOrClash a b))
+      IfSome (λ f. hasRow k (ownRows ConnMan) (numberOf (f .refusal)) (f .line) ≡ true) (faultAt l (lackOrClash a b))
   service-rule h true b = line-has-row k (ownRows ConnMan) 14 l h refl
   service-rule h false true = line-has-row k (ownRows ConnMan) 15 l h refl
   service-rule h false false = tt
@@ -164,42 +164,42 @@ module _ (file : List ℕ) where
   abbrev OwnFault : Dialect → Fault → Type 0
   OwnFault d f = hasRow (length (lines file)) (ownRows d) (numberOf (f .refusal)) (f .line) ≡ true
 
-  file-has-row : (s : Suffix) (gs : List Section) → Holds (OwnFault Iwd) (fileFault s gs)
+  file-has-row : (s : Suffix) (gs : List Section) → IfSome (OwnFault Iwd) (fileFault s gs)
   unfolding fileFault
   file-has-row s gs = iwd-rule (length (lines file)) 0 (fileLacks s gs) (fileClashes s gs)
 
-  section-has-row : (g : Section) → SectionStands file g → Holds (OwnFault ConnMan) (sectionFault g)
+  section-has-row : (g : Section) → SectionStands file g → IfSome (OwnFault ConnMan) (sectionFault g)
   unfolding serviceFault
   section-has-row g h = go (serves (g .group))
     where
       go : (b : Bool) →
-          Holds (OwnFault ConnMan) (cond b (faultAt (g .line) (lackOrClash (lacks (g .entries)) (clashes (g .entries)))) none)
+          IfSome (OwnFault ConnMan) (cond b (faultAt (g .line) (lackOrClash (lacks (g .entries)) (clashes (g .entries)))) none)
       go true = service-rule (length (lines file)) (g .line) (h .line) (lacks (g .entries)) (clashes (g .entries))
       go false = tt
 
-  services-has-row : (gs : List Section) → Each (SectionStands file) gs → Holds (OwnFault ConnMan) (servicesFault gs)
+  services-has-row : (gs : List Section) → Each (SectionStands file) gs → IfSome (OwnFault ConnMan) (servicesFault gs)
   services-has-row [] h = tt
   services-has-row (g ∷ gs) h =
       go (sectionFault g) (section-has-row g (h .0)) (servicesFault gs) (services-has-row gs (h .1))
     where
-      go : (a : Option Fault) → Holds (OwnFault ConnMan) a → (b : Option Fault) → Holds (OwnFault ConnMan) b →
-          Holds (OwnFault ConnMan) (orElse a b)
+      go : (a : Option Fault) → IfSome (OwnFault ConnMan) a → (b : Option Fault) → IfSome (OwnFault ConnMan) b →
+          IfSome (OwnFault ConnMan) (orElse a b)
       go none p b q = q
       go (some f) p b q = p
 
   groups-has-row : (d : Dialect) (name : List ℕ) {n : Name} → nameIn d name ≡ some n →
-      Holds (OwnFault d) (groupsFault n (sectionsOf d file))
+      IfSome (OwnFault d) (groupsFault n (sectionsOf d file))
   groups-has-row Iwd name {n} e = go (networkOf name) e
     where
       go : (o : Option Network) → mapped (λ x. iwdName (x .suffix)) o ≡ some n →
-          Holds (OwnFault Iwd) (groupsFault n (sectionsOf Iwd file))
+          IfSome (OwnFault Iwd) (groupsFault n (sectionsOf Iwd file))
       go none q = absurd (Option·none-ne-some n q)
       go (some x) q =
           rw (← Option·some-injective (iwdName (x .suffix)) n q) (file-has-row (x .suffix) (sectionsOf Iwd file))
   groups-has-row ConnMan name {n} e = go (connmanName name) e
     where
       go : (b : Bool) → only b (some connmanFile) ≡ some n →
-          Holds (OwnFault ConnMan) (groupsFault n (sectionsOf ConnMan file))
+          IfSome (OwnFault ConnMan) (groupsFault n (sectionsOf ConnMan file))
       go true q =
           rw (← Option·some-injective connmanFile n q) (services-has-row (sectionsOf ConnMan file) (sections-stand ConnMan file))
       go false q = absurd (Option·none-ne-some n q)
@@ -220,8 +220,8 @@ offends-has-row ConnMan name file (too-long h) = refl
 offends-has-row Iwd name file (misnamed h n) = refl
 offends-has-row ConnMan name file (misnamed h n) = refl
 offends-has-row d name file (in-line h n {f} w) =
-    holds-some (λ r. hasRow (length (lines file)) (ownRows d) (numberOf r) (f .line) ≡ true) (fault-has-row (length (lines file)) (f .line) (faulty-line d file w) d (grown d 1 0 [] (w .before)) (w .line) (lineOf d (w .line)) refl) (w .faulty)
-offends-has-row d name file (in-group h n o e) = holds-some (OwnFault file d) (groups-has-row file d name n) e
+    if-some (λ r. hasRow (length (lines file)) (ownRows d) (numberOf r) (f .line) ≡ true) (fault-has-row (length (lines file)) (f .line) (faulty-line d file w) d (grown d 1 0 [] (w .before)) (w .line) (lineOf d (w .line)) refl) (w .faulty)
+offends-has-row d name file (in-group h n o e) = if-some (OwnFault file d) (groups-has-row file d name n) e
 
 pub reading-has-row : (d : Dialect) (name file : List ℕ) {r : Refusal} {l : ℕ} → reading d name file ≡ R.Refused r l →
     hasRow (length (lines file)) (ownRows d) (numberOf r) l ≡ true

@@ -8,7 +8,7 @@ use mathlib.Core.Option.{Option, none, some}
 use lib.ListN.{length}
 use Rattle.text.specs.Parts.{lines}
 use Rattle.text.specs.Words.{same}
-use Rattle.text.specs.OptionLaws.{Holds}
+use Rattle.text.specs.OptionLaws.{IfSome}
 use Rattle.text.specs.declared.Dialect.{Dialect}
 use Rattle.lines.specs.Lines.{Line, blank, comment, header, setting, broken, lineOf, valueStart}
 use Rattle.rules.specs.Tables.{groupOf}
@@ -69,12 +69,12 @@ sections-counted d file =
 
 -- ---- a setting that is asked for
 
-entry-counted : (k : List ℕ) (es : List Entry) → Counted es → Holds (λ e. 1 ≤ e .line) (entryOf k es)
+entry-counted : (k : List ℕ) (es : List Entry) → Counted es → IfSome (λ e. 1 ≤ e .line) (entryOf k es)
 entry-counted k [] h = tt
 entry-counted k (x ∷ es) h = go (same k (x .key)) (entry-counted k es (h .1))
   where
-    go : (b : Bool) → Holds (λ e. 1 ≤ e .line) (entryOf k es) →
-        Holds (λ e. 1 ≤ e .line) (cond b (some x) (entryOf k es))
+    go : (b : Bool) → IfSome (λ e. 1 ≤ e .line) (entryOf k es) →
+        IfSome (λ e. 1 ≤ e .line) (cond b (some x) (entryOf k es))
     go true i = h .0
     go false i = i
 
@@ -100,11 +100,11 @@ service-counted (suc n) (s ∷ gs) h =
 
 -- in the group with a name, and in service w
 pub group-line : (d : Dialect) (file group key : List ℕ) →
-    Holds (λ e. 1 ≤ e .line) (entryOf key (entriesIn group (sectionsOf d file)))
+    IfSome (λ e. 1 ≤ e .line) (entryOf key (entriesIn group (sectionsOf d file)))
 group-line d file group key =
     entry-counted key (entriesIn group (sectionsOf d file)) (entries-counted group (sectionsOf d file) (sections-counted d file))
 
 pub service-line : (d : Dialect) (file : List ℕ) (w : ℕ) (key : List ℕ) →
-    Holds (λ e. 1 ≤ e .line) (entryOf key (serviceAt w (sectionsOf d file)))
+    IfSome (λ e. 1 ≤ e .line) (entryOf key (serviceAt w (sectionsOf d file)))
 service-line d file w key =
     entry-counted key (serviceAt w (sectionsOf d file)) (service-counted w (sectionsOf d file) (sections-counted d file))

@@ -13,7 +13,7 @@ use Rattle.text.specs.Bytes.{between, isBlank, inLine, isHeaderByte, isKeyByte}
 use Rattle.text.specs.Parts.{lead, front, after, all, empty, part, trimmed, lines}
 use Rattle.text.specs.Words.{same}
 use Rattle.text.specs.Laws.{inside, lines-front, part-part}
-use Rattle.text.specs.OptionLaws.{Holds}
+use Rattle.text.specs.OptionLaws.{IfSome}
 use Rattle.text.specs.Relations.{Each}
 use Rattle.text.specs.RelationLaws.{each-append}
 use Rattle.text.specs.declared.Dialect.{Dialect}
@@ -230,12 +230,12 @@ module _ (d : Dialect) (file : List ℕ) where
   -- ---- a setting that is asked for
 
   entry-stands : (key : List ℕ) (es : List Entry) → Each (EntryStands file) es →
-      Holds (EntryStands file) (entryOf key es)
+      IfSome (EntryStands file) (entryOf key es)
   entry-stands key [] h = tt
   entry-stands key (x ∷ es) h = go (same key (x .key)) (entry-stands key es (h .1))
     where
-      go : (b : Bool) → Holds (EntryStands file) (entryOf key es) →
-          Holds (EntryStands file) (cond b (some x) (entryOf key es))
+      go : (b : Bool) → IfSome (EntryStands file) (entryOf key es) →
+          IfSome (EntryStands file) (cond b (some x) (entryOf key es))
       go true k = h .0
       go false k = k
 
@@ -263,10 +263,10 @@ module _ (d : Dialect) (file : List ℕ) where
       go false n k i = i
 
   -- by its key, in the group with a name and in service w
-  pub group-stands : (group key : List ℕ) → Holds (EntryStands file) (entryOf key (entriesIn group (sectionsOf d file)))
+  pub group-stands : (group key : List ℕ) → IfSome (EntryStands file) (entryOf key (entriesIn group (sectionsOf d file)))
   group-stands group key =
       entry-stands key (entriesIn group (sectionsOf d file)) (named-stand group (sectionsOf d file) sections-stand)
 
-  pub service-stands : (w : ℕ) (key : List ℕ) → Holds (EntryStands file) (entryOf key (serviceAt w (sectionsOf d file)))
+  pub service-stands : (w : ℕ) (key : List ℕ) → IfSome (EntryStands file) (entryOf key (serviceAt w (sectionsOf d file)))
   service-stands w key =
       entry-stands key (serviceAt w (sectionsOf d file)) (numbered-stand w (sectionsOf d file) sections-stand)

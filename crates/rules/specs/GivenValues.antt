@@ -6,7 +6,7 @@ use mathlib.Core.Bool.{Bool, true, false, cond, _||_, true≢false}
 use mathlib.Core.List.{List, [], _∷_}
 use mathlib.Core.Option.{Option, none, some, Option·none-ne-some, Option·some-injective}
 use Rattle.text.specs.Options.{isSome, mapped, only}
-use Rattle.text.specs.OptionLaws.{Holds}
+use Rattle.text.specs.OptionLaws.{IfSome}
 use Rattle.text.specs.Words.{word, same}
 use Rattle.text.specs.declared.Dialect.{Dialect}
 use Rattle.text.specs.declared.Dialect.the-variants.{Iwd, ConnMan}
@@ -40,7 +40,7 @@ typedAs Kind.Ipv4 = T.ipv4
 typedAs (Kind.Addresses sep) = T.addresses
 typedAs Kind.Entries = T.entries
 typedAs Kind.Mac = T.bytes
-typedAs Kind.Key = T.bytes
+typedAs Kind.PreSharedKey = T.bytes
 typedAs Kind.Ssid = T.bytes
 typedAs Kind.Passphrase = T.bytes
 typedAs (Kind.Text low high) = T.bytes
@@ -67,7 +67,7 @@ typed-valued d Kind.Ipv4 v = refl
 typed-valued d (Kind.Addresses sep) v = refl
 typed-valued d Kind.Entries v = refl
 typed-valued d Kind.Mac v = refl
-typed-valued d Kind.Key v = refl
+typed-valued d Kind.PreSharedKey v = refl
 typed-valued d Kind.Ssid v = refl
 typed-valued d Kind.Passphrase v = refl
 typed-valued d (Kind.Text low high) v = refl
@@ -106,11 +106,11 @@ group-of-name Service s = absurd (true≢false s)
 
 -- what is read from a setting has a property that its kind gives to all it reads
 pub read-holds : {A : Type 0} (P : A → Type 0) (f : List ℕ → Option A) (o : Option Entry) →
-    ((e : Entry) → o ≡ some e → (a : A) → f (e .value) ≡ some a → P a) → Holds P (readAs f o)
+    ((e : Entry) → o ≡ some e → (a : A) → f (e .value) ≡ some a → P a) → IfSome P (readAs f o)
 read-holds P f none h = tt
 read-holds {A} P f (some e) h = go (f (e .value)) refl
   where
-    go : (o : Option A) → f (e .value) ≡ o → Holds P o
+    go : (o : Option A) → f (e .value) ≡ o → IfSome P o
     go none q = tt
     go (some a) q = h e refl a q
 

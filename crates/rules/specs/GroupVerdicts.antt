@@ -15,7 +15,7 @@ use Rattle.text.specs.Relations.{Each, Some}
 use Rattle.text.specs.RelationLaws.{each-at}
 use Rattle.text.specs.Occurrences.{Everywhere, FirstBad}
 use Rattle.text.specs.OccurrenceLaws.{Compared, alike, later, sooner, compare}
-use Rattle.text.specs.Tells.{Tells, holds, fails, tells-not, tells-alike, tells-and, tells-or, same-tells}
+use Rattle.text.specs.Decides.{Decides, holds, fails, decides-not, decides-alike, decides-and, decides-or, same-decides}
 use Rattle.text.specs.declared.Dialect.{Dialect}
 use Rattle.lines.specs.Lines.{Line, blank, comment, header, setting, broken}
 use Rattle.names.specs.declared.Suffix.{Suffix}
@@ -127,7 +127,7 @@ module _ (d : Dialect) where
       go (serves-tells d (g .name) (g .group) (a .grouped)) (serviceFault (g .entries))
       (service-ruled (g .entries) since (a .entries) (a .once))
     where
-      go : {b : Bool} → Tells (GroupIs d (g .name) Service) b → (o : Option Refusal) →
+      go : {b : Bool} → Decides (GroupIs d (g .name) Service) b → (o : Option Refusal) →
           Ruled (ServiceLacks since) (ServiceClashes since) o →
           ServicesVerdict (earlier ++ header (g .name) ∷ since) (cond b (faultAt (g .line) o) none)
       go (fails n) o v = sound-more earlier (g .name) since (a .latest) h (λ s. absurd (n s))
@@ -193,9 +193,9 @@ lines-in-headless n (l ∷ a) b h = lines-in-cons n l (a ++ b) (h .0) ∙ lines-
 
 lines-in-first : (n : List ℕ) (a c : List Line) → ¬ Some (NamesGroup n) a → linesIn n (a ++ header n ∷ c) ≡ groupLines c
 lines-in-first n [] c h = rw (same-refl n)
-lines-in-first n (header m ∷ a) c h = go (same-tells n m) (lines-in-first n a c (λ k. h (inr k)))
+lines-in-first n (header m ∷ a) c h = go (same-decides n m) (lines-in-first n a c (λ k. h (inr k)))
   where
-    go : {b : Bool} → Tells (n ≡ m) b → linesIn n (a ++ header n ∷ c) ≡ groupLines c →
+    go : {b : Bool} → Decides (n ≡ m) b → linesIn n (a ++ header n ∷ c) ≡ groupLines c →
         cond b (groupLines (a ++ header n ∷ c)) (linesIn n (a ++ header n ∷ c)) ≡ groupLines c
     go (holds e) q = absurd (h (inl e))
     go (fails e) q = q
@@ -230,9 +230,9 @@ module _ (g k : String) where
   lines-in (comment ∷ ls) h = in-more comment ls (lines-in ls h)
   lines-in (setting j v ∷ ls) h = in-more (setting j v) ls (lines-in ls h)
   lines-in (broken b ∷ ls) h = in-more (broken b) ls (lines-in ls h)
-  lines-in (header m ∷ ls) h = go (same-tells (word g) m) (lines-in ls) h
+  lines-in (header m ∷ ls) h = go (same-decides (word g) m) (lines-in ls) h
     where
-      go : {b : Bool} → Tells (word g ≡ m) b → (Some (GivesKey (word k)) (linesIn (word g) ls) → In g k ls) →
+      go : {b : Bool} → Decides (word g ≡ m) b → (Some (GivesKey (word k)) (linesIn (word g) ls) → In g k ls) →
           Some (GivesKey (word k)) (cond b (groupLines ls) (linesIn (word g) ls)) → In g k (header m ∷ ls)
       go (holds e) f h = record { before = []; rest = ls; is = ap (λ (n : List ℕ). header n ∷ ls) (sym e); gives = h }
       go (fails e) f h = in-more (header m) ls (f h)
@@ -246,32 +246,32 @@ module _ (d : Dialect) (gs : List Section) (ls : List Line) (s : SectionsRead d 
   entries-whole : (n : List ℕ) → entryPairs (entriesIn n (reverse gs)) ≡ linePairs (linesIn n ls)
   entries-whole n = rw (append-nil (reverse gs), append-nil ls) at (entries-lines d n gs ls s [] [] refl refl)
 
-  in-tells : (g k : String) → Tells (In g k ls) (has (word g) (word k) (reverse gs))
+  in-tells : (g k : String) → Decides (In g k ls) (has (word g) (word k) (reverse gs))
   in-tells g k =
-      tells-alike (lines-in g k ls) (in-lines g k)
+      decides-alike (lines-in g k ls) (in-lines g k)
       (pairs-tell (λ j u. word k ≡ j) (entriesIn (word g) (reverse gs)) (linesIn (word g) ls) (entries-whole (word g))
       (given-tells (word k) (entriesIn (word g) (reverse gs))))
 
-  either-tells : Tells (EitherKey ls) (hasSecret (reverse gs))
-  either-tells = tells-or (in-tells "Security" "Passphrase") (in-tells "Security" "PreSharedKey")
+  either-tells : Decides (EitherKey ls) (hasSecret (reverse gs))
+  either-tells = decides-or (in-tells "Security" "Passphrase") (in-tells "Security" "PreSharedKey")
 
-  open-tells : (x : Suffix) → Tells (x ≡ S.Open) (isOpen x)
+  open-tells : (x : Suffix) → Decides (x ≡ S.Open) (isOpen x)
   open-tells S.Open = holds refl
   open-tells S.Psk = fails (λ e. let z : _≡_ {A = ℕ} 0 1 = cc in omega arith)
 
-  psk-tells : (x : Suffix) → Tells (x ≡ S.Psk) (not (isOpen x))
+  psk-tells : (x : Suffix) → Decides (x ≡ S.Psk) (not (isOpen x))
   psk-tells S.Open = fails (λ e. let z : _≡_ {A = ℕ} 0 1 = cc in omega arith)
   psk-tells S.Psk = holds refl
 
-  lacks-tells : (x : Suffix) → Tells (FileLacks x ls) (fileLacks x (reverse gs))
+  lacks-tells : (x : Suffix) → Decides (FileLacks x ls) (fileLacks x (reverse gs))
   lacks-tells x =
-      tells-or (tells-and (psk-tells x) (tells-not either-tells))
-      (tells-or (tells-and (in-tells "IPv4" "Address") (tells-not (in-tells "IPv4" "Gateway")))
-      (tells-and (tells-or (in-tells "IPv4" "Gateway") (tells-or (in-tells "IPv4" "Netmask") (in-tells "IPv4" "Broadcast")))
-      (tells-not (in-tells "IPv4" "Address"))))
+      decides-or (decides-and (psk-tells x) (decides-not either-tells))
+      (decides-or (decides-and (in-tells "IPv4" "Address") (decides-not (in-tells "IPv4" "Gateway")))
+      (decides-and (decides-or (in-tells "IPv4" "Gateway") (decides-or (in-tells "IPv4" "Netmask") (in-tells "IPv4" "Broadcast")))
+      (decides-not (in-tells "IPv4" "Address"))))
 
-  clashes-tells : (x : Suffix) → Tells (FileClashes x ls) (fileClashes x (reverse gs))
-  clashes-tells x = tells-and (open-tells x) either-tells
+  clashes-tells : (x : Suffix) → Decides (FileClashes x ls) (fileClashes x (reverse gs))
+  clashes-tells x = decides-and (open-tells x) either-tells
 
 -- ---- the groups of a file
 

@@ -9,7 +9,7 @@ use mathlib.Core.Option.{Option, none, some, Option·none-ne-some}
 use Rattle.text.specs.Relations.{Each, Some}
 use Rattle.text.specs.Occurrences.{First}
 use Rattle.text.specs.OccurrenceLaws.{none-first}
-use Rattle.text.specs.Tells.{Tells, holds, fails, tells-and}
+use Rattle.text.specs.Decides.{Decides, holds, fails, decides-and}
 use Rattle.text.specs.declared.Dialect.{Dialect}
 use Rattle.utf8.specs.Utf8.{valueText}
 use Rattle.kinds.specs.Typed.{Typed, brokenText, byKind, typed, stringBroken, kindJudged, judged}
@@ -54,12 +54,12 @@ header-verdict : (d : Dialect) (gs : List Section) (before : List Line) → Sect
 header-verdict d gs before s n none q =
     inr (never, inr (never, inl ((λ g h. Option·none-ne-some g (sym q ∙ group-named d n g h)), refl)))
 header-verdict d gs before s n (some g) q =
-    go (named-tells d gs before s n) (tells-and (serves-tells d n g q) (eight-tells d gs before s))
+    go (named-tells d gs before s n) (decides-and (serves-tells d n g q) (eight-tells d gs before s))
   where
     known : ¬ ((h : Group) → ¬ GroupIs d n h)
     known z = z g (named-group d n g q)
 
-    go : {a b : Bool} → Tells (Some (NamesGroup n) before) a → Tells (GroupIs d n Service × EightServices d before) b →
+    go : {a b : Bool} → Decides (Some (NamesGroup n) before) a → Decides (GroupIs d n Service × EightServices d before) b →
         LineVerdict d before (header n) (cond a (some R.RepeatedGroup) (cond b (some R.ManyServices) none))
     go (holds h) t = inr (never, inr (never, inr (known, inl (h, refl))))
     go (fails h) (holds k) = inr (never, inr (never, inr (known, inr (h, inl (k, refl)))))
@@ -112,7 +112,7 @@ module _ (d : Dialect) (g : Section) (gs : List Section) (before : List Line) (s
       value-verdict true p false t (some y) e =
           record { place = place; once = n; text = judged-whole d kind v p t; typed = y; good = typed-value d kind v e }
 
-    listed-verdict : {b : Bool} → Tells (Some (GivesKey k) (s .1)) b →
+    listed-verdict : {b : Bool} → Decides (Some (GivesKey k) (s .1)) b →
         LineVerdict d before (setting k v) (cond b (some R.RepeatedKey) (valueFault (judged d kind v)))
     unfolding judged kindJudged
     listed-verdict (holds h) = behind R.RepeatedKey (inl ((here, h), refl))

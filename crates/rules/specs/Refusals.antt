@@ -9,7 +9,7 @@ use lib.Dec.{leb}
 use lib.ListN.{length}
 use Rattle.text.specs.Parts.{lines}
 use Rattle.text.specs.Options.{orElse}
-use Rattle.text.specs.OptionLaws.{Holds}
+use Rattle.text.specs.OptionLaws.{IfSome}
 use Rattle.text.specs.declared.Dialect.{Dialect}
 use Rattle.lines.specs.Lines.{Line, blank, comment, broken, header, setting, lineOf}
 use Rattle.lines.specs.declared.Break.the-variants as B
@@ -28,10 +28,10 @@ use Rattle.rules.specs.declared.Refusal.{Refusal}
 use Rattle.rules.specs.declared.Refusal.the-variants.{Size, RepeatedGroup, ManyServices, RepeatedKey}
 
 abbrev Own : Option Refusal → Type 0
-Own o = Holds (λ r. numberOf r ≤ 15) o
+Own o = IfSome (λ r. numberOf r ≤ 15) o
 
 abbrev OwnFault : Option Fault → Type 0
-OwnFault o = Holds (λ f. numberOf (f .refusal) ≤ 15) o
+OwnFault o = IfSome (λ f. numberOf (f .refusal) ≤ 15) o
 
 -- ---- lines
 

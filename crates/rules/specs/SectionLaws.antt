@@ -14,7 +14,7 @@ use Rattle.text.specs.Relations.{Each, Some}
 use Rattle.text.specs.RelationLaws.{each-append, each-weaken, some-left, some-right, some-either}
 use Rattle.text.specs.Occurrences.{Count, count-end, count-one, count-other}
 use Rattle.text.specs.OccurrenceLaws.{count-unique, count-none, count-append}
-use Rattle.text.specs.Tells.{Tells, holds, fails, tells, tells-alike, tells-or, same-tells}
+use Rattle.text.specs.Decides.{Decides, holds, fails, decides, decides-alike, decides-or, same-decides}
 use Rattle.text.specs.declared.Dialect.{Dialect}
 use Rattle.kinds.specs.Typed.{judged}
 use Rattle.kinds.specs.declared.Kind.{Kind}
@@ -87,12 +87,12 @@ module _ (P : List ℕ → List ℕ → Type 0) where
   some-pairs (l ∷ ls) (inr h) = more-pairs l ls (some-pairs ls h)
 
   pub pairs-tell : (es : List Entry) (ls : List Line) → entryPairs es ≡ linePairs ls → {b : Bool} →
-      Tells (Some (λ p. P (p .0) (p .1)) (entryPairs es)) b → Tells (Some (SettingThat P) ls) b
-  pairs-tell es ls q t = tells-alike (pairs-some ls) (some-pairs ls) (rw q at t)
+      Decides (Some (λ p. P (p .0) (p .1)) (entryPairs es)) b → Decides (Some (SettingThat P) ls) b
+  pairs-tell es ls q t = decides-alike (pairs-some ls) (some-pairs ls) (rw q at t)
 
-pub given-tells : (k : List ℕ) (es : List Entry) → Tells (KeyIn k (entryPairs es)) (given k es)
+pub given-tells : (k : List ℕ) (es : List Entry) → Decides (KeyIn k (entryPairs es)) (given k es)
 given-tells k [] = fails (λ z. z)
-given-tells k (e ∷ es) = tells-or (same-tells k (e .key)) (given-tells k es)
+given-tells k (e ∷ es) = decides-or (same-decides k (e .key)) (given-tells k es)
 
 line-pairs-append : (a b : List Line) → linePairs (a ++ b) ≡ linePairs a ++ linePairs b
 line-pairs-append [] b = refl
@@ -135,10 +135,10 @@ SectionsRead d (g ∷ gs) before =
     (earlier : List Line) × (since : List Line) × SectionRead d g before earlier since × SectionsRead d gs earlier
 
 pub named-tells : (d : Dialect) (gs : List Section) (before : List Line) → SectionsRead d gs before →
-    (n : List ℕ) → Tells (Some (NamesGroup n) before) (nameGiven n gs)
+    (n : List ℕ) → Decides (Some (NamesGroup n) before) (nameGiven n gs)
 named-tells d [] before s n = fails (headless (λ m. n ≡ m) before (s .0))
 named-tells d (g ∷ gs) before s n =
-    rw (s .2 .is) (tells-alike to from (tells-or (same-tells n (g .name)) (named-tells d gs (s .0) (s .3) n)))
+    rw (s .2 .is) (decides-alike to from (decides-or (same-decides n (g .name)) (named-tells d gs (s .0) (s .3) n)))
   where
     to : (n ≡ g .name) ⊎ Some (NamesGroup n) (s .0) → Some (NamesGroup n) (s .0 ++ header (g .name) ∷ s .1)
     to (inl e) = some-right (NamesGroup n) (s .0) (header (g .name) ∷ s .1) (inl e)
@@ -169,7 +169,7 @@ services-count d (g ∷ gs) before s =
     rest : Count (ServiceHeader d) (s .1) 0
     rest = no-services d (s .1) (s .2 .latest)
 
-    go : {b : Bool} → Tells (GroupIs d (g .name) Service) b → Count (ServiceHeader d) (s .0) (services gs) →
+    go : {b : Bool} → Decides (GroupIs d (g .name) Service) b → Count (ServiceHeader d) (s .0) (services gs) →
         Count (ServiceHeader d) (s .0 ++ header (g .name) ∷ s .1) (cond b (suc (services gs)) (services gs))
     go (holds h) c =
         let q : suc (services gs) ≡ services gs + 1 = omega arith in
@@ -180,9 +180,9 @@ services-count d (g ∷ gs) before s =
         (count-append (ServiceHeader d) c (count-other h rest))
 
 pub eight-tells : (d : Dialect) (gs : List Section) (before : List Line) → SectionsRead d gs before →
-    Tells (EightServices d before) (leb 8 (services gs))
+    Decides (EightServices d before) (leb 8 (services gs))
 eight-tells d gs before s =
-    tells (leb 8 (services gs))
+    decides (leb 8 (services gs))
     (λ e. (services gs, services-count d gs before s, leb-true 8 (services gs) e))
     (λ (h : EightServices d before).
     let e : h .0 ≡ services gs = count-unique (ServiceHeader d) (h .1) (services-count d gs before s) in
@@ -223,7 +223,7 @@ unrepeated d k v (some x) es f = go (given k es) f
 not-given : (k : List ℕ) (es : List Entry) → given k es ≡ false → ¬ KeyIn k (entryPairs es)
 not-given k es e h = go (given-tells k es) e
   where
-    go : {b : Bool} → Tells (KeyIn k (entryPairs es)) b → b ≡ false → ⊥
+    go : {b : Bool} → Decides (KeyIn k (entryPairs es)) b → b ≡ false → ⊥
     go (holds i) e = true≢false e
     go (fails n) e = n h
 

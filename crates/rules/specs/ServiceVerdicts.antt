@@ -12,7 +12,7 @@ use Rattle.text.specs.Words.{word, same, named}
 use Rattle.text.specs.Laws.{and-true}
 use Rattle.text.specs.Relations.{Some}
 use Rattle.text.specs.RelationLaws.{some-weaken}
-use Rattle.text.specs.Tells.{Tells, holds, fails, tells-not, tells-alike, tells-and, tells-or, same-tells}
+use Rattle.text.specs.Decides.{Decides, holds, fails, decides-not, decides-alike, decides-and, decides-or, same-decides}
 use Rattle.kinds.specs.Kinds.{wordsOf, wordOf}
 use Rattle.kinds.specs.declared.Word.{Word}
 use Rattle.kinds.specs.declared.Word.the-variants.{Wifi, Ethernet, Psk, None}
@@ -50,23 +50,23 @@ unlisted-named w u (row ∷ t) h =
     go false e f = f
 
 spelled-tells : (w : Word) (v : List ℕ) (t : List (List ℕ × Word)) → spelled w v t ≡ true →
-    (u : List ℕ) → Tells (u ≡ v) (isWord w (named u t))
+    (u : List ℕ) → Decides (u ≡ v) (isWord w (named u t))
 spelled-tells w v [] h u = absurd (false≢true h)
-spelled-tells w v (row ∷ t) h u = go (same-tells (row .0) v) (same-tells u (row .0)) h (λ k. spelled-tells w v t k u)
+spelled-tells w v (row ∷ t) h u = go (same-decides (row .0) v) (same-decides u (row .0)) h (λ k. spelled-tells w v t k u)
   where
-    go : {a b : Bool} → Tells (row .0 ≡ v) a → Tells (u ≡ row .0) b →
+    go : {a b : Bool} → Decides (row .0 ≡ v) a → Decides (u ≡ row .0) b →
         cond a (isWord w (some (row .1)) && unlisted w t) (not (isWord w (some (row .1))) && spelled w v t) ≡ true →
-        (spelled w v t ≡ true → Tells (u ≡ v) (isWord w (named u t))) →
-        Tells (u ≡ v) (isWord w (cond b (some (row .1)) (named u t)))
+        (spelled w v t ≡ true → Decides (u ≡ v) (isWord w (named u t))) →
+        Decides (u ≡ v) (isWord w (cond b (some (row .1)) (named u t)))
     go (holds p) (holds q) h k =
         let e = and-true (isWord w (some (row .1))) (unlisted w t) h in
-        subst (Tells (u ≡ v)) (sym (e .0)) (holds (q ∙ p))
+        subst (Decides (u ≡ v)) (sym (e .0)) (holds (q ∙ p))
     go (holds p) (fails q) h k =
         let e = and-true (isWord w (some (row .1))) (unlisted w t) h in
-        subst (Tells (u ≡ v)) (sym (unlisted-named w u t (e .1))) (fails (λ i. q (i ∙ sym p)))
+        subst (Decides (u ≡ v)) (sym (unlisted-named w u t (e .1))) (fails (λ i. q (i ∙ sym p)))
     go (fails p) (holds q) h k =
         let e = and-true (not (isWord w (some (row .1)))) (spelled w v t) h in
-        subst (Tells (u ≡ v)) (sym (not-true (isWord w (some (row .1))) (e .0))) (fails (λ i. p (sym q ∙ i)))
+        subst (Decides (u ≡ v)) (sym (not-true (isWord w (some (row .1))) (e .0))) (fails (λ i. p (sym q ∙ i)))
     go (fails p) (fails q) h k = k (and-true (not (isWord w (some (row .1)))) (spelled w v t) h .1)
 
 -- ---- whether a key is given a word
@@ -75,11 +75,11 @@ spelled-tells w v (row ∷ t) h u = go (same-tells (row .0) v) (same-tells u (ro
 abbrev Said : List ℕ → List ℕ → List KeyValue → Type 0
 Said k v ps = Some (λ p. (k ≡ p .0) × (v ≡ p .1)) ps
 
-module _ (w : Word) (t : WordList) (v : List ℕ) (f : (u : List ℕ) → Tells (u ≡ v) (isWord w (wordOf t u))) (k : List ℕ) where
+module _ (w : Word) (t : WordList) (v : List ℕ) (f : (u : List ℕ) → Decides (u ≡ v) (isWord w (wordOf t u))) (k : List ℕ) where
   word-tells : (es : List Entry) → Once (entryPairs es) →
-      Tells (Said k v (entryPairs es)) (isWord w (wordGiven t k es))
+      Decides (Said k v (entryPairs es)) (isWord w (wordGiven t k es))
   word-tells [] o = fails (λ z. z)
-  word-tells (x ∷ es) o = go (same-tells k (x .key)) (word-tells es (o .1))
+  word-tells (x ∷ es) o = go (same-decides k (x .key)) (word-tells es (o .1))
     where
       first : k ≡ x .key → Said k v (entryPairs (x ∷ es)) → x .value ≡ v
       first e (inl h) = sym (h .1)
@@ -91,10 +91,10 @@ module _ (w : Word) (t : WordList) (v : List ℕ) (f : (u : List ℕ) → Tells 
       further n (inl h) = absurd (n (h .0))
       further n (inr h) = h
 
-      go : {b : Bool} → Tells (k ≡ x .key) b → Tells (Said k v (entryPairs es)) (isWord w (wordGiven t k es)) →
-          Tells (Said k v (entryPairs (x ∷ es))) (isWord w (andThen (cond b (some x) (entryOf k es)) (λ y. wordOf t (y .value))))
-      go (holds e) r = tells-alike (λ i. inl (e, sym i)) (first e) (f (x .value))
-      go (fails n) r = tells-alike (λ h. inr h) (further n) r
+      go : {b : Bool} → Decides (k ≡ x .key) b → Decides (Said k v (entryPairs es)) (isWord w (wordGiven t k es)) →
+          Decides (Said k v (entryPairs (x ∷ es))) (isWord w (andThen (cond b (some x) (entryOf k es)) (λ y. wordOf t (y .value))))
+      go (holds e) r = decides-alike (λ i. inl (e, sym i)) (first e) (f (x .value))
+      go (fails n) r = decides-alike (λ h. inr h) (further n) r
 
 -- ---- a rule over a group
 
@@ -102,7 +102,7 @@ abbrev pub Ruled : Type 0 → Type 0 → Option Refusal → Type 0
 Ruled L C none = (¬ L) × (¬ C)
 Ruled L C (some r) = Faulty L C r
 
-pub ruled : {L C : Type 0} {a b : Bool} → Tells L a → Tells C b → Ruled L C (lackOrClash a b)
+pub ruled : {L C : Type 0} {a b : Bool} → Decides L a → Decides C b → Ruled L C (lackOrClash a b)
 ruled (holds l) (holds c) = missing l
 ruled (holds l) (fails c) = missing l
 ruled (fails l) (holds c) = contradicts l c
@@ -121,30 +121,30 @@ faulty-unique (contradicts n c) (contradicts k e) = refl
 -- ---- a service
 
 module _ (es : List Entry) (ls : List Line) (q : entryPairs es ≡ linePairs ls) (o : Once (linePairs ls)) where
-  has-key : (k : String) → Tells (Has k ls) (given (word k) es)
+  has-key : (k : String) → Decides (Has k ls) (given (word k) es)
   has-key k = pairs-tell (λ j u. word k ≡ j) es ls q (given-tells (word k) es)
 
   has-value : (k v : String) (w : Word) (t : WordList) → spelled w (word v) (wordsOf t) ≡ true →
-      Tells (HasValue k v ls) (isWord w (wordGiven t (word k) es))
+      Decides (HasValue k v ls) (isWord w (wordGiven t (word k) es))
   unfolding wordOf
   has-value k v w t h =
       pairs-tell (λ j u. (word k ≡ j) × (word v ≡ u)) es ls q
       (word-tells w t (word v) (spelled-tells w (word v) (wordsOf t) h) (word k) es (rw q o))
 
-  lacks-tells : Tells (ServiceLacks ls) (lacks es)
+  lacks-tells : Decides (ServiceLacks ls) (lacks es)
   lacks-tells =
-      tells-or (tells-not (has-key "Type"))
-      (tells-or
-      (tells-and (has-value "Type" "wifi" Wifi W.ServiceType refl) (tells-not (tells-or (has-key "Name") (has-key "SSID"))))
-      (tells-and (has-value "Security" "psk" Psk W.Security refl) (tells-not (has-key "Passphrase"))))
+      decides-or (decides-not (has-key "Type"))
+      (decides-or
+      (decides-and (has-value "Type" "wifi" Wifi W.ServiceType refl) (decides-not (decides-or (has-key "Name") (has-key "SSID"))))
+      (decides-and (has-value "Security" "psk" Psk W.Security refl) (decides-not (has-key "Passphrase"))))
 
-  clashes-tells : Tells (ServiceClashes ls) (clashes es)
+  clashes-tells : Decides (ServiceClashes ls) (clashes es)
   clashes-tells =
-      tells-or
-      (tells-and (has-value "Type" "ethernet" Ethernet W.ServiceType refl)
-      (tells-or (has-key "Name")
-      (tells-or (has-key "SSID") (tells-or (has-key "Passphrase") (tells-or (has-key "Security") (has-key "Hidden"))))))
-      (tells-and (has-value "Security" "none" None W.Security refl) (has-key "Passphrase"))
+      decides-or
+      (decides-and (has-value "Type" "ethernet" Ethernet W.ServiceType refl)
+      (decides-or (has-key "Name")
+      (decides-or (has-key "SSID") (decides-or (has-key "Passphrase") (decides-or (has-key "Security") (has-key "Hidden"))))))
+      (decides-and (has-value "Security" "none" None W.Security refl) (has-key "Passphrase"))
 
   pub service-ruled : Ruled (ServiceLacks ls) (ServiceClashes ls) (serviceFault es)
   unfolding serviceFault

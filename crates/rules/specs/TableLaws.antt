@@ -12,7 +12,7 @@ use Rattle.text.specs.Words.{word, same, named}
 use Rattle.text.specs.Options.{isSome, only, sized}
 use Rattle.text.specs.Laws.{and-true, same-refl, same-eq}
 use Rattle.text.specs.OptionLaws.{some-is, sized-is, is-sized}
-use Rattle.text.specs.Tells.{Tells, tells}
+use Rattle.text.specs.Decides.{Decides, decides}
 use Rattle.text.specs.declared.Dialect.{Dialect}
 use Rattle.text.specs.declared.Dialect.the-variants.{Iwd, ConnMan}
 use Rattle.kinds.specs.declared.Kind.{Kind}
@@ -126,8 +126,8 @@ named-group ConnMan n g e = go (same n (word "global")) refl (isService n) refl 
 
 -- whether a name is a service's, by its group
 pub serves-tells : (d : Dialect) (n : List ℕ) (g : Group) → groupOf d n ≡ some g →
-    Tells (GroupIs d n Service) (serves g)
+    Decides (GroupIs d n Service) (serves g)
 serves-tells d n g q =
-    tells (serves g)
+    decides (serves g)
     (λ e. named-group d n Service (q ∙ ap some (serves-service g e)))
     (λ s. ap serves (Option·some-injective g Service (sym q ∙ group-named d n Service s)))

@@ -35,7 +35,7 @@ groupOf ConnMan n = cond (same n (word "global")) (some Global) (only (isService
 unfoldable pub keysOf : Group → List (List ℕ × Kind)
 keysOf Settings =
     (word "AutoConnect", K.Flag) ∷ (word "Hidden", K.Flag) ∷ (word "AlwaysRandomizeAddress", K.Flag) ∷ (word "AddressOverride", K.Mac) ∷ []
-keysOf Security = (word "Passphrase", K.Passphrase) ∷ (word "PreSharedKey", K.Key) ∷ []
+keysOf Security = (word "Passphrase", K.Passphrase) ∷ (word "PreSharedKey", K.PreSharedKey) ∷ []
 keysOf Ipv4 =
     (word "Address", K.Address)
     ∷ (word "Gateway", K.Address)

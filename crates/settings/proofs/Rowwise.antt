@@ -5,17 +5,17 @@ use mathlib.Core.Bool.{Bool, true, false}
 use mathlib.Core.List.{List, []}
 use mathlib.Core.Option.{Option, none, some}
 use lib.ListN.{length}
-use Rattle.text.specs.Options.{plain, andThen}
+use Rattle.text.specs.Options.{andThen, orEmpty}
 use Rattle.text.specs.Words.{word}
 use Rattle.text.specs.declared.Dialect.{Dialect}
 use Rattle.text.specs.declared.Dialect.the-variants.{Iwd, ConnMan}
-use Rattle.addresses.specs.Addresses.{address, number, value, netmask, addresses, addressAnswer}
+use Rattle.addresses.specs.Addresses.{address, number, decimalValue, netmask, addresses, addressAnswer}
 use Rattle.addresses.specs.declared.Address.{Address}
 use Rattle.addresses.specs.declared.Separator.{Separator}
 use Rattle.addresses.specs.declared.Separator.the-variants.{Spaces, Comma}
-use Rattle.kinds.specs.Kinds.{flag, wordOf, ipv4, entries, mac, key, ssid}
-use Rattle.kinds.specs.Values.{netmask-good}
-use Rattle.kinds.specs.Answers.{ipv4Answer, entriesAnswer, macAnswer, keyAnswer, ssidAnswer}
+use Rattle.kinds.specs.Kinds.{flag, wordOf, ipv4, entries, mac, ssid, preSharedKey}
+use Rattle.addresses.specs.MaskRuleLaws.{netmask-good}
+use Rattle.kinds.specs.Answers.{ipv4Answer, entriesAnswer, macAnswer, ssidAnswer, preSharedKeyAnswer}
 use Rattle.kinds.specs.declared.Kind.{Kind}
 use Rattle.kinds.specs.declared.Kind.the-variants.{Flag, Named, Netmask}
 use Rattle.kinds.specs.declared.Word.{Word}
@@ -24,7 +24,7 @@ use Rattle.kinds.specs.declared.WordList.{WordList}
 use Rattle.kinds.specs.declared.WordList.the-variants as L
 use Rattle.kinds.specs.declared.Entries.{Entries}
 use Rattle.kinds.specs.declared.Ipv4.{Ipv4}
-use Rattle.kinds.specs.declared.Key.{Key}
+use Rattle.kinds.specs.declared.PreSharedKey.{PreSharedKey}
 use Rattle.kinds.specs.declared.Mac.{Mac}
 use Rattle.kinds.specs.declared.Ssid.{Ssid}
 use Rattle.rules.specs.Tables.{keysOf}
@@ -51,11 +51,11 @@ use Rattle.settings.specs.declared.Chosen.{Chosen}
 -- ---- no kind reads a value from no bytes
 
 pub address-none : address [] ≡ none
-unfolding address number value
+unfolding address number decimalValue
 address-none = refl
 
 pub addresses-none : (s : Separator) → addresses s [] ≡ none
-unfolding addresses address number value
+unfolding addresses address number decimalValue
 addresses-none Spaces = refl
 addresses-none Comma = refl
 
@@ -71,8 +71,8 @@ mac-none : mac [] ≡ none
 unfolding mac
 mac-none = refl
 
-pub key-none : key [] ≡ none
-unfolding key
+pub key-none : preSharedKey [] ≡ none
+unfolding preSharedKey
 key-none = refl
 
 pub ssid-none : ssid [] ≡ none
@@ -176,11 +176,11 @@ module _ {file x : List ℕ} where
             );
       }
 
-  pub security-typed : {l : ℕ} {k : Key} → l ≡ keySlot x (base G.Security 0) N.IwdPassphrase .line → k ≡ keyAnswer (key (bytesOf file x (base G.Security 0) N.PreSharedKey)) → Typed Iwd file x (base G.Security 0) G.Security securityOf (record { passphrase = l; «pre_shared_key» = k })
+  pub security-typed : {l : ℕ} {k : PreSharedKey} → l ≡ keySlot x (base G.Security 0) N.IwdPassphrase .line → k ≡ preSharedKeyAnswer (preSharedKey (bytesOf file x (base G.Security 0) N.PreSharedKey)) → Typed Iwd file x (base G.Security 0) G.Security securityOf (record { passphrase = l; «pre_shared_key» = k })
   unfolding keysOf
   security-typed p q = record { is = λ es h. rw (p ∙ row-line N.IwdPassphrase h, q ∙ ap keyAnswer (row-read N.PreSharedKey h key key-none)) }
 
-  pub ipv4-typed : {a b c : Address} {m n l : ℕ} {s : Choice} → a ≡ addressAnswer (address (bytesOf file x (base G.Ipv4 0) N.Address)) → b ≡ addressAnswer (address (bytesOf file x (base G.Ipv4 0) N.Gateway)) → c ≡ addressAnswer (address (bytesOf file x (base G.Ipv4 0) N.Broadcast)) → m ≡ keySlot x (base G.Ipv4 0) N.Netmask .code → n ≡ length (plain (addresses Spaces (bytesOf file x (base G.Ipv4 0) N.Dns))) → l ≡ keySlot x (base G.Ipv4 0) N.DomainName .line → s ≡ choiceBy (keySlot x (base G.Ipv4 0) N.SendHostname .code) → Typed Iwd file x (base G.Ipv4 0) G.Ipv4 ipv4Of (record { address = a; gateway = b; broadcast = c; netmask = m; dns = n; «domain_name» = l; «send_hostname» = s })
+  pub ipv4-typed : {a b c : Address} {m n l : ℕ} {s : Choice} → a ≡ addressAnswer (address (bytesOf file x (base G.Ipv4 0) N.Address)) → b ≡ addressAnswer (address (bytesOf file x (base G.Ipv4 0) N.Gateway)) → c ≡ addressAnswer (address (bytesOf file x (base G.Ipv4 0) N.Broadcast)) → m ≡ keySlot x (base G.Ipv4 0) N.Netmask .code → n ≡ length (orEmpty (addresses Spaces (bytesOf file x (base G.Ipv4 0) N.Dns))) → l ≡ keySlot x (base G.Ipv4 0) N.DomainName .line → s ≡ choiceBy (keySlot x (base G.Ipv4 0) N.SendHostname .code) → Typed Iwd file x (base G.Ipv4 0) G.Ipv4 ipv4Of (record { address = a; gateway = b; broadcast = c; netmask = m; dns = n; «domain_name» = l; «send_hostname» = s })
   unfolding keysOf
   ipv4-typed p q r s t u v =
       record {
@@ -190,7 +190,7 @@ module _ {file x : List ℕ} where
               q ∙ ap addressAnswer (row-read N.Gateway h address address-none),
               r ∙ ap addressAnswer (row-read N.Broadcast h address address-none),
               s ∙ mask-by Iwd file (keySlot x (base G.Ipv4 0) N.Netmask) (entryOf (word "Netmask") es) (row-key N.Netmask h),
-              t ∙ ap (λ (o : Option (List (List ℕ))). length (plain o)) (row-read N.Dns h (addresses Spaces) (addresses-none Spaces)),
+              t ∙ ap (λ (o : Option (List (List ℕ))). length (orEmpty o)) (row-read N.Dns h (addresses Spaces) (addresses-none Spaces)),
               u ∙ row-line N.DomainName h,
               v ∙ flag-by Iwd file (keySlot x (base G.Ipv4 0) N.SendHostname) (entryOf (word "SendHostname") es) (row-key N.SendHostname h),
             );
@@ -212,7 +212,7 @@ module _ {file x : List ℕ} {b : ℕ} where
             );
       }
 
-  pub address-typed : {a : Ipv4} {c e : Chosen} {m : Mac} {n : ℕ} {s t : Entries} {l : ℕ} → a ≡ ipv4Answer (ipv4 (bytesOf file x b N.Ipv4)) → c ≡ chosenBy (keySlot x b N.Ipv6 .code) → e ≡ chosenBy (keySlot x b N.Privacy .code) → m ≡ macAnswer (mac (bytesOf file x b N.Mac)) → n ≡ length (plain (addresses Comma (bytesOf file x b N.Nameservers))) → s ≡ entriesAnswer (keySlot x b N.SearchDomains .start) (entries (bytesOf file x b N.SearchDomains)) → t ≡ entriesAnswer (keySlot x b N.Timeservers .start) (entries (bytesOf file x b N.Timeservers)) → l ≡ keySlot x b N.Domain .line → Typed ConnMan file x b G.Service addressSettingsOf (record { ipv4 = a; ipv6 = c; privacy = e; mac = m; nameservers = n; «search_domains» = s; timeservers = t; domain = l })
+  pub address-typed : {a : Ipv4} {c e : Chosen} {m : Mac} {n : ℕ} {s t : Entries} {l : ℕ} → a ≡ ipv4Answer (ipv4 (bytesOf file x b N.Ipv4)) → c ≡ chosenBy (keySlot x b N.Ipv6 .code) → e ≡ chosenBy (keySlot x b N.Privacy .code) → m ≡ macAnswer (mac (bytesOf file x b N.Mac)) → n ≡ length (orEmpty (addresses Comma (bytesOf file x b N.Nameservers))) → s ≡ entriesAnswer (keySlot x b N.SearchDomains .start) (entries (bytesOf file x b N.SearchDomains)) → t ≡ entriesAnswer (keySlot x b N.Timeservers .start) (entries (bytesOf file x b N.Timeservers)) → l ≡ keySlot x b N.Domain .line → Typed ConnMan file x b G.Service addressSettingsOf (record { ipv4 = a; ipv6 = c; privacy = e; mac = m; nameservers = n; «search_domains» = s; timeservers = t; domain = l })
   unfolding keysOf
   address-typed p q r s t u v w =
       record {
@@ -222,7 +222,7 @@ module _ {file x : List ℕ} {b : ℕ} where
               q ∙ word-by ConnMan L.Ipv6Method file (keySlot x b N.Ipv6) (entryOf (word "IPv6") es) (row-key N.Ipv6 h),
               r ∙ word-by ConnMan L.Privacy file (keySlot x b N.Privacy) (entryOf (word "IPv6.Privacy") es) (row-key N.Privacy h),
               s ∙ ap macAnswer (row-read N.Mac h mac mac-none),
-              t ∙ ap (λ (o : Option (List (List ℕ))). length (plain o)) (row-read N.Nameservers h (addresses Comma) (addresses-none Comma)),
+              t ∙ ap (λ (o : Option (List (List ℕ))). length (orEmpty o)) (row-read N.Nameservers h (addresses Comma) (addresses-none Comma)),
               u ∙ ap₂ entriesAnswer (row-start N.SearchDomains h) (row-read N.SearchDomains h entries entries-none),
               v ∙ ap₂ entriesAnswer (row-start N.Timeservers h) (row-read N.Timeservers h entries entries-none),
               w ∙ row-line N.Domain h,

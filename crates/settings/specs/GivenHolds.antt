@@ -7,8 +7,8 @@ use mathlib.Core.List.{List, []}
 use mathlib.Core.Option.{Option, none, some}
 use lib.ListN.{length}
 use Rattle.text.specs.Laws.{between-low}
-use Rattle.text.specs.Options.{isSome, plain, each}
-use Rattle.text.specs.OptionLaws.{Holds, sized-some}
+use Rattle.text.specs.Options.{isSome, orEmpty, each}
+use Rattle.text.specs.OptionLaws.{IfSome, sized-some}
 use Rattle.text.specs.Parts.{pieces}
 use Rattle.text.specs.Words.{word}
 use Rattle.text.specs.declared.Dialect.the-variants.{Iwd, ConnMan}
@@ -16,8 +16,9 @@ use Rattle.addresses.specs.Addresses.{netmask, addresses, addressAnswer}
 use Rattle.addresses.specs.declared.Separator.{Separator}
 use Rattle.addresses.specs.declared.Separator.the-variants.{Spaces, Comma}
 use Rattle.kinds.specs.Kinds.{IPv4, dhcp, off, static, entry, entries}
-use Rattle.kinds.specs.Answers.{ipv4Answer, macAnswer, keyAnswer, ssidAnswer}
-use Rattle.kinds.specs.Values.{netmask-good, addresses-good}
+use Rattle.kinds.specs.Answers.{ipv4Answer, macAnswer, preSharedKeyAnswer, ssidAnswer}
+use Rattle.addresses.specs.Laws.{addresses-good}
+use Rattle.addresses.specs.MaskRuleLaws.{netmask-good}
 use Rattle.kinds.specs.declared.Word.{Word}
 use Rattle.rules.specs.Tables.{groupOf, keysOf}
 use Rattle.rules.specs.Sections.{Entry, given, entryOf, entriesIn}
@@ -55,7 +56,7 @@ mac-given : (o : Option (List ℕ)) → macAnswer o .ok ≡ isSome o
 mac-given none = refl
 mac-given (some b) = refl
 
-key-given : (o : Option (List ℕ)) → keyAnswer o .ok ≡ isSome o
+key-given : (o : Option (List ℕ)) → preSharedKeyAnswer o .ok ≡ isSome o
 key-given none = refl
 key-given (some b) = refl
 
@@ -75,15 +76,15 @@ positive : (n : ℕ) → 1 ≤ n → nonzero n ≡ true
 positive zero h = absurd (omega (arith, h))
 positive (suc n) h = refl
 
-length-given : (o : Option ℕ) → Holds (λ n. 1 ≤ n) o → nonzero (lengthOr0 o) ≡ isSome o
+length-given : (o : Option ℕ) → IfSome (λ n. 1 ≤ n) o → nonzero (lengthOr0 o) ≡ isSome o
 length-given none h = refl
 length-given (some n) h = positive n h
 
-count-given : {A : Type 0} (o : Option (List A)) → Holds (λ l. 1 ≤ length l) o → nonzero (length (plain o)) ≡ isSome o
+count-given : {A : Type 0} (o : Option (List A)) → IfSome (λ l. 1 ≤ length l) o → nonzero (length (orEmpty o)) ≡ isSome o
 count-given none h = refl
 count-given (some l) h = positive (length l) h
 
-line-given : (o : Option Entry) → Holds (λ e. 1 ≤ e .line) o → nonzero (entryLine o) ≡ isSome o
+line-given : (o : Option Entry) → IfSome (λ e. 1 ≤ e .line) o → nonzero (entryLine o) ≡ isSome o
 line-given none h = refl
 line-given (some e) h = positive (e .line) h
 
@@ -92,7 +93,7 @@ netmask-given o =
     length-given (readAs netmask o) (read-holds (λ (n : ℕ). 1 ≤ n) netmask o (λ e q n r. netmask-good (e .value) r .0))
 
 addresses-given : (sep : Separator) (o : Option Entry) →
-    nonzero (length (plain (readAs (addresses sep) o))) ≡ isSome (readAs (addresses sep) o)
+    nonzero (length (orEmpty (readAs (addresses sep) o))) ≡ isSome (readAs (addresses sep) o)
 addresses-given sep o =
     count-given (readAs (addresses sep) o) (read-holds (λ (l : List (List ℕ)). 1 ≤ length l) (addresses sep) o (λ e q l r. addresses-good sep (e .value) r .0))
 
@@ -100,7 +101,7 @@ entries-low : (v : List ℕ) {l : List (List ℕ)} → entries v ≡ some l → 
 unfolding entries
 entries-low v {l} e = between-low {x = length l} 1 4 (sized-some 1 4 (each entry (pieces 44 v)) e .0)
 
-entries-given : (o : Option Entry) → nonzero (length (plain (readAs entries o))) ≡ isSome (readAs entries o)
+entries-given : (o : Option Entry) → nonzero (length (orEmpty (readAs entries o))) ≡ isSome (readAs entries o)
 entries-given o =
     count-given (readAs entries o) (read-holds (λ (l : List (List ℕ)). 1 ≤ length l) entries o (λ e q l r. entries-low (e .value) r))
 

@@ -5,9 +5,9 @@ use mathlib.Core.List.{List}
 use mathlib.Core.Option.{Option}
 use lib.ListN.{length}
 use Rattle.text.specs.Words.{word}
-use Rattle.text.specs.Options.{plain}
+use Rattle.text.specs.Options.{orEmpty}
 use Rattle.addresses.specs.Addresses.{addressAnswer, rows}
-use Rattle.kinds.specs.Answers.{ipv4Answer, entriesAnswer, macAnswer, keyAnswer, ssidAnswer}
+use Rattle.kinds.specs.Answers.{ipv4Answer, entriesAnswer, macAnswer, preSharedKeyAnswer, ssidAnswer}
 use Rattle.rules.specs.Tables.{keysOf}
 use Rattle.rules.specs.Sections.{Entry}
 use Rattle.rules.specs.Asking.{entryLine, entryStart}
@@ -43,7 +43,7 @@ securityOf at =
     let value = valueOf Security at in
     record {
       passphrase = entryLine (at (word "Passphrase"));
-      «pre_shared_key» = keyAnswer (value (word "PreSharedKey"));
+      «pre_shared_key» = preSharedKeyAnswer (value (word "PreSharedKey"));
     }
 
 -- "IPv4: Address, Gateway, Broadcast (address), Netmask (mask), DNS (1 to 4 addresses ..), DomainName (string ..),
@@ -57,7 +57,7 @@ ipv4Of at =
       gateway = addressAnswer (value (word "Gateway"));
       broadcast = addressAnswer (value (word "Broadcast"));
       netmask = lengthOr0 (value (word "Netmask"));
-      dns = length (plain (value (word "DNS")));
+      dns = length (orEmpty (value (word "DNS")));
       «domain_name» = entryLine (at (word "DomainName"));
       «send_hostname» = choice (value (word "SendHostname"));
     }
@@ -105,7 +105,7 @@ addressSettingsOf at =
       ipv6 = chosen (value (word "IPv6"));
       privacy = chosen (value (word "IPv6.Privacy"));
       mac = macAnswer (value (word "MAC"));
-      nameservers = length (plain (value (word "Nameservers")));
+      nameservers = length (orEmpty (value (word "Nameservers")));
       «search_domains» = entriesAnswer (entryStart (at (word "SearchDomains"))) (value (word "SearchDomains"));
       timeservers = entriesAnswer (entryStart (at (word "Timeservers"))) (value (word "Timeservers"));
       domain = entryLine (at (word "Domain"));

@@ -11,8 +11,8 @@ pub mod values;
 use addresses::Address;
 use kinds::Entries;
 use kinds::Ipv4;
-use kinds::Key;
 use kinds::Mac;
+use kinds::PreSharedKey;
 use kinds::Ssid;
 use kinds::Word;
 use rules::Answer;
@@ -41,7 +41,7 @@ pub struct GeneralSettings {
 // iwd's group Security.
 pub struct SecuritySettings {
     pub passphrase: usize,
-    pub pre_shared_key: Key,
+    pub pre_shared_key: PreSharedKey,
 }
 
 // iwd's group IPv4.

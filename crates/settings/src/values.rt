@@ -3,21 +3,21 @@
 ghost use mathlib.Core.Path.{_≡_};
 ghost use Prim.Native.Nat.{_+_, _≤_, _<_};
 ghost use lib.ListN.{length};
-ghost use Rattle.text.specs.Options.{plain};
 ghost use Rattle.addresses.specs.Addresses.{address, addresses, addressAnswer, rows};
-ghost use Rattle.kinds.specs.Kinds.{ipv4, entries, mac, key, ssid};
-ghost use Rattle.kinds.specs.Answers.{entriesAnswer, ipv4Answer, macAnswer, keyAnswer, ssidAnswer};
+ghost use Rattle.kinds.specs.Kinds.{ipv4, entries, mac, ssid, preSharedKey};
+ghost use Rattle.kinds.specs.Answers.{entriesAnswer, ipv4Answer, macAnswer, ssidAnswer, preSharedKeyAnswer};
 ghost use Rattle.reader.specs.Closing.{InTable, KeyIn, keySlot, bytesOf};
 ghost use Rattle.settings.specs.Values.{choiceBy, chosenBy};
 ghost use Rattle.settings.specs.Rows.{MaskIn};
+ghost use Rattle.text.specs.Options.{orEmpty};
 use crate::Choice;
 use crate::Chosen;
 use addresses::Address;
 use addresses::Separator;
 use kinds::Entries;
 use kinds::Ipv4;
-use kinds::Key;
 use kinds::Mac;
+use kinds::PreSharedKey;
 use kinds::Ssid;
 use kinds::Word;
 use reader::KeyName;
@@ -90,11 +90,11 @@ pub fn mac_at(file: &[u8], x: &Places, row: usize, k: KeyName) -> Mac
     kinds::hexes::read_mac(value_of(file, x, row, k))
 }
 
-pub fn key_at(file: &[u8], x: &Places, row: usize, k: KeyName) -> Key
+pub fn key_at(file: &[u8], x: &Places, row: usize, k: KeyName) -> PreSharedKey
     requires { ⌜ KeyIn (now file) (now x) row k ⌝ }
-    ensures { λ r. ⌜ r ≡ keyAnswer (key (bytesOf (now (file .entry)) (now (x .entry)) row k)) ⌝ }
+    ensures { λ r. ⌜ r ≡ preSharedKeyAnswer (preSharedKey (bytesOf (now (file .entry)) (now (x .entry)) row k)) ⌝ }
 {
-    kinds::hexes::read_key(value_of(file, x, row, k))
+    kinds::hexes::read_pre_shared_key(value_of(file, x, row, k))
 }
 
 pub fn ssid_at(file: &[u8], x: &Places, row: usize, k: KeyName) -> Ssid
@@ -107,7 +107,7 @@ pub fn ssid_at(file: &[u8], x: &Places, row: usize, k: KeyName) -> Ssid
 // How many addresses a list has.
 pub fn count_at(sep: Separator, file: &[u8], x: &Places, row: usize, k: KeyName) -> usize
     requires { ⌜ KeyIn (now file) (now x) row k ⌝ }
-    ensures { λ r. ⌜ r ≡ length (plain (addresses sep (bytesOf (now (file .entry)) (now (x .entry)) row k))) ⌝ }
+    ensures { λ r. ⌜ r ≡ length (orEmpty (addresses sep (bytesOf (now (file .entry)) (now (x .entry)) row k))) ⌝ }
 {
     addresses::lists::count_addresses(value_of(file, x, row, k), sep)
 }
@@ -130,7 +130,7 @@ pub fn list_at(
     k: KeyName,
 ) -> usize
     requires { ⌜ KeyIn (now file) (now x) row k ⌝ }
-    ensures { λ r. ⌜ (r ≡ length (plain (addresses sep (bytesOf (now (file .entry)) (now (x .entry)) row k))))
+    ensures { λ r. ⌜ (r ≡ length (orEmpty (addresses sep (bytesOf (now (file .entry)) (now (x .entry)) row k))))
         × (now (out .exit) ≡ rows (addresses sep (bytesOf (now (file .entry)) (now (x .entry)) row k))) ⌝ }
 {
     addresses::lists::read_list(out, value_of(file, x, row, k), sep)

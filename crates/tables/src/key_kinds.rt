@@ -25,7 +25,7 @@ fn security_kind(n: usize) -> KindAt
 {
     match n {
         1 => KindAt::Is(Kind::Passphrase),
-        2 => KindAt::Is(Kind::Key),
+        2 => KindAt::Is(Kind::PreSharedKey),
         _ => KindAt::Unknown,
     }
 }

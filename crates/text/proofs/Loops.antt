@@ -5,7 +5,7 @@ use Prim.Native.Nat.{ℕ, zero, suc, _+_, _-_, _≤_, _<_}
 use native.Mathlib.Nat.{le-refl}
 use native.Mathlib.Numerals.{add-one}
 use native.Mathlib.Omega.{arith}
-use mathlib.Core.Bool.{Bool, true, false, cond, _&&_, true≢false, false≢true, and-assoc, and-false}
+use mathlib.Core.Bool.{Bool, true, false, _&&_, and-assoc, and-false}
 use mathlib.Core.List.{List, [], _∷_, _++_}
 use lib.Dec.{eqb}
 use lib.ListN.{length, take, drop, getD, drop-of-length-le, length-drop}
@@ -102,18 +102,18 @@ module _ {s : List ℕ} {from e : ℕ} (h : Trimming s from e) where
 
 -- ---- two slices from the front
 
-pub record Alike (a b : List ℕ) (i : ℕ) : Type 0 where
+pub record SameSoFar (a b : List ℕ) (i : ℕ) : Type 0 where
   pub within : i ≤ length a
   pub lengths : length a ≡ length b
   pub rest : same (drop i a) (drop i b) ≡ same a b
 
-module _ {a b : List ℕ} {i : ℕ} (h : Alike a b i) where
+module _ {a b : List ℕ} {i : ℕ} (h : SameSoFar a b i) where
   alike-step : i < length a → same (drop i a) (drop i b) ≡ (eqb (getD a i 0) (getD b i 0) && same (drop (suc i) a) (drop (suc i) b))
   alike-step l =
       let k : i < length b = omega (arith, h .lengths) in
       rw (drop-cons a i 0 l, drop-cons b i 0 k)
 
-  pub alike-turn : i < length a → getD a i 0 ≡ getD b i 0 → Alike a b (i + 1)
+  pub alike-turn : i < length a → getD a i 0 ≡ getD b i 0 → SameSoFar a b (i + 1)
   alike-turn l e =
       record {
         within = omega arith;
@@ -155,17 +155,17 @@ shift-further : (n p : ℕ) → shift n (further p) ≡ shift (n + 1) p
 shift-further n zero = refl
 shift-further n (suc j) = omega arith
 
-pub record Seeking (t w : List ℕ) (at n : ℕ) : Type 0 where
+pub record SeekingWord (t w : List ℕ) (at n : ℕ) : Type 0 where
   pub small : length t ≤ 4096
   pub low : n ≤ at + 1
   pub within : at ≤ length t
   pub whole : wholeAfter 0 (drop at t) ≡ true
   pub rest : place w (wordsIn t) ≡ shift n (place w (wordsIn (drop at t)))
 
-pub seeking-first : {t w : List ℕ} → Table t → Seeking t w 0 1
+pub seeking-first : {t w : List ℕ} → Table t → SeekingWord t w 0 1
 seeking-first h = record { small = h .small; low = omega arith; within = omega arith; whole = h .whole; rest = shift-one _ }
 
-module _ {t w : List ℕ} {at n : ℕ} (h : Seeking t w at n) where
+module _ {t w : List ℕ} {at n : ℕ} (h : SeekingWord t w at n) where
   pub seeking-end : length t ≤ at → 0 ≡ place w (wordsIn t)
   seeking-end l = sym (h .rest ∙ ap (λ (x : List ℕ). shift n (place w (wordsIn x))) (drop-of-length-le t l))
 
@@ -190,7 +190,7 @@ module _ {t w : List ℕ} {at n : ℕ} (h : Seeking t w at n) where
           let k : n + 0 ≡ n = omega arith in
           sym (h .rest ∙ ap (λ (x : List (List ℕ)). shift n (place w x)) view ∙ rw (sym is ∙ q) k)
 
-      pub seeking-turn : b ≡ false → Seeking t w (at + 1 + getD t at 0) (n + 1)
+      pub seeking-turn : b ≡ false → SeekingWord t w (at + 1 + getD t at 0) (n + 1)
       seeking-turn q =
           record {
             small = h .small;

@@ -1,11 +1,15 @@
 -- The classes of bytes, each as document 01 names it. Letters and digits are ASCII's everywhere.
 use Prim.Native.Nat.{ℕ}
-use mathlib.Core.Bool.{Bool, true, false, not, _&&_, _||_}
-use lib.Dec.{eqb, leb}
+use mathlib.Core.Bool.{Bool, false, not, _&&_, _||_}
+use lib.Dec.{eqb, leb, ltb}
 use Rattle.text.specs.declared.Dialect.{Dialect}
 use Rattle.text.specs.declared.Dialect.the-variants.{Iwd, ConnMan}
 use Rattle.text.specs.declared.Class.{Class}
 use Rattle.text.specs.declared.Class.the-variants.{Space, Header, Plain, Alphanumeric, Identifier, LowerHex, Entry}
+
+-- a number that is a byte
+abbrev pub isByte : ℕ → Bool
+isByte b = ltb b 256
 
 -- a byte from a to b; every byte but b
 abbrev pub between : ℕ → ℕ → ℕ → Bool
@@ -24,12 +28,9 @@ isDigit x = between 48 57 x
 abbrev pub isAlphanumeric : ℕ → Bool
 isAlphanumeric x = isLetter x || isDigit x
 
--- "lower-case hex"; "Hex digits may be either case."
+-- "lower-case hex"
 abbrev pub isLowerHex : ℕ → Bool
 isLowerHex x = isDigit x || between 97 102 x
-
-abbrev pub isHexDigit : ℕ → Bool
-isHexDigit x = isLowerHex x || between 65 70 x
 
 -- "A line ends at byte 10": a byte within a line is any other.
 abbrev pub inLine : ℕ → Bool
@@ -47,12 +48,12 @@ isHeaderByte x = other 91 x && (other 93 x && between 32 126 x)
 abbrev pub isJoint : ℕ → Bool
 isJoint x = eqb x 95 || eqb x 45
 
-abbrev pub dotted : Dialect → ℕ → Bool
-dotted Iwd x = false
-dotted ConnMan x = eqb x 46
+abbrev pub isKeyDot : Dialect → ℕ → Bool
+isKeyDot Iwd x = false
+isKeyDot ConnMan x = eqb x 46
 
 unfoldable pub isKeyByte : Dialect → ℕ → Bool
-isKeyByte d x = isAlphanumeric x || (isJoint x || dotted d x)
+isKeyByte d x = isAlphanumeric x || (isJoint x || isKeyDot d x)
 
 -- a byte of a network name that stands plainly in a file name: "a letter, digit, space, `_` or `-`"
 unfoldable pub isPlain : ℕ → Bool

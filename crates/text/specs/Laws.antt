@@ -1,7 +1,7 @@
 -- Laws of the parts of a byte string: runs, lines and pieces, and of equality, ranges and computed tests.
 use mathlib.Core.Path.{_≡_, refl, ap, ap₂, sym, _∙_}
 use borrow.Author.Tests.{eq-eqb, ne-eqb, eqb-true, eqb-false, le-leb, lt-leb, leb-true, not-true}
-use Prim.Native.Nat.{ℕ, zero, suc, _+_, _-_, _≤_, _<_, zero-le, suc-le-suc}
+use Prim.Native.Nat.{ℕ, zero, suc, _+_, _-_, _≤_, _<_}
 use native.Mathlib.Nat.{not-suc-le-zero, sub-self, zero-add}
 use native.Mathlib.Numerals.{add-one}
 use native.Mathlib.Omega.{arith}

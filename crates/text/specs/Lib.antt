@@ -1,3 +1,4 @@
+-- What to read beside document 01: "Lines, alike in both", and the words in which the rules are said
 pub mod Bytes
 pub mod Parts
 pub mod Words
@@ -5,11 +6,13 @@ pub mod Options
 pub mod Relations
 pub mod Occurrences
 pub mod Pieces
-pub mod Scans
+-- The laws
 pub mod Laws
+pub mod RunLaws
+pub mod PieceLaws
 pub mod OptionLaws
 pub mod RelationLaws
 pub mod OccurrenceLaws
-pub mod PieceLaws
-pub mod RunLaws
-pub mod Tells
+pub mod Decides
+-- For the proofs only: where a scan stops, by index
+pub mod Scans

@@ -1,6 +1,6 @@
 -- What a reading that succeeds says of its parts.
 use mathlib.Core.Path.{_≡_, refl, sym, subst}
-use mathlib.Core.Bool.{Bool, true, false, cond, false≢true}
+use mathlib.Core.Bool.{Bool, true, false, cond, true≢false, false≢true}
 use mathlib.Core.List.{List, [], _∷_}
 use mathlib.Core.Option.{Option, none, some, Option·some-injective, Option·none-ne-some}
 use Prim.Native.Nat.{ℕ}
@@ -14,6 +14,10 @@ module _ {A : Type 0} where
   pub some-is : (o : Option A) → isSome o ≡ true → (a : A) × (o ≡ some a)
   some-is none h = absurd (false≢true h)
   some-is (some a) h = (a, refl)
+
+  pub none-is : (o : Option A) → isSome o ≡ false → o ≡ none
+  none-is none h = refl
+  none-is (some a) h = absurd (true≢false h)
 
   pub only-some : (b : Bool) (o : Option A) {a : A} → only b o ≡ some a → (b ≡ true) × (o ≡ some a)
   only-some true o e = (refl, e)
@@ -86,25 +90,11 @@ module _ {A : Type 0} (f : List ℕ → Option A) (R : List ℕ → A → Type 0
   pairwise-each g (p ∷ ps) [] h = absurd h
   pairwise-each g (p ∷ ps) (x ∷ xs) h = rw (g p x (h .0), pairwise-each g ps xs (h .1))
 
--- what is read, if it is, has the property
-abbrev pub Holds : {A : Type 0} → (A → Type 0) → Option A → Type 0
-Holds P none = Unit
-Holds P (some a) = P a
+-- what there is, if it is, has the property
+abbrev pub IfSome : {A : Type 0} → (A → Type 0) → Option A → Type 0
+IfSome P none = Unit
+IfSome P (some a) = P a
 
 module _ {A : Type 0} (P : A → Type 0) where
-  pub holds-some : {o : Option A} {a : A} → Holds P o → o ≡ some a → P a
-  holds-some h e = subst (Holds P) e h
-
-  pub holds-map : (Q : A → Type 0) → ((a : A) → P a → Q a) → (o : Option A) → Holds P o → Holds Q o
-  holds-map Q f none h = tt
-  holds-map Q f (some a) h = f a h
-
-pub sized-holds : {A : Type 0} (P : List A → Type 0) (low high : ℕ) (o : Option (List A)) → Holds P o →
-    Holds (λ l. (between low high (length l) ≡ true) × P l) (sized low high o)
-sized-holds P low high none h = tt
-sized-holds {A} P low high (some l) h = go (between low high (length l)) refl
-  where
-    go : (t : Bool) → between low high (length l) ≡ t →
-        Holds (λ (k : List A). (between low high (length k) ≡ true) × P k) (cond t (some l) none)
-    go true e = (e, h)
-    go false e = tt
+  pub if-some : {o : Option A} {a : A} → IfSome P o → o ≡ some a → P a
+  if-some h e = subst (IfSome P) e h

@@ -46,11 +46,11 @@ each f [] = some []
 each f (p ∷ ps) = andThen (f p) (λ a. prepend a (each f ps))
 
 -- the text that was read, empty where it is broken
-abbrev pub plain : {A : Type 0} → Option (List A) → List A
-plain none = []
-plain (some t) = t
+abbrev pub orEmpty : {A : Type 0} → Option (List A) → List A
+orEmpty none = []
+orEmpty (some t) = t
 
 -- read whole, and at most n long
-abbrev pub Fits : ℕ → Option (List ℕ) → Type 0
-Fits n none = ⊥
-Fits n (some t) = length t ≤ n
+abbrev pub ReadsUpTo : ℕ → Option (List ℕ) → Type 0
+ReadsUpTo n none = ⊥
+ReadsUpTo n (some t) = length t ≤ n

@@ -1,6 +1,6 @@
 // The classes of bytes, one function for each.
 ghost use mathlib.Core.Path.{_≡_};
-ghost use Rattle.text.specs.Bytes.{between, isLetter, isDigit, isAlphanumeric, isHexDigit, isLowerHex, isBlank, isHeaderByte, isJoint, isKeyByte, isPlain, isIdentifier, isEntryByte, memberOf};
+ghost use Rattle.text.specs.Bytes.{between, isLetter, isDigit, isAlphanumeric, isLowerHex, isBlank, isHeaderByte, isJoint, isKeyByte, isPlain, isIdentifier, isEntryByte, memberOf};
 use crate::Class;
 use crate::Dialect;
 
@@ -33,13 +33,6 @@ pub fn is_lower_hex(x: u8) -> bool
     ensures { λ r. ⌜ r ≡ isLowerHex x ⌝ }
 {
     is_digit(x) || within(97, 102, x)
-}
-
-// Either case.
-pub fn is_hex_digit(x: u8) -> bool
-    ensures { λ r. ⌜ r ≡ isHexDigit x ⌝ }
-{
-    is_lower_hex(x) || within(65, 70, x)
 }
 
 // Space or tab.

@@ -1,6 +1,6 @@
 -- The rows of the table by a first byte, the steps, and the turns of the loop.
 use mathlib.Core.Path.{_≡_, refl, ap, ap₂, sym, _∙_}
-use mathlib.Core.Bool.{Bool, true, false, cond, _&&_, not, false≢true}
+use mathlib.Core.Bool.{Bool, true, false, cond, _&&_, false≢true}
 use mathlib.Core.List.{List, [], _∷_}
 use Prim.Native.Nat.{ℕ, zero, suc, _+_, _-_, _≤_, _<_}
 use native.Mathlib.Numerals.{add-one}
@@ -14,7 +14,7 @@ use Rattle.text.specs.Parts.{all}
 use Rattle.text.specs.Scans.{Stop, stop-after}
 use Rattle.text.specs.Laws.{inside, under, over, and-true, below, below-at}
 use Rattle.utf8.specs.Utf8.{Range, _to_, follow, utf8From, text, textByte}
-use Rattle.utf8.specs.Due.{pending, ranges, Steps, Turn}
+use Rattle.utf8.specs.Due.{pending, ranges, StepsOver}
 use Rattle.utf8.specs.Laws.{text-after}
 use Rattle.utf8.specs.declared.Due.{Due}
 
@@ -35,44 +35,44 @@ alike-eq (q ∷ qs) (r ∷ rs) e =
     let ends = and-true (eqb (q .low) (r .low)) (eqb (q .high) (r .high)) (both .0) in
     ap₂ _∷_ (ap₂ _to_ (eqb-true _ _ (ends .0)) (eqb-true _ _ (ends .1))) (alike-eq qs rs (both .1))
 
-record Row : Type 0 where
+record DueRow : Type 0 where
   low : ℕ
   high : ℕ
   due : Due
 
-abbrev rowOf : ℕ → ℕ → ℕ → ℕ → ℕ → Row
-rowOf l h m a b = record { low = l; high = h; due = record { more = m; low = a; high = b } }
+abbrev dueRow : ℕ → ℕ → ℕ → ℕ → ℕ → DueRow
+dueRow l h m a b = record { low = l; high = h; due = record { more = m; low = a; high = b } }
 
 -- the first bytes in increasing order, and what the code says is due after each
-abbrev rows : List Row
-rows =
-    rowOf 0 127 0 0 0
-    ∷ rowOf 128 193 1 1 0
-    ∷ rowOf 194 223 1 128 191
-    ∷ rowOf 224 224 2 160 191
-    ∷ rowOf 225 236 2 128 191
-    ∷ rowOf 237 237 2 128 159
-    ∷ rowOf 238 239 2 128 191
-    ∷ rowOf 240 240 3 144 191
-    ∷ rowOf 241 243 3 128 191
-    ∷ rowOf 244 244 3 128 143
-    ∷ rowOf 245 255 1 1 0
+abbrev dueRows : List DueRow
+dueRows =
+    dueRow 0 127 0 0 0
+    ∷ dueRow 128 193 1 1 0
+    ∷ dueRow 194 223 1 128 191
+    ∷ dueRow 224 224 2 160 191
+    ∷ dueRow 225 236 2 128 191
+    ∷ dueRow 237 237 2 128 159
+    ∷ dueRow 238 239 2 128 191
+    ∷ dueRow 240 240 3 144 191
+    ∷ dueRow 241 243 3 128 191
+    ∷ dueRow 244 244 3 128 143
+    ∷ dueRow 245 255 1 1 0
     ∷ []
 
-abbrev nth : ℕ → Row
-nth i = getD rows i (rowOf 1 0 0 0 0)
+abbrev nthRow : ℕ → DueRow
+nthRow i = getD dueRows i (dueRow 1 0 0 0 0)
 
-abbrev tells : Row → ℕ → Bool
-tells r b = cond (between (r .low) (r .high) b) (alike (ranges (r .due)) (follow b)) true
+abbrev rowRight : DueRow → ℕ → Bool
+rowRight r b = cond (between (r .low) (r .high) b) (alike (ranges (r .due)) (follow b)) true
 
-tested : below (λ i. below (tells (nth i)) 256) 11 ≡ true
+tested : below (λ i. below (rowRight (nthRow i)) 256) 11 ≡ true
 unfolding follow
 tested = refl
 
-pub row : (i : ℕ) → i < 11 → {r : Due} → r ≡ nth i .due → {b : ℕ} → (nth i .low ≤ b) × (b ≤ nth i .high) × (b < 256) → ranges r ≡ follow b
+pub row : (i : ℕ) → i < 11 → {r : Due} → r ≡ nthRow i .due → {b : ℕ} → (nthRow i .low ≤ b) × (b ≤ nthRow i .high) × (b < 256) → ranges r ≡ follow b
 row i k e {b} h =
-    let t : tells (nth i) b ≡ true = below-at (tells (nth i)) 256 (below-at (λ (i : ℕ). below (tells (nth i)) 256) 11 tested i k) b (h .2) in
-    ap ranges e ∙ alike-eq (ranges (nth i .due)) (follow b) (rw (inside {x = b} (nth i .low) (nth i .high) (h .0) (h .1)) at t)
+    let t : rowRight (nthRow i) b ≡ true = below-at (rowRight (nthRow i)) 256 (below-at (λ (i : ℕ). below (rowRight (nthRow i)) 256) 11 tested i k) b (h .2) in
+    ap ranges e ∙ alike-eq (ranges (nthRow i .due)) (follow b) (rw (inside {x = b} (nthRow i .low) (nthRow i .high) (h .0) (h .1)) at t)
 
 -- ---- the steps
 
@@ -94,24 +94,29 @@ pending-cons d z = go (d .more) z
     go (suc m) n = let e : suc m - 1 ≡ m = omega arith in rw (e, tails m)
 
 module _ {d : Due} {b : ℕ} where
-  pub step-first : d .more ≡ 0 → {r : Due} → ranges r ≡ follow b → Steps d b r
+  pub step-first : d .more ≡ 0 → {r : Due} → ranges r ≡ follow b → StepsOver d b r
   unfolding utf8From
   step-first z e = record { rest = λ s. rw (z, e) }
 
   module _ (z : d .more ≡ 0 → ⊥) {r : Due} where
-    pub step-low : b < d .low → r ≡ record { more = 1; low = 1; high = 0 } → Steps d b r
+    pub step-low : b < d .low → r ≡ record { more = 1; low = 1; high = 0 } → StepsOver d b r
     unfolding utf8From
     step-low k e = record { rest = λ s. rw (e, pending-cons d z, under (d .low) (d .high) k) (sym (nothing s)) }
 
-    pub step-high : d .high < b → r ≡ record { more = 1; low = 1; high = 0 } → Steps d b r
+    pub step-high : d .high < b → r ≡ record { more = 1; low = 1; high = 0 } → StepsOver d b r
     unfolding utf8From
     step-high k e = record { rest = λ s. rw (e, pending-cons d z, over (d .low) (d .high) k) (sym (nothing s)) }
 
-    pub step-next : d .low ≤ b → b ≤ d .high → r ≡ record { more = d .more - 1; low = 128; high = 191 } → Steps d b r
+    pub step-next : d .low ≤ b → b ≤ d .high → r ≡ record { more = d .more - 1; low = 128; high = 191 } → StepsOver d b r
     unfolding utf8From
     step-next k j e = record { rest = λ s. rw (e, pending-cons d z, inside (d .low) (d .high) k j) }
 
 -- ---- the loop
+
+-- the rest from i on is judged as the whole is
+pub record Turn (line : Bool) (s : List ℕ) (i : ℕ) (d : Due) : Type 0 where
+  pub within : i ≤ length s
+  pub rest : (all (textByte line) (drop i s) && utf8From (ranges d) (drop i s)) ≡ text line s
 
 pub turn-first : (line : Bool) {s : List ℕ} {i : ℕ} {d : Due} → Stop (between 32 126) s 0 i → d ≡ record { more = 0; low = 0; high = 0 } → Turn line s i d
 turn-first line {s} h e = rw e (record { within = h .within; rest = rw (← stop-after h) (text-after line s) })
@@ -129,5 +134,5 @@ module _ {line : Bool} {s : List ℕ} {i : ℕ} {d : Due} (h : Turn line s i d) 
     pub turn-not : textByte line (getD s i 0) ≡ false → false ≡ text line s
     turn-not e = rw (drop-cons s i 0 l, e) at (h .rest)
 
-    pub turn : textByte line (getD s i 0) ≡ true → {r : Due} → Steps d (getD s i 0) r → Turn line s (i + 1) r
+    pub turn : textByte line (getD s i 0) ≡ true → {r : Due} → StepsOver d (getD s i 0) r → Turn line s (i + 1) r
     turn e g = record { within = omega arith; rest = rw (add-one i, ← g .rest (drop (suc i) s)) (rw (drop-cons s i 0 l, e) at (h .rest)) }

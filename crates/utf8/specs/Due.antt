@@ -1,11 +1,9 @@
 -- What the code keeps between two bytes: the ranges that a `Due` stands for.
-use Prim.Native.Nat.{ℕ, zero, suc, _≤_}
+use Prim.Native.Nat.{ℕ, zero, suc}
 use mathlib.Core.Path.{_≡_}
-use mathlib.Core.Bool.{Bool, _&&_}
 use mathlib.Core.List.{List, [], _∷_}
-use lib.ListN.{length, drop, replicate}
-use Rattle.text.specs.Parts.{all}
-use Rattle.utf8.specs.Utf8.{Range, _to_, utf8From, text, textByte}
+use lib.ListN.{replicate}
+use Rattle.utf8.specs.Utf8.{Range, _to_, utf8From}
 use Rattle.utf8.specs.declared.Due.{Due}
 
 abbrev pub pending : ℕ → ℕ → ℕ → List Range
@@ -16,10 +14,5 @@ abbrev pub ranges : Due → List Range
 ranges d = pending (d .more) (d .low) (d .high)
 
 -- a step over the byte b: whatever follows, what was due before b is due after it
-pub record Steps (d : Due) (b : ℕ) (r : Due) : Type 0 where
+pub record StepsOver (d : Due) (b : ℕ) (r : Due) : Type 0 where
   pub rest : (s : List ℕ) → utf8From (ranges d) (b ∷ s) ≡ utf8From (ranges r) s
-
--- the loop: the rest from i on is judged as the whole is
-pub record Turn (line : Bool) (s : List ℕ) (i : ℕ) (d : Due) : Type 0 where
-  pub within : i ≤ length s
-  pub rest : (all (textByte line) (drop i s) && utf8From (ranges d) (drop i s)) ≡ text line s

@@ -1,16 +1,14 @@
 -- Laws of UTF-8 and of texts: what is written piece by piece, and printable ASCII.
-use mathlib.Core.Path.{_≡_, refl, ap₂}
-use mathlib.Core.Bool.{Bool, true, false, cond, _&&_, not, false≢true}
+use mathlib.Core.Path.{_≡_, refl}
+use mathlib.Core.Bool.{Bool, true, false, _&&_, false≢true}
 use mathlib.Core.List.{List, [], _∷_, _++_}
-use Prim.Native.Nat.{ℕ, _≤_, _<_}
+use Prim.Native.Nat.{ℕ, _≤_}
 use native.Mathlib.Omega.{arith}
-use lib.Dec.{eqb}
-use lib.ListN.{length, drop}
 use borrow.Author.Tests.{ne-eqb}
-use Rattle.text.specs.Bytes.{between, other}
-use Rattle.text.specs.Parts.{all, lead, after}
+use Rattle.text.specs.Bytes.{between}
+use Rattle.text.specs.Parts.{all, after}
 use Rattle.text.specs.Laws.{and-true, all-cons, inside, between-low, between-high}
-use Rattle.utf8.specs.Utf8.{Range, _to_, follow, utf8From, utf8, textByte, text}
+use Rattle.utf8.specs.Utf8.{Range, follow, utf8From, utf8, textByte, text}
 
 from-append : (rs : List Range) (s t : List ℕ) → utf8From rs s ≡ true → utf8From rs (s ++ t) ≡ utf8 t
 unfolding utf8From

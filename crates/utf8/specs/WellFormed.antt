@@ -6,8 +6,8 @@ use Rattle.text.specs.Relations.{Some, Pairwise}
 use Rattle.utf8.specs.Utf8.{Range, _to_}
 
 -- table 3-7, "Well-Formed UTF-8 Byte Sequences": for each row the ranges of its first, second, third and fourth bytes
-abbrev pub table : List (List Range)
-table =
+abbrev pub byteSequences : List (List Range)
+byteSequences =
     (0x00 to 0x7F ∷ [])
     ∷ (0xC2 to 0xDF ∷ 0x80 to 0xBF ∷ [])
     ∷ (0xE0 to 0xE0 ∷ 0xA0 to 0xBF ∷ 0x80 to 0xBF ∷ [])
@@ -20,15 +20,15 @@ table =
     ∷ []
 
 -- a byte of a range
-pub record Within (r : Range) (b : ℕ) : Type 0 where
+pub record InRange (r : Range) (b : ℕ) : Type 0 where
   pub least : r .low ≤ b
   pub most : b ≤ r .high
 
 -- the bytes of one character: each of the range at its place in a row of the table
 abbrev pub Character : List ℕ → Type 0
-Character bytes = Some (λ row. Pairwise Within row bytes) table
+Character bytes = Some (λ row. Pairwise InRange row bytes) byteSequences
 
 -- well-formed: nothing but characters, one after the other
-pub data WellFormed : List ℕ → Type 0 where
-  no-more : WellFormed []
-  character : (bytes : List ℕ) {rest : List ℕ} → Character bytes → WellFormed rest → WellFormed (bytes ++ rest)
+pub data WellFormedUtf8 : List ℕ → Type 0 where
+  no-more : WellFormedUtf8 []
+  character : (bytes : List ℕ) {rest : List ℕ} → Character bytes → WellFormedUtf8 rest → WellFormedUtf8 (bytes ++ rest)

@@ -3,7 +3,7 @@ ghost use mathlib.Core.Path.{_≡_};
 ghost use Prim.Native.Nat.{_≤_};
 ghost use lib.ListN.{length};
 ghost use Rattle.utf8.specs.Utf8.{follow, textByte, text, valueText, recordText};
-ghost use Rattle.utf8.specs.Due.{ranges, Steps, Turn};
+ghost use Rattle.utf8.specs.Due.{ranges, StepsOver};
 
 // The bytes due after a first byte: how many more, and the range of the next. Each one after it is 128 to 191.
 pub struct Due {
@@ -57,7 +57,7 @@ fn follows(b: u8) -> Due
 
 // What is due after the byte b, where d was due before it.
 fn step(d: Due, b: u8) -> Due
-    ensures { λ r. ⌜ Steps d b r ⌝ }
+    ensures { λ r. ⌜ StepsOver d b r ⌝ }
 {
     if d.more == 0 {
         return follows(b);

@@ -7,8 +7,8 @@ use Prim.Native.Nat.{ℕ, _+_}
 use lib.ListN.{length}
 use Rattle.text.specs.Bytes.{isPlain}
 use Rattle.text.specs.Words.{word}
-use Rattle.escapes.specs.Escapes.{writing}
-use Rattle.hex.specs.Hex.{digit, hex}
+use Rattle.escapes.specs.Escapes.{escapeFrom}
+use Rattle.hex.specs.Hex.{hexDigit, hex}
 use Rattle.addresses.specs.Addresses.{decimal, dotted, maskBytes}
 use Rattle.kinds.specs.Kinds.{IPv4, dhcp, static}
 use Rattle.names.specs.Names.{stem}
@@ -38,11 +38,11 @@ unfolding nameText stem isPlain
 worked-name = refl
 
 pub worked-file : fileText desk4 ≡ word "[Settings]\nHidden=true\n[Security]\nPassphrase=low\\\\tide 88\n[IPv4]\nAddress=10.20.0.14\nNetmask=255.255.255.0\nGateway=10.20.0.1\nDNS=10.20.0.2 10.20.0.3\n[IPv6]\nEnabled=false\n"
-unfolding fileText writing dotted decimal maskBytes
+unfolding fileText escapeFrom dotted decimal maskBytes
 worked-file = refl
 
 pub worked-length : length (fileText desk4) ≡ 169
-unfolding fileText writing dotted decimal maskBytes
+unfolding fileText escapeFrom dotted decimal maskBytes
 worked-length = refl
 
 -- "An open record that is all defaults writes 0 bytes"
@@ -56,5 +56,5 @@ open-name = refl
 
 -- a leading tab and a leading space are escaped, blanks behind stay
 pub blank-file : fileText (plainly (word "Desk") (passphrase (word "\tsecret \t")) (word " a\nb\rc ")) ≡ word "[Security]\nPassphrase=\\tsecret \t\n[IPv4]\nDomainName=\\sa\\nb\\rc \n"
-unfolding fileText writing
+unfolding fileText escapeFrom
 blank-file = refl

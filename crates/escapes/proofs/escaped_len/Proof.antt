@@ -1,6 +1,5 @@
-use Rattle.escapes.proofs.Loops.{Counting, counting-one, counting-two, counting-end}
+use Rattle.escapes.proofs.Loops.{EscapedSoFar, counting-one, counting-two, counting-end}
 use native.Mathlib.Omega.{arith}
-use mathlib.Core.Path.{refl}
 use lib.ListN.{length}
 use Prim.Native.Nat.{_-_}
 use borrow.Author.Needs.{needs}
@@ -11,7 +10,7 @@ pub escaped-len-spec : {M : Type 1} → statement M
 escaped-len-spec =
     tie.close
     (tie.spec
-    (λ s n₀ i₀ n i. Counting s i n)
+    (λ s n₀ i₀ n i. EscapedSoFar s i n)
     (λ s n₀ i₀ n i. length s - i)
     (λ c. record { within = search needs; few = search needs; small = c .before .pre; rest = omega arith })
     (λ c. search needs)

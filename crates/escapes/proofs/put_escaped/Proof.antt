@@ -1,4 +1,4 @@
-use Rattle.escapes.proofs.Loops.{Putting, putting-room, one-room, two-room, putting-one, putting-two, putting-end}
+use Rattle.escapes.proofs.Loops.{Putting, one-room, two-room, putting-one, putting-two, putting-end}
 use Rattle.put.specs.Laws.{wrote-none}
 use lib.ListN.{length-set}
 use mathlib.Core.List.{[]}

@@ -1,4 +1,4 @@
-use borrow.Author.Tests.{eq-eqb, ne-eqb}
+use borrow.Author.Tests.{ne-eqb}
 use Rattle.escapes.proofs.stands_for.Statement.{statement}
 use Rattle.escapes.proofs.stands_for.Tie as tie
 

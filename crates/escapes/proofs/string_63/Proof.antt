@@ -1,5 +1,5 @@
 -- An array of zeros, filled from its front.
-use Rattle.put.specs.Filling.{padded-by}
+use Rattle.put.proofs.Filling.{padded-by}
 use borrow.Author.Needs.{needs}
 use Rattle.escapes.proofs.string_63.Statement.{statement}
 use Rattle.escapes.proofs.string_63.Tie as tie

@@ -1,5 +1,4 @@
 -- The length by the dialect, by cases.
-use mathlib.Core.Path.{refl}
 use borrow.Author.Needs.{needs}
 use Rattle.escapes.proofs.string_len.Statement.{statement}
 use Rattle.escapes.proofs.string_len.Tie as tie

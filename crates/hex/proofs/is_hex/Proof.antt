@@ -24,5 +24,5 @@ is-hex-spec =
     (λ c. search pairing-bad-low)
     (λ c. search needs)
     (λ c. search needs)
-    (λ c. pairing-turn (c .before .before .before .before .before .before .before .loop .inv) (search needs) (c .before .before .before .before .value .ensures) (c .before .before .before .if1 .left) (c .before .value2 .ensures) (c .if2 .left))
+    (λ c. pairing-turn (c .before .before .before .before .before .before .before .loop .inv) (search needs) (c .before .before .before .before .digit-value .ensures) (c .before .before .before .if1 .left) (c .before .digit-value2 .ensures) (c .if2 .left))
     (λ c. search pairing-end))

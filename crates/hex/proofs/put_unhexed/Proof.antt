@@ -2,7 +2,7 @@
 use Prim.Native.Nat.{_-_}
 use native.Mathlib.Omega.{arith}
 use lib.ListN.{length}
-use Rattle.put.specs.Filling.{filling-first}
+use Rattle.put.proofs.Filling.{filling-first}
 use Rattle.hex.proofs.Loops.{Unhexing, unhexing-small, unhexing-room, unhexing-turn, unhexing-end}
 use borrow.Author.Needs.{needs}
 use Rattle.hex.proofs.put_unhexed.Statement.{statement}
@@ -21,8 +21,8 @@ put-unhexed-spec =
     (λ c. search needs)
     (λ c. search needs)
     (λ c κs. search needs)
-    (λ c. omega (arith, unhexing-small (c .before .before .before .before .before .loop .inv) (search needs) (c .before .before .value .ensures) (c .value2 .ensures)))
-    (λ c. omega (arith, unhexing-small (c .before .before .before .before .before .loop .inv) (search needs) (c .before .before .value .ensures) (c .value2 .ensures)))
+    (λ c. omega (arith, unhexing-small (c .before .before .before .before .before .loop .inv) (search needs) (c .before .before .digit-value .ensures) (c .digit-value2 .ensures)))
+    (λ c. omega (arith, unhexing-small (c .before .before .before .before .before .loop .inv) (search needs) (c .before .before .digit-value .ensures) (c .digit-value2 .ensures)))
     (λ c. unhexing-room (c .before .before .before .before .before .loop .inv) (search needs))
     (λ c. search needs)
     (λ c. search needs)

@@ -1,5 +1,5 @@
 -- What is written over 32 zeros is the text with zeros behind it (`padded-by`).
-use Rattle.put.specs.Filling.{padded-by}
+use Rattle.put.proofs.Filling.{padded-by}
 use borrow.Author.Needs.{needs}
 use Rattle.hex.proofs.unhexed_32.Statement.{statement}
 use Rattle.hex.proofs.unhexed_32.Tie as tie

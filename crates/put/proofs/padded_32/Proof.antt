@@ -1,4 +1,4 @@
-use Rattle.put.specs.Filling.{padded-by}
+use Rattle.put.proofs.Filling.{padded-by}
 use borrow.Author.Needs.{needs}
 use Rattle.put.proofs.padded_32.Statement.{statement}
 use Rattle.put.proofs.padded_32.Tie as tie

@@ -2,8 +2,7 @@
 use Prim.Native.Nat.{_-_}
 use mathlib.Core.Path.{sym, _∙_}
 use lib.ListN.{length}
-use Rattle.utf8.specs.Due.{Turn}
-use Rattle.utf8.proofs.Turns.{turn-first, turn, turn-not, turn-end}
+use Rattle.utf8.proofs.Turns.{Turn, turn-first, turn, turn-not, turn-end}
 use borrow.Author.Needs.{needs}
 use Rattle.utf8.proofs.is_text.Statement.{statement}
 use Rattle.utf8.proofs.is_text.Tie as tie

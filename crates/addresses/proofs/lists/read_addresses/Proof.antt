@@ -1,5 +1,4 @@
--- The array of a list's addresses: as `fill_addresses` left it, or zeros where it read none (`filled-none`).
-use Rattle.addresses.proofs.Listing.{filled-none}
+-- The array of a list's addresses, as `read_list` leaves it.
 use borrow.Author.Needs.{needs}
 use Rattle.addresses.proofs.lists.read_addresses.Statement.{statement}
 use Rattle.addresses.proofs.lists.read_addresses.Tie as tie
@@ -9,5 +8,4 @@ read-addresses-spec =
     tie.close
     (tie.spec
     (λ c κs. search needs)
-    (λ c. filled-none _ (c .before .fill-addresses .ensures) (c .if1 .taken))
-    (λ c. c .before .fill-addresses .ensures .array (c .if1 .left)))
+    (λ c. c .read-list .ensures .1))

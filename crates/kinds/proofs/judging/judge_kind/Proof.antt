@@ -50,7 +50,7 @@ judge-kind-spec =
     (λ c. addresses-kind _ _ _ (c .before .before .before .kind2 .given .1) (c .before .count-addresses .ensures) (c .kept3 .ensures))
     (λ c. entries-kind _ _ _ (c .before .before .before .enum-told5 .given .1) (c .before .before .read-entries .ensures) (c .kept4 .ensures))
     (λ c. mac-kind _ _ _ (c .before .before .enum-told6 .given .1) (c .before .read-mac .ensures) (c .kept5 .ensures))
-    (λ c. key-kind _ _ _ (c .before .before .enum-told7 .given .1) (c .before .is-key .ensures) (c .kept6 .ensures))
+    (λ c. key-kind _ _ _ (c .before .before .enum-told7 .given .1) (c .before .is-pre-shared-key .ensures) (c .kept6 .ensures))
     (λ c. ssid-kind _ _ _ (c .before .before .enum-told8 .given .1) (c .before .is-ssid .ensures) (c .kept7 .ensures))
     (λ c. passphrase-kind _ _ _ (c .before .enum-told9 .given .1) (c .string-judgement .ensures))
     (λ c. text-kind _ _ _ (c .before .before .kind3 .given .1) (c .string-judgement2 .ensures)))

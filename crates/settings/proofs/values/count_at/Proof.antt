@@ -3,7 +3,7 @@ use Prim.Native.Nat.{ℕ}
 use mathlib.Core.Path.{ap, _∙_}
 use mathlib.Core.List.{List}
 use Rattle.addresses.specs.Addresses.{addresses}
-use Rattle.text.specs.Options.{plain}
+use Rattle.text.specs.Options.{orEmpty}
 use lib.ListN.{length}
 use borrow.Author.Needs.{needs}
 use Rattle.settings.proofs.values.count_at.Statement.{statement}
@@ -15,4 +15,4 @@ count-at-spec =
     (tie.spec
     (λ c κs. search needs)
     (λ c κs. search needs)
-    (λ c. c .count-addresses .ensures ∙ ap (λ (s : List ℕ). length (plain (addresses (c .before .before .before .args .sep) s))) (c .before .value-of .ensures)))
+    (λ c. c .count-addresses .ensures ∙ ap (λ (s : List ℕ). length (orEmpty (addresses (c .before .before .before .args .sep) s))) (c .before .value-of .ensures)))

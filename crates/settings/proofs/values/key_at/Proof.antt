@@ -2,8 +2,8 @@
 use Prim.Native.Nat.{ℕ}
 use mathlib.Core.Path.{ap, _∙_}
 use mathlib.Core.List.{List}
-use Rattle.kinds.specs.Kinds.{key}
-use Rattle.kinds.specs.Answers.{keyAnswer}
+use Rattle.kinds.specs.Kinds.{preSharedKey}
+use Rattle.kinds.specs.Answers.{preSharedKeyAnswer}
 use borrow.Author.Needs.{needs}
 use Rattle.settings.proofs.values.key_at.Statement.{statement}
 use Rattle.settings.proofs.values.key_at.Tie as tie
@@ -14,4 +14,4 @@ key-at-spec =
     (tie.spec
     (λ c κs. search needs)
     (λ c κs. search needs)
-    (λ c. c .read-key .ensures ∙ ap (λ (s : List ℕ). keyAnswer (key s)) (c .before .value-of .ensures)))
+    (λ c. c .read-pre-shared-key .ensures ∙ ap (λ (s : List ℕ). preSharedKeyAnswer (preSharedKey s)) (c .before .value-of .ensures)))

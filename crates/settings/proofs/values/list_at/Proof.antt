@@ -3,7 +3,7 @@ use Prim.Native.Nat.{ℕ}
 use mathlib.Core.Path.{ap, _∙_}
 use mathlib.Core.List.{List}
 use lib.ListN.{length}
-use Rattle.text.specs.Options.{plain}
+use Rattle.text.specs.Options.{orEmpty}
 use Rattle.addresses.specs.Addresses.{addresses, rows}
 use borrow.Author.Needs.{needs}
 use Rattle.settings.proofs.values.list_at.Statement.{statement}
@@ -15,4 +15,4 @@ list-at-spec =
     (tie.spec
     (λ c κs. search needs)
     (λ c κs. search needs)
-    (λ c. (c .read-list .ensures .0 ∙ ap (λ (s : List ℕ). length (plain (addresses (c .before .before .before .before .args .sep) s))) (c .before .value-of .ensures), c .read-list .ensures .1 ∙ ap (λ (s : List ℕ). rows (addresses (c .before .before .before .before .args .sep) s)) (c .before .value-of .ensures))))
+    (λ c. (c .read-list .ensures .0 ∙ ap (λ (s : List ℕ). length (orEmpty (addresses (c .before .before .before .before .args .sep) s))) (c .before .value-of .ensures), c .read-list .ensures .1 ∙ ap (λ (s : List ℕ). rows (addresses (c .before .before .before .before .args .sep) s)) (c .before .value-of .ensures))))

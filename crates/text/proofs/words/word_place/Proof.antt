@@ -2,7 +2,7 @@
 use Prim.Native.Nat.{_-_}
 use lib.ListN.{length}
 use native.Mathlib.Omega.{arith}
-use Rattle.text.proofs.Loops.{Seeking, seeking-first, seeking-fits, seeking-end, seeking-found, seeking-turn}
+use Rattle.text.proofs.Loops.{SeekingWord, seeking-first, seeking-fits, seeking-end, seeking-found, seeking-turn}
 use borrow.Author.Needs.{needs}
 use Rattle.text.proofs.words.word_place.Statement.{statement}
 use Rattle.text.proofs.words.word_place.Tie as tie
@@ -11,7 +11,7 @@ pub word-place-spec : {M : Type 1} → statement M
 word-place-spec =
     tie.close
     (tie.spec
-    (λ table w at₀ n₀ at n. Seeking table w at n)
+    (λ table w at₀ n₀ at n. SeekingWord table w at n)
     (λ table w at₀ n₀ at n. length table - at)
     (λ c. seeking-first (c .before .before .pre))
     (λ c. search needs)

@@ -1,11 +1,11 @@
 -- 64 hex digits.
 use Rattle.kinds.proofs.Pairs.{key-other, key-digits}
 use borrow.Author.Needs.{needs}
-use Rattle.kinds.proofs.hexes.is_key.Statement.{statement}
-use Rattle.kinds.proofs.hexes.is_key.Tie as tie
+use Rattle.kinds.proofs.hexes.is_pre_shared_key.Statement.{statement}
+use Rattle.kinds.proofs.hexes.is_pre_shared_key.Tie as tie
 
-pub is-key-spec : {M : Type 1} → statement M
-is-key-spec =
+pub is-pre-shared-key-spec : {M : Type 1} → statement M
+is-pre-shared-key-spec =
     tie.close
     (tie.spec
     (λ c. key-other _ (c .if1 .taken))

@@ -8,7 +8,7 @@ use native.Mathlib.Numerals.{add-one}
 use native.Mathlib.Omega.{arith}
 use lib.ListN.{length, take, drop, set, length-append, length-set, take-append-drop, replicate}
 use lib.Seq.{drop-cons, take-suc-set, drop-set-lt, length-take-le}
-use Rattle.text.specs.Options.{prepend, plain, Fits}
+use Rattle.text.specs.Options.{prepend, orEmpty, ReadsUpTo}
 use Rattle.text.specs.Parts.{padded}
 use Rattle.put.specs.Put.{Wrote}
 
@@ -30,12 +30,12 @@ pub record Filling (t r : Option (List ℕ)) (n : ℕ) (o x : List ℕ) : Type 0
   pub room : n ≤ length x
   pub long : length x ≡ length o
   pub rest : drop n x ≡ drop n o
-  pub fits : Fits (length o) t
+  pub fits : ReadsUpTo (length o) t
 
-pub filling-first : (t : Option (List ℕ)) (o : List ℕ) → Fits (length o) t → Filling t t 0 o o
+pub filling-first : (t : Option (List ℕ)) (o : List ℕ) → ReadsUpTo (length o) t → Filling t t 0 o o
 filling-first t o f = record { read = glue-nil t; room = omega arith; long = refl; rest = refl; fits = f }
 
-fits-more : (t : List ℕ) (x m : ℕ) (o : Option (List ℕ)) → Fits m (glue t (prepend x o)) → length t < m
+fits-more : (t : List ℕ) (x m : ℕ) (o : Option (List ℕ)) → ReadsUpTo m (glue t (prepend x o)) → length t < m
 fits-more t x m none f = absurd f
 fits-more t x m (some u) f = omega (arith, simp length-append at f)
 
@@ -45,9 +45,9 @@ tail (y ∷ ys) = ys
 
 module _ {t r : Option (List ℕ)} {n : ℕ} {o x : List ℕ} (h : Filling t r n o x) where
   pub filling-none : r ≡ none → ⊥
-  filling-none e = subst (Fits (length o)) (sym (h .read) ∙ ap (glue (take n x)) e) (h .fits)
+  filling-none e = subst (ReadsUpTo (length o)) (sym (h .read) ∙ ap (glue (take n x)) e) (h .fits)
 
-  pub filling-end : r ≡ some [] → Wrote (plain t) 0 o x n
+  pub filling-end : r ≡ some [] → Wrote (orEmpty t) 0 o x n
   filling-end e =
       let k : length (take n x) ≡ n = length-take-le n x (h .room) in
       let w : t ≡ some (take n x) = sym (h .read) ∙ ap (glue (take n x)) e ∙ ap some (append-nil (take n x)) in
@@ -55,7 +55,7 @@ module _ {t r : Option (List ℕ)} {n : ℕ} {o x : List ℕ} (h : Filling t r n
 
   module _ (y : ℕ) (q : Option (List ℕ)) (e : r ≡ prepend y q) where
     pub filling-room : n < length x
-    filling-room = omega (arith, fits-more (take n x) y (length o) q (subst (Fits (length o)) (sym (h .read) ∙ ap (glue (take n x)) e) (h .fits)), length-take-le n x (h .room), h .long)
+    filling-room = omega (arith, fits-more (take n x) y (length o) q (subst (ReadsUpTo (length o)) (sym (h .read) ∙ ap (glue (take n x)) e) (h .fits)), length-take-le n x (h .room), h .long)
 
     next : drop (suc n) x ≡ drop (suc n) o
     next = let k : n < length o = omega (arith, h .long, filling-room) in ap tail (sym (drop-cons x n 0 filling-room) ∙ h .rest ∙ drop-cons o n 0 k)

@@ -10,7 +10,7 @@ use lib.Seq.{set-at, append-snoc}
 use Rattle.text.specs.Bytes.{between}
 use Rattle.text.specs.Options.{prepend, andThen, only, sized, each}
 use Rattle.text.specs.Laws.{over}
-use Rattle.text.specs.OptionLaws.{Holds}
+use Rattle.text.specs.OptionLaws.{IfSome}
 
 -- what was read, in front of what is still to be read
 abbrev pub ahead : {A : Type 0} → List A → Option (List A) → Option (List A)
@@ -31,9 +31,9 @@ module _ {A : Type 0} where
   ahead-snoc (b ∷ l) a o = ap (prepend b) (ahead-snoc l a o)
 
   -- texts in front of others
-  pub each-append : (f : List ℕ → Option A) (ps qs : List (List ℕ)) → each f (ps ++ qs) ≡ andThen (each f ps) (λ l. ahead l (each f qs))
-  each-append f [] qs = refl
-  each-append f (p ∷ ps) qs = rw (each-append f ps qs) (go (f p) (each f ps) (each f qs))
+  pub each-read-append : (f : List ℕ → Option A) (ps qs : List (List ℕ)) → each f (ps ++ qs) ≡ andThen (each f ps) (λ l. ahead l (each f qs))
+  each-read-append f [] qs = refl
+  each-read-append f (p ∷ ps) qs = rw (each-read-append f ps qs) (go (f p) (each f ps) (each f qs))
     where
       go : (o : Option A) (r t : Option (List A)) → andThen o (λ a. prepend a (andThen r (λ l. ahead l t))) ≡ andThen (andThen o (λ a. prepend a r)) (λ l. ahead l t)
       go none r t = refl
@@ -41,11 +41,11 @@ module _ {A : Type 0} where
       go (some a) (some l) t = refl
 
   -- as many are read as there are texts
-  each-counts : (f : List ℕ → Option A) (ps : List (List ℕ)) → Holds (λ l. length l ≡ length ps) (each f ps)
+  each-counts : (f : List ℕ → Option A) (ps : List (List ℕ)) → IfSome (λ l. length l ≡ length ps) (each f ps)
   each-counts f [] = refl
   each-counts f (p ∷ ps) = go (f p) (each f ps) (each-counts f ps)
     where
-      go : (o : Option A) (r : Option (List A)) → Holds (λ (l : List A). length l ≡ length ps) r → Holds (λ (l : List A). length l ≡ suc (length ps)) (andThen o (λ a. prepend a r))
+      go : (o : Option A) (r : Option (List A)) → IfSome (λ (l : List A). length l ≡ length ps) r → IfSome (λ (l : List A). length l ≡ suc (length ps)) (andThen o (λ a. prepend a r))
       go none r h = tt
       go (some a) none h = tt
       go (some a) (some l) h = ap suc h
@@ -53,7 +53,7 @@ module _ {A : Type 0} where
   pub sized-each : (low high : ℕ) (f : List ℕ → Option A) (ps : List (List ℕ)) → sized low high (each f ps) ≡ only (between low high (length ps)) (each f ps)
   sized-each low high f ps = go (each f ps) (each-counts f ps) (between low high (length ps)) refl
     where
-      go : (o : Option (List A)) → Holds (λ (l : List A). length l ≡ length ps) o → (t : Bool) → between low high (length ps) ≡ t → sized low high o ≡ only t o
+      go : (o : Option (List A)) → IfSome (λ (l : List A). length l ≡ length ps) o → (t : Bool) → between low high (length ps) ≡ t → sized low high o ≡ only t o
       go none h true e = refl
       go none h false e = refl
       go (some l) h true e = rw (h, e)

@@ -2,11 +2,11 @@
 use native.Mathlib.Omega.{arith}
 use Rattle.hex.proofs.Loops.{nibble-low, nibble-decimal, nibble-gap, nibble-upper, nibble-between, nibble-lower, nibble-high}
 use borrow.Author.Needs.{needs}
-use Rattle.hex.proofs.value.Statement.{statement}
-use Rattle.hex.proofs.value.Tie as tie
+use Rattle.hex.proofs.digit_value.Statement.{statement}
+use Rattle.hex.proofs.digit_value.Tie as tie
 
-pub value-spec : {M : Type 1} → statement M
-value-spec =
+pub digit-value-spec : {M : Type 1} → statement M
+digit-value-spec =
     tie.close
     (tie.spec
     (λ c. nibble-low (omega arith))
