@@ -27,7 +27,7 @@ use Rattle.joins.specs.Joins.{Joined, joined, refused, iwdJoined, serviceJoined
 use Rattle.joins.specs.Answered.{iwd-formed, service-formed}
 use Rattle.writer.specs.Writing.{writing}
 use Rattle.boundary.specs.Codes.{bitOf, credentialCode, methodCode, ipv6Code, bitIn, credentialIn, methodIn, ipv6In}
-use Rattle.boundary.specs.Records.{fourAt, sixteen, fours, recordAt, Short, CArrays, known, recordIn, serversIn, writingIn}
+use Rattle.boundary.specs.Records.{fourAt, sixteen, fours, recordAt, FitsBytes, CArrays, known, recordIn, serversIn, writingIn}
 use Rattle.boundary.specs.declared.CRecord.{CRecord}
 
 -- ---- codes
@@ -91,23 +91,23 @@ four-back (w ∷ x ∷ y ∷ z ∷ v ∷ a) e = absurd (omega (arith, e))
 address-back : (a : List ℕ) → isAddress a ≡ true → fourAt a 0 ≡ a
 address-back a e = four-back a (address-length a e)
 
-pub servers-back : (s : List (List ℕ)) → length s ≡ 4 → areAddresses s ≡ true → fours (sixteen s) ≡ s
-servers-back [] l e = absurd (omega (arith, l))
-servers-back (a ∷ []) l e = absurd (omega (arith, l))
-servers-back (a ∷ b ∷ []) l e = absurd (omega (arith, l))
-servers-back (a ∷ b ∷ c ∷ []) l e = absurd (omega (arith, l))
-servers-back (a ∷ b ∷ c ∷ d ∷ []) l e =
+pub fours-sixteen : (s : List (List ℕ)) → length s ≡ 4 → areAddresses s ≡ true → fours (sixteen s) ≡ s
+fours-sixteen [] l e = absurd (omega (arith, l))
+fours-sixteen (a ∷ []) l e = absurd (omega (arith, l))
+fours-sixteen (a ∷ b ∷ []) l e = absurd (omega (arith, l))
+fours-sixteen (a ∷ b ∷ c ∷ []) l e = absurd (omega (arith, l))
+fours-sixteen (a ∷ b ∷ c ∷ d ∷ []) l e =
     let p = and-true (isAddress a) (areAddresses (b ∷ c ∷ d ∷ [])) e in
     let q = and-true (isAddress b) (areAddresses (c ∷ d ∷ [])) (p .1) in
     let r = and-true (isAddress c) (areAddresses (d ∷ [])) (q .1) in
     let t = and-true (isAddress d) (areAddresses []) (r .1) in
     ap₂ (λ (x : List ℕ) (y : List (List ℕ)). x ∷ y) (address-back a (p .0)) (ap₂ (λ (x : List ℕ) (y : List (List ℕ)). x ∷ y) (address-back b (q .0)) (ap₂ (λ (x y : List ℕ). x ∷ y ∷ []) (address-back c (r .0)) (address-back d (t .0))))
-servers-back (a ∷ b ∷ c ∷ d ∷ f ∷ s) l e = absurd (omega (arith, l))
+fours-sixteen (a ∷ b ∷ c ∷ d ∷ f ∷ s) l e = absurd (omega (arith, l))
 
 -- what is handed out is written as the record that it was
 pub writing-back : (r : JoinRecord) (s : List (List ℕ)) → Arrays r s → (n f : List ℕ) →
     writingIn (recordAt r s) n f ≡ writing r s n f
-writing-back r s a n f = rw (record-known r s, record-back r s, servers-back s (a .servers) (a .serverBytes))
+writing-back r s a n f = rw (record-known r s, record-back r s, fours-sixteen s (a .servers) (a .serverBytes))
 
 -- ---- a record that is brought in
 
@@ -185,19 +185,19 @@ brought-arrays c a =
 
 -- ---- the lengths of a record that is answered
 
-laid-short : (j : Join) → WellFormed j → Short (laid j)
+laid-short : (j : Join) → WellFormed j → FitsBytes (laid j)
 laid-short j w =
     record { name = omega (arith, w .name .high); passphrase = omega (arith, secret-short (j .credential) (w .credential)); servers = omega (arith, w .servers .high); domain = omega (arith, w .domain .high) }
 
-answer-short : (x : Joined) → ((j : Join) → x ≡ joined j → WellFormed j) → Short (recordAnswer x .«record»)
+answer-short : (x : Joined) → ((j : Join) → x ≡ joined j → WellFormed j) → FitsBytes (recordAnswer x .«record»)
 answer-short (joined j) f = laid-short j (f j refl)
 answer-short (refused r l) f =
     record { name = omega arith; passphrase = omega arith; servers = omega arith; domain = omega arith }
 
-pub iwd-short : (name file : List ℕ) → Short (iwdRecord name file .«record»)
+pub iwd-short : (name file : List ℕ) → FitsBytes (iwdRecord name file .«record»)
 unfolding iwdRecord
 iwd-short name file = answer-short (iwdJoined name file) (λ j e. iwd-formed name file e)
 
-pub service-short : (name file : List ℕ) (w : ℕ) → Short (serviceRecord name file w .«record»)
+pub service-short : (name file : List ℕ) (w : ℕ) → FitsBytes (serviceRecord name file w .«record»)
 unfolding serviceRecord
 service-short name file w = answer-short (serviceJoined name file w) (λ j e. service-formed name file w e)

@@ -29,8 +29,8 @@ abbrev pub fours : List ℕ → List (List ℕ)
 fours b = fourAt b 0 ∷ fourAt b 4 ∷ fourAt b 8 ∷ fourAt b 12 ∷ []
 
 -- what the lent name servers hold before they are asked for
-abbrev pub noServers : List (List ℕ)
-noServers = replicate 4 noAddress
+abbrev pub lentServers : List (List ℕ)
+lentServers = replicate 4 noAddress
 
 -- ---- what is handed out
 
@@ -57,7 +57,7 @@ recordAt r s =
     }
 
 -- the lengths and the count of a record fit a byte
-pub record Short (r : JoinRecord) : Type 0 where
+pub record FitsBytes (r : JoinRecord) : Type 0 where
   pub name : r .«name_len» < 256
   pub passphrase : r .«passphrase_len» < 256
   pub servers : r .«server_count» < 256

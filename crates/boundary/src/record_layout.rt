@@ -1,6 +1,6 @@
 // Join records, handed out and brought in.
 ghost use mathlib.Core.Path.{_≡_};
-ghost use Rattle.boundary.specs.Records.{sixteen, fours, Short, recordAt, recordAnswerAt, known, recordIn};
+ghost use Rattle.boundary.specs.Records.{sixteen, fours, FitsBytes, recordAt, recordAnswerAt, known, recordIn};
 use crate::CRecord;
 use crate::CRecordAnswer;
 use crate::answers;
@@ -50,7 +50,7 @@ pub fn fours(b: [u8; 16]) -> [[u8; 4]; 4]
 
 // A record and its name servers, to be handed out.
 pub fn record_at(r: JoinRecord, servers: [[u8; 4]; 4]) -> CRecord
-    requires { ⌜ Short r ⌝ }
+    requires { ⌜ FitsBytes r ⌝ }
     ensures { λ c. ⌜ c ≡ recordAt r servers ⌝ }
 {
     let name = r.name;
@@ -85,7 +85,7 @@ pub fn record_at(r: JoinRecord, servers: [[u8; 4]; 4]) -> CRecord
 }
 
 pub fn record_answer_at(a: RecordAnswer, servers: [[u8; 4]; 4]) -> CRecordAnswer
-    requires { ⌜ Short (a .«record») ⌝ }
+    requires { ⌜ FitsBytes (a .«record») ⌝ }
     ensures { λ c. ⌜ c ≡ recordAnswerAt a servers ⌝ }
 {
     let answer = a.answer;

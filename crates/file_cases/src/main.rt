@@ -7,36 +7,17 @@
 // document 01 and docs/DECISIONS.md.
 ghost use Prim.Native.Nat.{_≤_};
 ghost use lib.ListN.{length};
-use libc::STDOUT_FILENO;
+use intake::streams;
 use rules::Answer;
 use rules::Reading;
-use rules::Refusal;
-
-fn say(s: &[u8]) {
-    io::write_all(STDOUT_FILENO, s);
-}
-
-// A word and two numbers.
-fn say_numbers(word: &[u8], first: usize, second: usize) {
-    say(word);
-    io::print_decimal(STDOUT_FILENO, first as u64);
-    say(b" ");
-    io::print_decimal(STDOUT_FILENO, second as u64);
-}
-
-fn say_refused(refusal: Refusal, line: usize) {
-    say_numbers(
-        b" = refused ",
-        tables::numbers::number_of(refusal) as usize,
-        line,
-    );
-}
 
 fn check(name: &[u8], file: &[u8]) {
     let read = qewaris::check(names::dialects::dialect_of(name), name, file);
     match read {
-        Reading::Accepted(settings, services) => say_numbers(b" = accepted ", settings, services),
-        Reading::Refused(refusal, line) => say_refused(refusal, line),
+        Reading::Accepted(settings, services) => {
+            streams::say_numbers(b"accepted ", settings, services);
+        }
+        Reading::Refused(refusal, line) => streams::say_refused(refusal, line),
     }
 }
 
@@ -48,10 +29,8 @@ fn say_moved(name: &[u8], name_len: usize, file: &[u8], file_len: usize) {
     if file.len() < file_len {
         return;
     }
-    say(b" = ");
-    say(&name[0..name_len]);
-    say(b"\n");
-    say(&file[0..file_len]);
+    streams::say_file(&name[0..name_len], &file[0..file_len]);
+    streams::say(b"\n");
 }
 
 fn move_service(file: &[u8], service: usize) {
@@ -67,16 +46,19 @@ fn move_service(file: &[u8], service: usize) {
     let answer = written.answer;
     match answer {
         Answer::Good => say_moved(&name_out, written.name_len, &file_out, written.file_len),
-        Answer::Refused(refusal, line) => say_refused(refusal, line),
+        Answer::Refused(refusal, line) => streams::say_refused(refusal, line),
     }
 }
 
-// The answer to the input of a program: the moving one where the first line has one byte, which is no file name.
+// The answer to the input of a program, to the end of its line: of the moving one where the first line has one byte, which is no
+// file name.
 fn answer(input: &[u8]) {
     let end = text::scan::line_end(input, 0);
     if end == input.len() {
+        streams::say(b"\n");
         return;
     }
+    streams::say(b" = ");
     let from = end + 1;
     if end == 1 {
         move_service(&input[from..], hex::digit_value(input[0]) as usize);
@@ -108,13 +90,12 @@ fn decode(out: &mut [u8], s: &[u8]) -> usize
     i
 }
 
-// A line, and its answer where it is a case.
+// A line, with its answer where it is a case.
 fn answer_line(line: &[u8]) {
     let mut input = [0u8; 1024];
     let n = decode(&mut input, line);
-    say(line);
+    streams::say(line);
     answer(&input[0..n]);
-    say(b"\n");
 }
 
 fn answer_lines(s: &[u8]) {

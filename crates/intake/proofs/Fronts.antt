@@ -1,10 +1,10 @@
 -- A buffer that keeps the front of a text, with more behind the text.
-use mathlib.Core.Path.{_≡_, refl, ap, ap₂, sym, _∙_}
-use mathlib.Core.List.{List, [], _∷_, _++_, append-nil}
+use mathlib.Core.Path.{_≡_, ap, ap₂, sym, _∙_}
+use mathlib.Core.List.{List, [], _∷_, _++_}
 use Prim.Native.Nat.{ℕ, zero, suc, _+_, _-_, _≤_, _<_}
-use native.Mathlib.Nat.{sub-zero, add-zero}
+use native.Mathlib.Nat.{sub-zero}
 use native.Mathlib.Omega.{arith}
-use lib.ListN.{length, take, drop, length-append, length-take, take-append-drop}
+use lib.ListN.{length, take, drop, length-append, length-take}
 use lib.Seq.{take-all, take-nil, take-at, length-take-le}
 use Rattle.text.specs.Parts.{part}
 use Rattle.put.specs.Put.{Wrote}
@@ -26,15 +26,6 @@ module _ (s : List ℕ) {o x : List ℕ} {a r : ℕ} where
 
   pub appended-part : Wrote (part 0 (length o - a) s) a o x r → Appended s a o x r
   appended-part w = record { wrote = rw (sub-zero (length o - a)) at w }
-
-pub appended-none : {o : List ℕ} {a : ℕ} → a ≤ length o → Appended [] a o o a
-appended-none {o} {a} l =
-    record {
-      wrote = rw (take-nil (length o - a)) (record { next = sym (add-zero a); room = l; long = refl; text = sym (split a o) });
-    }
-  where
-    split : (a : ℕ) (o : List ℕ) → take a o ++ [] ++ drop (a + 0) o ≡ o
-    split a o = ap₂ _++_ (append-nil (take a o)) (ap (λ (n : ℕ). drop n o) (add-zero a)) ∙ take-append-drop a o
 
 -- ---- the front of a buffer with s behind
 

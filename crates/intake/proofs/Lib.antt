@@ -1,3 +1,4 @@
 pub mod Forming
 pub mod Fronts
+pub mod NumberSoFar
 pub mod Parts

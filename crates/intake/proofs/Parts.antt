@@ -3,7 +3,7 @@ use mathlib.Core.Path.{_≡_, refl, ap, ap₂, sym, _∙_}
 use mathlib.Core.Bool.{Bool, true, false, true≢false}
 use mathlib.Core.List.{List, [], _∷_, _++_, append-assoc, append-nil}
 use Prim.Native.Nat.{ℕ, _+_, _-_, _≤_}
-use native.Mathlib.Nat.{le-refl}
+use native.Mathlib.Nat.{le-refl, sub-zero}
 use native.Mathlib.Omega.{arith}
 use borrow.Author.Tests.{eqb-true}
 use lib.Dec.{eqb}
@@ -13,39 +13,74 @@ use Rattle.text.specs.Bytes.{inLine}
 use Rattle.text.specs.Parts.{all, part}
 use Rattle.text.specs.Laws.{all-append}
 use Rattle.text.specs.Scans.{Stop, stop-all, stop-some, stop-front, stop-after}
+use Rattle.intake.specs.declared.Cut.{Cut}
 use Rattle.intake.specs.declared.Form.{Form}
 use Rattle.intake.specs.declared.Form.the-variants.{Empty}
-use Rattle.intake.specs.declared.Kept.{Kept}
+use Rattle.intake.specs.declared.Input.{Input}
+use Rattle.intake.specs.declared.NamedFile.{NamedFile}
 use Rattle.intake.specs.Forms.{formFrom, formAfter}
-use Rattle.intake.specs.Input.{firstLine, behind, Parted, Keeps, Held}
-use Rattle.intake.specs.Steps.{TookName, TookFile, linePart, restPart, endedBy, Took}
+use Rattle.intake.specs.Input.{firstLine, behindLine, Parted, KeepsFile, KeepsInput, SomeInput, InBuffers}
+use Rattle.intake.specs.Steps.{linePart, restPart, endedBy, Appended, Cuts, TakesFile, TakesInput}
 use Rattle.intake.specs.Enough.{front-all, after-all}
-use Rattle.intake.proofs.Fronts.{front-none, appended-none, appended-front}
+use Rattle.intake.proofs.Fronts.{front-none, appended-front}
 
 -- ---- a line, its byte 10 and what is behind it
 
 -- what ends in s, and what of s is behind it
-record Cut (s : List ℕ) : Type 0 where
-  is : s ≡ firstLine s ++ 10 ∷ behind s
+record LineEnd (s : List ℕ) : Type 0 where
+  is : s ≡ firstLine s ++ 10 ∷ behindLine s
   within : all inLine (firstLine s) ≡ true
 
-cut : (s : List ℕ) → all inLine s ≡ false → Cut s
-cut [] h = absurd (true≢false h)
-cut (x ∷ s) h = go (eqb x 10) refl (λ l. cut s l)
+line-end : (s : List ℕ) → all inLine s ≡ false → LineEnd s
+line-end [] h = absurd (true≢false h)
+line-end (x ∷ s) h = go (eqb x 10) refl (λ l. line-end s l)
   where
-    go : (b : Bool) → eqb x 10 ≡ b → (all inLine s ≡ false → Cut s) → Cut (x ∷ s)
+    go : (b : Bool) → eqb x 10 ≡ b → (all inLine s ≡ false → LineEnd s) → LineEnd (x ∷ s)
     go true e ih = record { is = rw e (ap (λ (y : ℕ). y ∷ s) (eqb-true x 10 e)); within = rw e }
     go false e ih =
-        let c : Cut s = ih (rw e at h) in
+        let c : LineEnd s = ih (rw e at h) in
         record { is = rw e (ap (λ (t : List ℕ). x ∷ t) (c .is)); within = rw e (rw e (c .within)) }
 
--- the end of the line, by the place where the scan stopped
-module _ {s : List ℕ} {n : ℕ} (p : Stop inLine s 0 n) where
-  pub first-here : part 0 n s ≡ firstLine s
-  first-here = sym (stop-front p)
+-- ---- where a part of the input is cut: behind the line, in it, or where it ends
 
-  pub behind-here : take (length s - (n + 1)) (drop (n + 1) s) ≡ behind s
-  behind-here = take-all (length s - (n + 1)) (drop (n + 1) s) (simp length-drop (le-refl _)) ∙ sym (drop-drop 1 n s) ∙ ap (drop 1) (sym (stop-after p))
+pub cuts-behind : (s : List ℕ) → Cuts s true (record { end = 0; from = 0; ended = true })
+cuts-behind s = record {
+  low = omega arith;
+  high = omega arith;
+  line = refl;
+  rest = take-all (length s - 0) s (omega arith);
+  over = refl;
+}
+
+module _ {s : List ℕ} {n : ℕ} (p : Stop inLine s 0 n) where
+  pub cuts-line : n ≡ length s → Cuts s false (record { end = n; from = n; ended = false })
+  cuts-line l =
+      let a : all inLine s ≡ true = stop-all p l in
+      record {
+        low = omega arith;
+        high = omega arith;
+        line = sym (stop-front p);
+        rest = ap (λ (m : ℕ). take m (drop n s)) (let z : length s - n ≡ 0 = omega arith in z) ∙ sym (ap (drop 1) (after-all s a));
+        over = rw a;
+      }
+
+  pub cuts-end : (n ≡ length s → ⊥) → Cuts s false (record { end = n; from = n + 1; ended = true })
+  cuts-end l = record {
+    low = p .within;
+    high = omega (arith, p .within, l);
+    line = sym (stop-front p);
+    rest = take-all (length s - (n + 1)) (drop (n + 1) s) (simp length-drop (le-refl _)) ∙ sym (drop-drop 1 n s) ∙ ap (drop 1) (sym (stop-after p));
+    over = rw (stop-some p l);
+  }
+
+-- ---- what is taken: what is cut off to the line, and what is behind it to the rest
+
+module _ {s : List ℕ} {e : Bool} {u : Cut} (p : Cuts s e u) where
+  pub file-taken : {n f x y : List ℕ} {a b l z : ℕ} {g h : Form} → Appended (part 0 (u .end) s) a n x l → h ≡ formFrom g (part 0 (u .end) s) → Appended (part (u .from) (length s) s) b f y z → TakesFile s (record { ended = e; name = a; form = g; file = b }) n f x y (record { ended = u .ended; name = l; form = h; file = z })
+  file-taken a g b = record { named = rw (p .line) at a; formed = rw (p .line) at g; filed = rw (p .rest) at b; over = p .over }
+
+  pub input-taken : {m n f w x y : List ℕ} {a l : ℕ} {k q : NamedFile} → Appended (part 0 (u .end) s) a m w l → TakesFile (part (u .from) (length s) s) k n f x y q → TakesInput s (record { ended = e; number = a; rest = k }) m n f w x y (record { ended = u .ended; number = l; rest = q })
+  input-taken a t = record { numbered = rw (p .line) at a; rest = rw (p .rest) at t; over = p .over }
 
 -- ---- the input with s behind
 
@@ -59,13 +94,13 @@ parted-more {line = line} {rest = rest} true p s =
     })
 parted-more {i} {line} {rest} false p s = go (all inLine s) refl
   where
-    go : (b : Bool) → all inLine s ≡ b → Parted (i ++ s) (endedBy false s) (line ++ firstLine s) (rest ++ behind s)
+    go : (b : Bool) → all inLine s ≡ b → Parted (i ++ s) (endedBy false s) (line ++ firstLine s) (rest ++ behindLine s)
     go true e = rw (e, front-all s e) (record { is = ap (λ (l : List ℕ). l ++ s) (p .is); within = all-append inLine line s (p .within) e; none = λ z. ap₂ _++_ (p .none refl) (ap (drop 1) (after-all s e)) })
     go false e =
-        let c : Cut s = cut s e in
+        let c : LineEnd s = line-end s e in
         rw (e, p .none refl)
         (record {
-          is = ap₂ _++_ (p .is) (c .is) ∙ sym (append-assoc line (firstLine s) (10 ∷ behind s));
+          is = ap₂ _++_ (p .is) (c .is) ∙ sym (append-assoc line (firstLine s) (10 ∷ behindLine s));
           within = all-append inLine line (firstLine s) (p .within) (c .within);
           none = λ z. absurd (true≢false z);
         })
@@ -78,8 +113,8 @@ form-more f (x ∷ a) b = form-more (formAfter f x) a b
 
 -- ---- what is kept
 
-pub keeps-none : (name file : List ℕ) → Keeps [] name file (record { ended = false; name = 0; form = Empty; file = 0 })
-keeps-none name file = record {
+nothing-named : (name file : List ℕ) → KeepsFile [] name file (record { ended = false; name = 0; form = Empty; file = 0 })
+nothing-named name file = record {
   line = [];
   rest = [];
   parted = record { is = refl; within = refl; none = λ e. refl };
@@ -88,9 +123,31 @@ keeps-none name file = record {
   filed = front-none file;
 }
 
+pub nothing-kept : (e : Bool) (number name file : List ℕ) → SomeInput number name file (record { ended = e; number = 0; rest = record { ended = false; name = 0; form = Empty; file = 0 } })
+nothing-kept true number name file = record {
+  input = 10 ∷ [];
+  keeps = record {
+    line = [];
+    rest = [];
+    parted = record { is = refl; within = refl; none = λ e. refl };
+    numbered = front-none number;
+    kept = nothing-named name file;
+  };
+}
+nothing-kept false number name file = record {
+  input = [];
+  keeps = record {
+    line = [];
+    rest = [];
+    parted = record { is = refl; within = refl; none = λ e. refl };
+    numbered = front-none number;
+    kept = nothing-named name file;
+  };
+}
+
 -- what is taken is kept behind what was kept
-pub took-keeps : {s n f x y : List ℕ} {k r : Kept} → Took s k n f x y r → (i : List ℕ) → Keeps i n f k → Keeps (i ++ s) x y r
-took-keeps {s} {k = k} t i h = record {
+takes-file : {s n f x y : List ℕ} {k r : NamedFile} → TakesFile s k n f x y r → (i : List ℕ) → KeepsFile i n f k → KeepsFile (i ++ s) x y r
+takes-file {s} {k = k} t i h = record {
   line = h .line ++ linePart (k .ended) s;
   rest = h .rest ++ restPart (k .ended) s;
   parted = rw (t .over) (parted-more (k .ended) (h .parted) s);
@@ -99,50 +156,24 @@ took-keeps {s} {k = k} t i h = record {
   filed = appended-front (t .filed) (h .rest) (h .filed);
 }
 
--- ---- what is taken: nothing, a part of the file, a part of the name line, or the end of the one and the start of the other
+pub takes-input : {s m n f w x y : List ℕ} {k r : Input} → TakesInput s k m n f w x y r → (i : List ℕ) → KeepsInput i m n f k → KeepsInput (i ++ s) w x y r
+takes-input {s} {k = k} t i h = record {
+  line = h .line ++ linePart (k .ended) s;
+  rest = h .rest ++ restPart (k .ended) s;
+  parted = rw (t .over) (parted-more (k .ended) (h .parted) s);
+  numbered = appended-front (t .numbered) (h .line) (h .numbered);
+  kept = takes-file (t .rest) (h .rest) (h .kept);
+}
 
-module _ {n f : List ℕ} {k : Kept} (inName : k .name ≤ length n) (inFile : k .file ≤ length f) where
-  pub took-none : Took [] k n f n f k
-  took-none = go (k .ended) refl
-    where
-      go : (e : Bool) → k .ended ≡ e → Took [] k n f n f k
-      go true e = record { named = rw e (appended-none inName); filed = rw e (appended-none inFile); over = rw e; formed = rw e }
-      go false e = record { named = rw e (appended-none inName); filed = rw e (appended-none inFile); over = rw e; formed = rw e }
+-- what is kept lies in the buffers, and goes on with the input
 
-  module _ {s : List ℕ} {r : Kept} where
-    pub took-file : {y : List ℕ} → k .ended ≡ true → TookFile s k f y r → Took s k n f n y r
-    took-file e t = record { named = rw (e, t .kept) (appended-none inName); filed = rw e (t .appended); over = t .over ∙ rw e; formed = rw e (t .formed) }
+module _ {number name file : List ℕ} {k : Input} (h : SomeInput number name file k) where
+  pub in-buffers : InBuffers number name file k
+  in-buffers = record {
+    inNumber = omega (arith, h .keeps .numbered .count, length-take (length number) (h .keeps .line));
+    inName = omega (arith, h .keeps .kept .named .count, length-take (length name) (h .keeps .kept .line));
+    inFile = omega (arith, h .keeps .kept .filed .count, length-take (length file) (h .keeps .kept .rest));
+  }
 
-    pub took-line : {x : List ℕ} {j : ℕ} → k .ended ≡ false → Stop inLine s 0 j → j ≡ length s → TookName s false k n x r → Took s k n f x f r
-    took-line e p l t =
-        let a : all inLine s ≡ true = stop-all p l in
-        record {
-          named = rw (e, front-all s a) (t .appended);
-          filed = rw (e, t .kept, after-all s a) (appended-none inFile);
-          over = t .over ∙ rw (e, a);
-          formed = rw (e, front-all s a) (t .formed);
-        }
-
-    pub took-end : {x y : List ℕ} {j : ℕ} {q : Kept} → k .ended ≡ false → Stop inLine s 0 j → (j ≡ length s → ⊥) → TookName (part 0 j s) true k n x q → TookFile (take (length s - (j + 1)) (drop (j + 1) s)) q f y r → Took s k n f x y r
-    took-end e p l t u =
-        record {
-          named = rw (e, u .kept, ← first-here p) (t .appended);
-          filed = rw (e, ← behind-here p, ← t .kept) (u .appended);
-          over = u .over ∙ t .over ∙ rw (e, stop-some p l);
-          formed = rw (e, ← first-here p) (u .formed ∙ t .formed);
-        }
-
--- ---- what is kept lies in the buffers, and goes on with the input
-
-module _ {name file : List ℕ} {k : Kept} (h : Held name file k) where
-  pub held-name : k .name ≤ length name
-  held-name = omega (arith, h .keeps .named .count, length-take (length name) (h .keeps .line))
-
-  pub held-file : k .file ≤ length file
-  held-file = omega (arith, h .keeps .filed .count, length-take (length file) (h .keeps .rest))
-
-  pub held-more : {s x y : List ℕ} {r : Kept} → Took s k name file x y r → Held x y r
-  held-more {s} t = record { input = h .input ++ s; keeps = took-keeps t (h .input) (h .keeps) }
-
-pub held-none : {name file : List ℕ} {k : Kept} → ((n : List ℕ) (f : List ℕ) → Keeps [] n f k) → Held name file k
-held-none {name} {file} h = record { input = []; keeps = h name file }
+  pub more-input : {s w x y : List ℕ} {r : Input} → TakesInput s k number name file w x y r → SomeInput w x y r
+  more-input {s} t = record { input = h .input ++ s; keeps = takes-input t (h .input) (h .keeps) }

@@ -3,6 +3,7 @@ use Prim.Native.Nat.{ℕ, _<_}
 use mathlib.Core.Path.{_≡_, refl, ap, ap₂, sym, _∙_}
 use mathlib.Core.Bool.{Bool, true, false}
 use mathlib.Core.List.{List, [], _∷_}
+use mathlib.Core.Option.{Option}
 use native.Mathlib.Omega.{arith}
 use borrow.Author.Tests.{leb-true, leb-false}
 use lib.Dec.{leb}
@@ -10,11 +11,30 @@ use lib.ListN.{length, take, drop, length-take}
 use lib.Seq.{take-all}
 use Rattle.text.specs.Bytes.{inLine}
 use Rattle.text.specs.Parts.{all, front, after}
+use Rattle.text.specs.Options.{andThen}
+use Rattle.text.specs.OptionLaws.{unsized}
 use Rattle.text.specs.Laws.{all-cons, front-append, after-append}
 use Rattle.text.specs.declared.Dialect.{Dialect}
+use Rattle.addresses.specs.Addresses.{decimalValue}
 use Rattle.rules.specs.Reading.{reading, nameIn}
 use Rattle.rules.specs.Acceptance.{reading-large}
-use Rattle.intake.specs.Input.{Parted, firstLine, behind}
+use Rattle.intake.specs.Number.{orZero, serviceNumber}
+use Rattle.intake.specs.Input.{Parted, firstLine, behindLine}
+
+-- ---- the number
+
+-- four bytes of a number line already count as 0, whatever follows
+pub number-long : (s : List ℕ) → 3 < length s → serviceNumber s ≡ 0
+number-long s h = ap (λ (o : Option (List ℕ)). orZero (andThen o (decimalValue 0))) (unsized 1 3 s (λ z. omega (arith, z .most)))
+
+pub number-front : (s : List ℕ) (m : ℕ) → 3 < m → serviceNumber (take m s) ≡ serviceNumber s
+number-front s m h = go (leb (length s) m) refl
+  where
+    go : (b : Bool) → leb (length s) m ≡ b → serviceNumber (take m s) ≡ serviceNumber s
+    go true e = ap serviceNumber (take-all m s (leb-true (length s) m e))
+    go false e =
+        let k : m < length s = leb-false (length s) m e in
+        number-long (take m s) (omega (arith, length-take m s)) ∙ sym (number-long s (omega arith))
 
 -- ---- the file
 
@@ -52,6 +72,6 @@ module _ {i line rest : List ℕ} where
   parted-first true p = sym (ap firstLine (p .is) ∙ front-append inLine line 10 rest (p .within) refl)
   parted-first false p = sym (ap firstLine (p .is) ∙ front-all line (p .within))
 
-  pub parted-behind : (e : Bool) → Parted i e line rest → rest ≡ behind i
-  parted-behind true p = sym (ap behind (p .is) ∙ ap (drop 1) (after-append inLine line 10 rest (p .within) refl))
-  parted-behind false p = p .none refl ∙ sym (ap behind (p .is) ∙ ap (drop 1) (after-all line (p .within)))
+  pub parted-behind : (e : Bool) → Parted i e line rest → rest ≡ behindLine i
+  parted-behind true p = sym (ap behindLine (p .is) ∙ ap (drop 1) (after-append inLine line 10 rest (p .within) refl))
+  parted-behind false p = p .none refl ∙ sym (ap behindLine (p .is) ∙ ap (drop 1) (after-all line (p .within)))

@@ -1,30 +1,63 @@
-// What is kept of the input: the front of the name line, its form, and the front of the file.
-//
-// The input comes in parts of any size. The name's buffer has one byte more than a name that is judged as it stands, the
-// file's one more than the greatest file, so that a full buffer tells that something is too long.
-ghost use mathlib.Core.List.{List, []};
+// The input comes in parts of any size: what is kept with one more part.
+ghost use mathlib.Core.List.{List};
 ghost use Prim.Native.Nat.{ℕ, _≤_};
 ghost use lib.ListN.{length};
-ghost use Rattle.intake.specs.Input.{Keeps};
-ghost use Rattle.intake.specs.Steps.{Appended, TookName, TookFile, Took};
+ghost use Rattle.intake.specs.Input.{SomeInput, InBuffers};
+ghost use Rattle.intake.specs.Steps.{Cuts, Appended, TakesFile, TakesInput};
+use crate::Cut;
+use crate::FileBuffer;
 use crate::Form;
-use crate::Kept;
+use crate::Input;
+use crate::NameBuffer;
+use crate::NamedFile;
+use crate::NumberBuffer;
 use crate::forms;
 
-// Nothing yet.
-pub fn nothing() -> Kept
-    ensures { λ r. ⌜ ((name : List ℕ) (file : List ℕ) → Keeps [] name file r) ⌝ }
+// Nothing yet: of an input with a number line, or of one that stands behind such a line, which has ended.
+pub fn nothing(ended: bool) -> Input
+    ensures { λ r. ⌜ ((number : List ℕ) (name : List ℕ) (file : List ℕ) → SomeInput number name file r) ⌝ }
 {
-    Kept {
+    let rest = NamedFile {
         ended: false,
         name: 0,
         form: Form::Empty,
         file: 0,
+    };
+    Input {
+        ended,
+        number: 0,
+        rest,
+    }
+}
+
+// Cuts s, the next part of an input whose first line has ended or not.
+fn cut_line(s: &[u8], ended: bool) -> Cut
+    ensures { λ r. ⌜ Cuts (now (s .entry)) ended r ⌝ }
+{
+    if ended {
+        return Cut {
+            end: 0,
+            from: 0,
+            ended,
+        };
+    }
+    let end = text::scan::line_end(s, 0);
+    if end == s.len() {
+        return Cut {
+            end,
+            from: end,
+            ended,
+        };
+    }
+    Cut {
+        end,
+        from: end + 1,
+        ended: true,
     }
 }
 
 // Puts s at a place of out as far as there is room, and returns the place behind.
-pub fn append(out: &mut [u8], at: usize, s: &[u8]) -> usize
+fn append(out: &mut [u8], at: usize, s: &[u8]) -> usize
     requires { ⌜ at ≤ length (now out) ⌝ }
     ensures { λ r. ⌜ Appended (now (s .entry)) at (now (out .entry)) (now (out .exit)) r ⌝ }
 {
@@ -35,50 +68,46 @@ pub fn append(out: &mut [u8], at: usize, s: &[u8]) -> usize
     put::put_text(out, at, &s[0..room])
 }
 
-// What is kept with s behind, a part of the name line; ended says whether the line ends there.
-fn take_name(name: &mut [u8], k: Kept, s: &[u8], ended: bool) -> Kept
-    requires { ⌜ k .name ≤ length (now name) ⌝ }
-    ensures { λ r. ⌜ TookName (now (s .entry)) ended k (now (name .entry)) (now (name .exit)) r ⌝ }
+// What is kept of a name line and a file with s behind.
+fn take_file(name: &mut NameBuffer, file: &mut FileBuffer, k: NamedFile, s: &[u8]) -> NamedFile
+    requires { ⌜ (k .name ≤ length (now name)) × (k .file ≤ length (now file)) ⌝ }
+    ensures { λ r. ⌜ TakesFile (now (s .entry)) k (now (name .entry)) (now (file .entry)) (now (name .exit)) (now (file .exit)) r ⌝ }
 {
-    let length = append(name, k.name, s);
+    let cut = cut_line(s, k.ended);
+    let end = cut.end;
+    let from = cut.from;
+    let length = append(name, k.name, &s[0..end]);
     let before = k.form;
-    let form = forms::over(before, s);
-    Kept {
-        ended,
+    let form = forms::over(before, &s[0..end]);
+    let size = append(file, k.file, &s[from..]);
+    NamedFile {
+        ended: cut.ended,
         name: length,
-        form,
-        file: k.file,
-    }
-}
-
-// What is kept with s behind, a part of the file.
-fn take_file(file: &mut [u8], k: Kept, s: &[u8]) -> Kept
-    requires { ⌜ k .file ≤ length (now file) ⌝ }
-    ensures { λ r. ⌜ TookFile (now (s .entry)) k (now (file .entry)) (now (file .exit)) r ⌝ }
-{
-    let size = append(file, k.file, s);
-    let form = k.form;
-    Kept {
-        ended: k.ended,
-        name: k.name,
         form,
         file: size,
     }
 }
 
 // What is kept with s behind, the next part of the input.
-pub fn take(name: &mut [u8], file: &mut [u8], k: Kept, s: &[u8]) -> Kept
-    requires { ⌜ (k .name ≤ length (now name)) × (k .file ≤ length (now file)) ⌝ }
-    ensures { λ r. ⌜ Took (now (s .entry)) k (now (name .entry)) (now (file .entry)) (now (name .exit)) (now (file .exit)) r ⌝ }
+pub fn take(
+    number: &mut NumberBuffer,
+    name: &mut NameBuffer,
+    file: &mut FileBuffer,
+    k: Input,
+    s: &[u8],
+) -> Input
+    requires { ⌜ InBuffers (now number) (now name) (now file) k ⌝ }
+    ensures { λ r. ⌜ TakesInput (now (s .entry)) k (now (number .entry)) (now (name .entry)) (now (file .entry)) (now (number .exit)) (now (name .exit)) (now (file .exit)) r ⌝ }
 {
-    if k.ended {
-        return take_file(file, k, s);
+    let cut = cut_line(s, k.ended);
+    let end = cut.end;
+    let from = cut.from;
+    let digits = append(number, k.number, &s[0..end]);
+    let before = k.rest;
+    let rest = take_file(name, file, before, &s[from..]);
+    Input {
+        ended: cut.ended,
+        number: digits,
+        rest,
     }
-    let end = text::scan::line_end(s, 0);
-    if end == s.len() {
-        return take_name(name, k, s, false);
-    }
-    let named = take_name(name, k, &s[0..end], true);
-    let from = end + 1;
-    take_file(file, named, &s[from..])
 }

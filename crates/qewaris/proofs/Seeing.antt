@@ -8,10 +8,10 @@ use Rattle.rules.specs.Reading.{reading}
 use Rattle.rules.specs.declared.Answer.{Answer}
 use Rattle.rules.specs.declared.Reading.{Reading}
 use Rattle.qewaris.specs.Demands.{Call, answerOf}
-use Rattle.qewaris.specs.Telling.{Checks, Tells}
+use Rattle.qewaris.specs.Telling.{Checks, TellsAnswer}
 
 pub checks : (d : Dialect) (name file : List ℕ) {r : Reading} → r ≡ reading d name file → Checks d name file r
 checks d name file e = record { is = e; seen = ap seenOf e }
 
-pub tells : (c : Call) {a : Answer} → a ≡ answerOf c → Tells c a
-tells c e = record { number = ap answerNumber e; line = ap answerLine e }
+pub tells-answer : (c : Call) {a : Answer} → a ≡ answerOf c → TellsAnswer c a
+tells-answer c e = record { number = ap answerNumber e; line = ap answerLine e }

@@ -10,7 +10,7 @@ use Rattle.joins.specs.Joins as Joins
 use Rattle.joins.specs.Joins.{iwdRecordServers, serviceRecordServers}
 use Rattle.mover.specs.Moves.{moving}
 use Rattle.boundary.specs.Answers.{readingAt, textAt, Left, leftOf}
-use Rattle.boundary.specs.Records.{noServers, recordAnswerAt, writingIn}
+use Rattle.boundary.specs.Records.{lentServers, recordAnswerAt, writingIn}
 use Rattle.boundary.specs.Settings.{iwdSettingsAt, serviceSettingsAt}
 use Rattle.boundary.specs.declared.CReading.{CReading}
 use Rattle.boundary.specs.declared.CText.{CText}
@@ -28,7 +28,7 @@ abbrev pub checkConnman : List ℕ → List ℕ → CReading
 checkConnman name file = readingAt (reading ConnMan name file)
 
 abbrev pub iwdSettingsOf : List ℕ → List ℕ → CIwdSettings
-iwdSettingsOf name file = iwdSettingsAt (iwdAnswered name file) (iwdServersAfter name file noServers)
+iwdSettingsOf name file = iwdSettingsAt (iwdAnswered name file) (iwdServersAfter name file lentServers)
 
 abbrev pub iwdPassphrase : List ℕ → List ℕ → CText
 iwdPassphrase name file = textAt (lookupPlace (iwdLookup (word "Security") (word "Passphrase") name file))
@@ -42,14 +42,14 @@ globalName name file = textAt (lookupPlace (globalLookup (word "Name") name file
 abbrev pub globalDescription : List ℕ → List ℕ → CText
 globalDescription name file = textAt (lookupPlace (globalLookup (word "Description") name file))
 
-abbrev pub iwdRecord : List ℕ → List ℕ → CRecordAnswer
-iwdRecord name file = recordAnswerAt (Joins.iwdRecord name file) (iwdRecordServers name file noServers)
+abbrev pub iwdRecordOf : List ℕ → List ℕ → CRecordAnswer
+iwdRecordOf name file = recordAnswerAt (Joins.iwdRecord name file) (iwdRecordServers name file lentServers)
 
 -- ---- of service w of a ConnMan file under its name
 
 abbrev pub serviceSettingsOf : List ℕ → List ℕ → ℕ → CServiceSettings
 serviceSettingsOf name file w =
-    serviceSettingsAt (serviceAnswered name file w) (serviceServersAfter name file w noServers)
+    serviceSettingsAt (serviceAnswered name file w) (serviceServersAfter name file w lentServers)
 
 abbrev pub serviceName : List ℕ → List ℕ → ℕ → CText
 serviceName name file w = textAt (lookupPlace (serviceLookup w (word "Name") name file))
@@ -60,9 +60,9 @@ servicePassphrase name file w = textAt (lookupPlace (serviceLookup w (word "Pass
 abbrev pub serviceDomain : List ℕ → List ℕ → ℕ → CText
 serviceDomain name file w = textAt (lookupPlace (serviceLookup w (word "Domain") name file))
 
-abbrev pub serviceRecord : List ℕ → List ℕ → ℕ → CRecordAnswer
-serviceRecord name file w =
-    recordAnswerAt (Joins.serviceRecord name file w) (serviceRecordServers name file w noServers)
+abbrev pub serviceRecordOf : List ℕ → List ℕ → ℕ → CRecordAnswer
+serviceRecordOf name file w =
+    recordAnswerAt (Joins.serviceRecord name file w) (serviceRecordServers name file w lentServers)
 
 -- ---- into a buffer that held n for the name, and one that held f for the file
 

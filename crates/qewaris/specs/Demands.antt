@@ -92,35 +92,35 @@ writerRows = bare 0 ∷ bare 19 ∷ bare 16 ∷ bare 17 ∷ []
 abbrev pub moveRows : List AnswerRow
 moveRows = serviceRecordRows ++ (bare 17 ∷ [])
 
-abbrev pub rowsOf : Call → List AnswerRow
-rowsOf (check d name file) = bare 0 ∷ ownRows d
-rowsOf (iwd-settings name file s) = bare 0 ∷ ownRows Iwd
-rowsOf (service-settings name file w s) = serviceRows
-rowsOf (iwd-string group key name file) = bare 0 ∷ ownRows Iwd
-rowsOf (global-string key name file) = bare 0 ∷ ownRows ConnMan
-rowsOf (service-string w key name file) = serviceRows
-rowsOf (iwd-record name file s) = bare 0 ∷ ownRows Iwd
-rowsOf (service-record name file w s) = serviceRecordRows
-rowsOf (write r s n f) = writerRows
-rowsOf (move name file w n f) = moveRows
+abbrev pub callRows : Call → List AnswerRow
+callRows (check d name file) = bare 0 ∷ ownRows d
+callRows (iwd-settings name file s) = bare 0 ∷ ownRows Iwd
+callRows (service-settings name file w s) = serviceRows
+callRows (iwd-string group key name file) = bare 0 ∷ ownRows Iwd
+callRows (global-string key name file) = bare 0 ∷ ownRows ConnMan
+callRows (service-string w key name file) = serviceRows
+callRows (iwd-record name file s) = bare 0 ∷ ownRows Iwd
+callRows (service-record name file w s) = serviceRecordRows
+callRows (write r s n f) = writerRows
+callRows (move name file w n f) = moveRows
 
 -- how many lines the file has that is handed in
-abbrev pub linesOf : Call → ℕ
-linesOf (check d name file) = length (lines file)
-linesOf (iwd-settings name file s) = length (lines file)
-linesOf (service-settings name file w s) = length (lines file)
-linesOf (iwd-string group key name file) = length (lines file)
-linesOf (global-string key name file) = length (lines file)
-linesOf (service-string w key name file) = length (lines file)
-linesOf (iwd-record name file s) = length (lines file)
-linesOf (service-record name file w s) = length (lines file)
-linesOf (write r s n f) = 0
-linesOf (move name file w n f) = length (lines file)
+abbrev pub callLines : Call → ℕ
+callLines (check d name file) = length (lines file)
+callLines (iwd-settings name file s) = length (lines file)
+callLines (service-settings name file w s) = length (lines file)
+callLines (iwd-string group key name file) = length (lines file)
+callLines (global-string key name file) = length (lines file)
+callLines (service-string w key name file) = length (lines file)
+callLines (iwd-record name file s) = length (lines file)
+callLines (service-record name file w s) = length (lines file)
+callLines (write r s n f) = 0
+callLines (move name file w n f) = length (lines file)
 
 -- "an answer from document 01's table": a number that this entry point can give, with line 0 or a line of the file as
 -- the table has it
 abbrev pub Demand-1-table : Type 0
-Demand-1-table = (c : Call) → hasRow (linesOf c) (rowsOf c) (answerNumber (answerOf c)) (answerLine (answerOf c)) ≡ true
+Demand-1-table = (c : Call) → hasRow (callLines c) (callRows c) (answerNumber (answerOf c)) (answerLine (answerOf c)) ≡ true
 
 -- a refusal of the writer or the move: its number and line, no new bytes, and both buffers as they were
 pub record Unwritten (w : Writing) (n f : List ℕ) (r : Refusal) (l : ℕ) : Type 0 where
@@ -214,7 +214,7 @@ Demand-2-service-fields =
 
 -- a struct that is formed, with a place in iwd, and buffers with room; `Arrays` is what the struct's types say of its
 -- arrays
-pub record Writable (r : JoinRecord) (s : List (List ℕ)) (n f : List ℕ) : Type 0 where
+pub record WritableRecord (r : JoinRecord) (s : List (List ℕ)) (n f : List ℕ) : Type 0 where
   pub arrays : Arrays r s
   pub formed-is : formed r s ≡ true
   pub placed : hasPlace (joined r s .ipv4) ≡ true
@@ -222,7 +222,7 @@ pub record Writable (r : JoinRecord) (s : List (List ℕ)) (n f : List ℕ) : Ty
   pub file-room : length (fileText (joined r s)) ≤ length f
 
 -- what is written is accepted, and its record and servers are those that were written, in every place
-pub record ReadsBack (r : JoinRecord) (s : List (List ℕ)) (n f : List ℕ) : Type 0 where
+pub record RecordReadsBack (r : JoinRecord) (s : List (List ℕ)) (n f : List ℕ) : Type 0 where
   pub name : List ℕ
   pub file : List ℕ
   pub written : writing r s n f ≡ writes name file
@@ -232,7 +232,7 @@ pub record ReadsBack (r : JoinRecord) (s : List (List ℕ)) (n f : List ℕ) : T
   pub servers : (old : List (List ℕ)) → iwdRecordServers name file old ≡ s
 
 abbrev pub Demand-2-round-trip : Type 0
-Demand-2-round-trip = (r : JoinRecord) (s : List (List ℕ)) (n f : List ℕ) → Writable r s n f → ReadsBack r s n f
+Demand-2-round-trip = (r : JoinRecord) (s : List (List ℕ)) (n f : List ℕ) → WritableRecord r s n f → RecordReadsBack r s n f
 
 -- ==== 3. "For any accepted ConnMan file and any service that holds nothing on 01's list of what iwd has no place for,
 -- and any buffers with room, the move answers 0, what it writes is accepted, and its join record equals the service's

@@ -172,8 +172,8 @@ all-refuse name file e c (Demands.by-service-record w s) =
 all-refuse name file e c (Demands.by-move w n f) =
     ap (λ (q : Reading). writtenAnswer (orRefused (askedOf w q) (movingOf (settingOf w file) n f)) .answer) e
 
-pub saturday : Demands.Saturday
-saturday d name file n p =
+pub saturday-holds : Demands.Saturday
+saturday-holds d name file n p =
     let h = faulty-refused d name file p in
     record {
       refusal = h .refusal;

@@ -63,38 +63,38 @@ pub data Answered : Type 0 where
   joins : CRecordAnswer → Answered
   wrote : CWritten → Answered
 
-abbrev pub answered : Call → Answered
-answered (check-iwd name file) = reads (Calls.checkIwd name file)
-answered (check-connman name file) = reads (Calls.checkConnman name file)
-answered (iwd-settings-of name file) = iwd-settings (Calls.iwdSettingsOf name file)
-answered (service-settings-of name file w) = service-settings (Calls.serviceSettingsOf name file w)
-answered (iwd-passphrase name file) = says (Calls.iwdPassphrase name file)
-answered (iwd-domain-name name file) = says (Calls.iwdDomainName name file)
-answered (global-name name file) = says (Calls.globalName name file)
-answered (global-description name file) = says (Calls.globalDescription name file)
-answered (service-name name file w) = says (Calls.serviceName name file w)
-answered (service-passphrase name file w) = says (Calls.servicePassphrase name file w)
-answered (service-domain name file w) = says (Calls.serviceDomain name file w)
-answered (iwd-record name file) = joins (Calls.iwdRecord name file)
-answered (service-record name file w) = joins (Calls.serviceRecord name file w)
-answered (write-iwd c n f) = wrote (Calls.writeIwd c n f .answer)
-answered (move-service name file w n f) = wrote (Calls.moveService name file w n f .answer)
+abbrev pub exportAnswer : Call → Answered
+exportAnswer (check-iwd name file) = reads (Calls.checkIwd name file)
+exportAnswer (check-connman name file) = reads (Calls.checkConnman name file)
+exportAnswer (iwd-settings-of name file) = iwd-settings (Calls.iwdSettingsOf name file)
+exportAnswer (service-settings-of name file w) = service-settings (Calls.serviceSettingsOf name file w)
+exportAnswer (iwd-passphrase name file) = says (Calls.iwdPassphrase name file)
+exportAnswer (iwd-domain-name name file) = says (Calls.iwdDomainName name file)
+exportAnswer (global-name name file) = says (Calls.globalName name file)
+exportAnswer (global-description name file) = says (Calls.globalDescription name file)
+exportAnswer (service-name name file w) = says (Calls.serviceName name file w)
+exportAnswer (service-passphrase name file w) = says (Calls.servicePassphrase name file w)
+exportAnswer (service-domain name file w) = says (Calls.serviceDomain name file w)
+exportAnswer (iwd-record name file) = joins (Calls.iwdRecordOf name file)
+exportAnswer (service-record name file w) = joins (Calls.serviceRecordOf name file w)
+exportAnswer (write-iwd c n f) = wrote (Calls.writeIwd c n f .answer)
+exportAnswer (move-service name file w n f) = wrote (Calls.moveService name file w n f .answer)
 
-abbrev pub number : Answered → ℕ
-number (reads a) = a .number
-number (says a) = a .number
-number (iwd-settings a) = a .number
-number (service-settings a) = a .number
-number (joins a) = a .number
-number (wrote a) = a .number
+abbrev pub exportNumber : Answered → ℕ
+exportNumber (reads a) = a .number
+exportNumber (says a) = a .number
+exportNumber (iwd-settings a) = a .number
+exportNumber (service-settings a) = a .number
+exportNumber (joins a) = a .number
+exportNumber (wrote a) = a .number
 
-abbrev pub line : Answered → ℕ
-line (reads a) = a .line
-line (says a) = a .line
-line (iwd-settings a) = a .line
-line (service-settings a) = a .line
-line (joins a) = a .line
-line (wrote a) = a .line
+abbrev pub exportLine : Answered → ℕ
+exportLine (reads a) = a .line
+exportLine (says a) = a .line
+exportLine (iwd-settings a) = a .line
+exportLine (service-settings a) = a .line
+exportLine (joins a) = a .line
+exportLine (wrote a) = a .line
 
 -- the buffers that a call is lent, and what they hold after it
 abbrev pub lent : Call → List (List ℕ)
@@ -135,22 +135,22 @@ left (service-record name file w) = []
 -- ==== demand 1: "each entry point ends with an answer from document 01's table"
 
 -- the rows that a function can answer with; of a string that is found the line is its setting's
-abbrev pub rows : Call → List AnswerRow
-rows (check-iwd name file) = bare 0 ∷ ownRows Iwd
-rows (check-connman name file) = bare 0 ∷ ownRows ConnMan
-rows (iwd-settings-of name file) = bare 0 ∷ ownRows Iwd
-rows (service-settings-of name file w) = serviceRows
-rows (iwd-passphrase name file) = placed 0 ∷ ownRows Iwd
-rows (iwd-domain-name name file) = placed 0 ∷ ownRows Iwd
-rows (global-name name file) = placed 0 ∷ ownRows ConnMan
-rows (global-description name file) = placed 0 ∷ ownRows ConnMan
-rows (service-name name file w) = placed 0 ∷ serviceRefusals
-rows (service-passphrase name file w) = placed 0 ∷ serviceRefusals
-rows (service-domain name file w) = placed 0 ∷ serviceRefusals
-rows (iwd-record name file) = bare 0 ∷ ownRows Iwd
-rows (service-record name file w) = serviceRecordRows
-rows (write-iwd c n f) = writerRows
-rows (move-service name file w n f) = moveRows
+abbrev pub exportRows : Call → List AnswerRow
+exportRows (check-iwd name file) = bare 0 ∷ ownRows Iwd
+exportRows (check-connman name file) = bare 0 ∷ ownRows ConnMan
+exportRows (iwd-settings-of name file) = bare 0 ∷ ownRows Iwd
+exportRows (service-settings-of name file w) = serviceRows
+exportRows (iwd-passphrase name file) = placed 0 ∷ ownRows Iwd
+exportRows (iwd-domain-name name file) = placed 0 ∷ ownRows Iwd
+exportRows (global-name name file) = placed 0 ∷ ownRows ConnMan
+exportRows (global-description name file) = placed 0 ∷ ownRows ConnMan
+exportRows (service-name name file w) = placed 0 ∷ serviceRefusals
+exportRows (service-passphrase name file w) = placed 0 ∷ serviceRefusals
+exportRows (service-domain name file w) = placed 0 ∷ serviceRefusals
+exportRows (iwd-record name file) = bare 0 ∷ ownRows Iwd
+exportRows (service-record name file w) = serviceRecordRows
+exportRows (write-iwd c n f) = writerRows
+exportRows (move-service name file w n f) = moveRows
 
 -- how many lines the file has that is handed in
 abbrev pub lineCount : Call → ℕ
@@ -171,11 +171,11 @@ lineCount (write-iwd c n f) = 0
 lineCount (move-service name file w n f) = length (lines file)
 
 abbrev pub Exported-table : Type 0
-Exported-table = (c : Call) → hasRow (lineCount c) (rows c) (number (answered c)) (line (answered c)) ≡ true
+Exported-table = (c : Call) → hasRow (lineCount c) (exportRows c) (exportNumber (exportAnswer c)) (exportLine (exportAnswer c)) ≡ true
 
 -- a record that is brought in, whose codes are known, that is well formed and that iwd has a place for, and buffers
 -- with room
-pub record Writable (c : CRecord) (n f : List ℕ) : Type 0 where
+pub record WritableBytes (c : CRecord) (n f : List ℕ) : Type 0 where
   pub codes : known c ≡ true
   pub formed-is : formed (recordIn c) (serversIn c) ≡ true
   pub placed : hasPlace (joined (recordIn c) (serversIn c) .ipv4) ≡ true
@@ -202,12 +202,12 @@ Success (service-passphrase name file w) = Service name file w
 Success (service-domain name file w) = Service name file w
 Success (iwd-record name file) = ObeysTheRules Iwd name file
 Success (service-record name file w) = Joinable name file w
-Success (write-iwd c n f) = Writable c n f
+Success (write-iwd c n f) = WritableBytes c n f
 Success (move-service name file w n f) = Movable name file w n f
 
 -- 0 is given exactly then
 abbrev pub Exported-success : Type 0
-Exported-success = (c : Call) → Success c ↔ (number (answered c) ≡ 0)
+Exported-success = (c : Call) → Success c ↔ (exportNumber (exportAnswer c) ≡ 0)
 
 -- ---- "A refusal gives its number and line, zeros for all else, and changes no byte of any lent buffer"
 
@@ -221,31 +221,31 @@ zeroed (joins a) = joins (zeroAnswer (a .number) (a .line))
 zeroed (wrote a) = wrote (zeroWritten (a .number) (a .line))
 
 pub record Unchanged (c : Call) : Type 0 where
-  pub zeros : answered c ≡ zeroed (answered c)
+  pub zeros : exportAnswer c ≡ zeroed (exportAnswer c)
   pub buffers : left c ≡ lent c
 
 abbrev pub Exported-refusal : Type 0
-Exported-refusal = (c : Call) → 0 < number (answered c) → Unchanged c
+Exported-refusal = (c : Call) → 0 < exportNumber (exportAnswer c) → Unchanged c
 
 -- ==== "handed back as the stretch of the lent file where it stands"
 
--- the place that is answered lies in the file, and the value of the setting stands there
-pub record Stands (file : List ℕ) (k : Lookup) (t : CText) : Type 0 where
+-- the place that is exportAnswer lies in the file, and the value of the setting stands there
+pub record StringStands (file : List ℕ) (k : Lookup) (t : CText) : Type 0 where
   pub within : t .start + t .length ≤ length file
   pub value : part (t .start) (t .start + t .length) file ≡ settingValue (k .setting)
 
 pub record Strings (name file : List ℕ) (w : ℕ) : Type 0 where
   pub iwd-passphrase :
-      Stands file (iwdLookup (word "Security") (word "Passphrase") name file) (Calls.iwdPassphrase name file)
+      StringStands file (iwdLookup (word "Security") (word "Passphrase") name file) (Calls.iwdPassphrase name file)
   pub iwd-domain-name :
-      Stands file (iwdLookup (word "IPv4") (word "DomainName") name file) (Calls.iwdDomainName name file)
-  pub global-name : Stands file (globalLookup (word "Name") name file) (Calls.globalName name file)
+      StringStands file (iwdLookup (word "IPv4") (word "DomainName") name file) (Calls.iwdDomainName name file)
+  pub global-name : StringStands file (globalLookup (word "Name") name file) (Calls.globalName name file)
   pub global-description :
-      Stands file (globalLookup (word "Description") name file) (Calls.globalDescription name file)
-  pub service-name : Stands file (serviceLookup w (word "Name") name file) (Calls.serviceName name file w)
+      StringStands file (globalLookup (word "Description") name file) (Calls.globalDescription name file)
+  pub service-name : StringStands file (serviceLookup w (word "Name") name file) (Calls.serviceName name file w)
   pub service-passphrase :
-      Stands file (serviceLookup w (word "Passphrase") name file) (Calls.servicePassphrase name file w)
-  pub service-domain : Stands file (serviceLookup w (word "Domain") name file) (Calls.serviceDomain name file w)
+      StringStands file (serviceLookup w (word "Passphrase") name file) (Calls.servicePassphrase name file w)
+  pub service-domain : StringStands file (serviceLookup w (word "Domain") name file) (Calls.serviceDomain name file w)
 
 abbrev pub Exported-strings : Type 0
 Exported-strings = (name file : List ℕ) (w : ℕ) → Strings name file w
@@ -289,9 +289,9 @@ pub record OldBehind (k : Left) (n f : List ℕ) : Type 0 where
 
 -- "A well-formed record that iwd has a place for, written with room, reads back as itself.": the record c that is
 -- brought in, byte for byte; `CArrays` is what the types say of its arrays
-pub record ReadsBack (c : CRecord) (n f : List ℕ) (k : Left) : Type 0 where
+pub record BytesReadBack (c : CRecord) (n f : List ℕ) (k : Left) : Type 0 where
   pub back :
-      Calls.iwdRecord (newName k) (newFile k) ≡ record { line = 0; number = 0; «record» = c; reserved = replicate 1 0 }
+      Calls.iwdRecordOf (newName k) (newFile k) ≡ record { line = 0; number = 0; «record» = c; reserved = replicate 1 0 }
   pub behind : OldBehind k n f
 
 abbrev pub Exported-write : Type 0
@@ -299,17 +299,17 @@ Exported-write =
     (c : CRecord) (n f : List ℕ)
     → CArrays c
     → Calls.writeIwd c n f .answer .number ≡ 0
-    → ReadsBack c n f (Calls.writeIwd c n f)
+    → BytesReadBack c n f (Calls.writeIwd c n f)
 
 -- "what it writes is accepted, and its join record equals the service's in every part": the two answers are one, byte
 -- for byte. "No service that needs a key becomes one that needs none."
 pub record MovesOver (name file : List ℕ) (w : ℕ) (n f : List ℕ) (k : Left) : Type 0 where
   pub accepted : Calls.checkIwd (newName k) (newFile k) .number ≡ 0
-  pub joined : Calls.serviceRecord name file w .number ≡ 0
-  pub same : Calls.iwdRecord (newName k) (newFile k) ≡ Calls.serviceRecord name file w
+  pub joined : Calls.serviceRecordOf name file w .number ≡ 0
+  pub same : Calls.iwdRecordOf (newName k) (newFile k) ≡ Calls.serviceRecordOf name file w
   pub key :
-      0 < Calls.serviceRecord name file w .«record» .credential
-      → 0 < Calls.iwdRecord (newName k) (newFile k) .«record» .credential
+      0 < Calls.serviceRecordOf name file w .«record» .credential
+      → 0 < Calls.iwdRecordOf (newName k) (newFile k) .«record» .credential
   pub behind : OldBehind k n f
 
 -- that the move answers 0 for a movable service is `Exported-success`

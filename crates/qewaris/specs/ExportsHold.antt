@@ -35,54 +35,54 @@ use Rattle.joins.specs.Joins.{Joined, settingOf, iwdJoined, serviceJoined, reco
 use Rattle.writer.specs.Writing.{Writing, writes, refuses, writing, writtenAnswer}
 use Rattle.mover.specs.Moves.{moving}
 use Rattle.boundary.specs.Answers.{Left, readingAt, textAt, leftOf}
-use Rattle.boundary.specs.Records.{noServers, recordAnswerAt, known, recordIn, serversIn, writingIn}
+use Rattle.boundary.specs.Records.{lentServers, recordAnswerAt, known, recordIn, serversIn, writingIn}
 use Rattle.boundary.specs.Settings.{iwdSettingsAt, serviceSettingsAt}
 use Rattle.boundary.specs.declared.CRecord.{CRecord}
 use Rattle.qewaris.specs.Demands as D
 use Rattle.qewaris.specs.Demands.{serviceRefusals, writerRows}
-use Rattle.qewaris.specs.TableHolds.{Given, asked-given, asked-service-given, write-given, demand-1-table}
+use Rattle.qewaris.specs.TableHolds.{InRows, asked-given, asked-service-given, write-given, demand-1-table}
 use Rattle.qewaris.specs.Exports as E
-use Rattle.qewaris.specs.Exports.{Answered, reads, says, iwd-settings, service-settings, joins, wrote, answered, number, line, zeroed, Unchanged, Exported-table, Exported-refusal}
+use Rattle.qewaris.specs.Exports.{Answered, reads, says, iwd-settings, service-settings, joins, wrote, exportAnswer, exportNumber, exportLine, zeroed, Unchanged, Exported-table, Exported-refusal}
 
 -- the number of a refusal is not 0
-pub number-some : (r : Refusal) → eqb (numberOf r) 0 ≡ false
-number-some N.Size = refl
-number-some N.FileName = refl
-number-some N.Unrecognized = refl
-number-some N.Extension = refl
-number-some N.BadHeader = refl
-number-some N.UnknownGroup = refl
-number-some N.RepeatedGroup = refl
-number-some N.NoGroup = refl
-number-some N.UnknownKey = refl
-number-some N.RepeatedKey = refl
-number-some N.ValueText = refl
-number-some N.ValueKind = refl
-number-some N.ManyServices = refl
-number-some N.Missing = refl
-number-some N.Contradiction = refl
-number-some N.NoPlace = refl
-number-some N.ShortBuffer = refl
-number-some N.NoService = refl
-number-some N.Malformed = refl
+pub refusal-number : (r : Refusal) → eqb (numberOf r) 0 ≡ false
+refusal-number N.Size = refl
+refusal-number N.FileName = refl
+refusal-number N.Unrecognized = refl
+refusal-number N.Extension = refl
+refusal-number N.BadHeader = refl
+refusal-number N.UnknownGroup = refl
+refusal-number N.RepeatedGroup = refl
+refusal-number N.NoGroup = refl
+refusal-number N.UnknownKey = refl
+refusal-number N.RepeatedKey = refl
+refusal-number N.ValueText = refl
+refusal-number N.ValueKind = refl
+refusal-number N.ManyServices = refl
+refusal-number N.Missing = refl
+refusal-number N.Contradiction = refl
+refusal-number N.NoPlace = refl
+refusal-number N.ShortBuffer = refl
+refusal-number N.NoService = refl
+refusal-number N.Malformed = refl
 
 -- ---- the table
 
-reading-given : (k : ℕ) (rs : List AnswerRow) (r : Reading) → Given k rs (asked r) →
+reading-given : (k : ℕ) (rs : List AnswerRow) (r : Reading) → InRows k rs (asked r) →
     hasRow k rs (readingAt r .number) (readingAt r .line) ≡ true
 reading-given k rs (R.Accepted n m) h = h
 reading-given k rs (R.Refused r l) h = h
 
 text-given : (file : List ℕ) (rs : List AnswerRow) (a : Answer) (o : Option Entry) →
-    Given (length (lines file)) (bare 0 ∷ rs) a → IfSome (EntryStands file) o →
+    InRows (length (lines file)) (bare 0 ∷ rs) a → IfSome (EntryStands file) o →
     hasRow (length (lines file)) (placed 0 ∷ rs) (textAt (lookupPlace (lookupOf a o)) .number) (textAt (lookupPlace (lookupOf a o)) .line) ≡ true
 text-given file rs Good none h e = rw (inside {x = 0} 0 (length (lines file)) (omega arith) (omega arith))
 text-given file rs Good (some x) h e =
     rw (inside {x = x .line} 0 (length (lines file)) (omega arith) (between-high {x = x .line} 1 (length (lines file)) (e .line)))
-text-given file rs (Refused r l) o h e = rw (number-some r) (rw (number-some r) at h)
+text-given file rs (Refused r l) o h e = rw (refusal-number r) (rw (refusal-number r) at h)
 
-known-given : (b : Bool) (w : Writing) → Given 0 writerRows (writtenAnswer w .answer) →
-    Given 0 writerRows (writtenAnswer (cond b w (refuses N.Malformed 0)) .answer)
+known-given : (b : Bool) (w : Writing) → InRows 0 writerRows (writtenAnswer w .answer) →
+    InRows 0 writerRows (writtenAnswer (cond b w (refuses N.Malformed 0)) .answer)
 known-given true w h = h
 known-given false w h = refl
 
@@ -102,8 +102,8 @@ exported-table (E.check-iwd name file) =
     reading-given (length (lines file)) (bare 0 ∷ ownRows Iwd) (reading Iwd name file) (asked-given Iwd name file)
 exported-table (E.check-connman name file) =
     reading-given (length (lines file)) (bare 0 ∷ ownRows ConnMan) (reading ConnMan name file) (asked-given ConnMan name file)
-exported-table (E.iwd-settings-of name file) = demand-1-table (D.iwd-settings name file noServers)
-exported-table (E.service-settings-of name file w) = demand-1-table (D.service-settings name file w noServers)
+exported-table (E.iwd-settings-of name file) = demand-1-table (D.iwd-settings name file lentServers)
+exported-table (E.service-settings-of name file w) = demand-1-table (D.service-settings name file w lentServers)
 exported-table (E.iwd-passphrase name file) = group-text-given name file Iwd (word "Security") (word "Passphrase")
 exported-table (E.iwd-domain-name name file) = group-text-given name file Iwd (word "IPv4") (word "DomainName")
 exported-table (E.global-name name file) = group-text-given name file ConnMan (word "global") (word "Name")
@@ -112,8 +112,8 @@ exported-table (E.global-description name file) =
 exported-table (E.service-name name file w) = service-text-given name file w (word "Name")
 exported-table (E.service-passphrase name file w) = service-text-given name file w (word "Passphrase")
 exported-table (E.service-domain name file w) = service-text-given name file w (word "Domain")
-exported-table (E.iwd-record name file) = demand-1-table (D.iwd-record name file noServers)
-exported-table (E.service-record name file w) = demand-1-table (D.service-record name file w noServers)
+exported-table (E.iwd-record name file) = demand-1-table (D.iwd-record name file lentServers)
+exported-table (E.service-record name file w) = demand-1-table (D.service-record name file w lentServers)
 exported-table (E.write-iwd c n f) =
     known-given (known c) (writing (recordIn c) (serversIn c) n f) (write-given (recordIn c) (serversIn c) n f)
 exported-table (E.move-service name file w n f) = demand-1-table (D.move name file w n f)
@@ -130,21 +130,21 @@ text-zeros Good o h = absurd (omega arith)
 text-zeros (Refused r l) o h = refl
 
 iwd-zeros : (a : Answer) (gs : List Section) →
-    0 < iwdSettingsAt (iwdAnswerOf a gs) (iwdServersOf a gs noServers) .number →
-    iwd-settings (iwdSettingsAt (iwdAnswerOf a gs) (iwdServersOf a gs noServers)) ≡ zeroed (iwd-settings (iwdSettingsAt (iwdAnswerOf a gs) (iwdServersOf a gs noServers)))
+    0 < iwdSettingsAt (iwdAnswerOf a gs) (iwdServersOf a gs lentServers) .number →
+    iwd-settings (iwdSettingsAt (iwdAnswerOf a gs) (iwdServersOf a gs lentServers)) ≡ zeroed (iwd-settings (iwdSettingsAt (iwdAnswerOf a gs) (iwdServersOf a gs lentServers)))
 unfolding keysOf
 iwd-zeros Good gs h = absurd (omega arith)
 iwd-zeros (Refused r l) gs h = refl
 
 service-zeros : (a : Answer) (es : List Entry) →
-    0 < serviceSettingsAt (serviceAnswerOf a es) (serviceServersOf a es noServers) .number →
-    service-settings (serviceSettingsAt (serviceAnswerOf a es) (serviceServersOf a es noServers)) ≡ zeroed (service-settings (serviceSettingsAt (serviceAnswerOf a es) (serviceServersOf a es noServers)))
+    0 < serviceSettingsAt (serviceAnswerOf a es) (serviceServersOf a es lentServers) .number →
+    service-settings (serviceSettingsAt (serviceAnswerOf a es) (serviceServersOf a es lentServers)) ≡ zeroed (service-settings (serviceSettingsAt (serviceAnswerOf a es) (serviceServersOf a es lentServers)))
 unfolding keysOf
 service-zeros Good es h = absurd (omega arith)
 service-zeros (Refused r l) es h = refl
 
-record-zeros : (j : Joined) → 0 < recordAnswerAt (recordAnswer j) (serversAfter j noServers) .number →
-    joins (recordAnswerAt (recordAnswer j) (serversAfter j noServers)) ≡ zeroed (joins (recordAnswerAt (recordAnswer j) (serversAfter j noServers)))
+record-zeros : (j : Joined) → 0 < recordAnswerAt (recordAnswer j) (serversAfter j lentServers) .number →
+    joins (recordAnswerAt (recordAnswer j) (serversAfter j lentServers)) ≡ zeroed (joins (recordAnswerAt (recordAnswer j) (serversAfter j lentServers)))
 record-zeros (J.joined j) h = absurd (omega arith)
 record-zeros (J.refused r l) h = refl
 

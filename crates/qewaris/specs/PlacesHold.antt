@@ -1,4 +1,4 @@
--- Each place that is answered lies in the file, and the value stands there: of a string, and of each entry of a list.
+-- Each place that is exportAnswer lies in the file, and the value stands there: of a string, and of each entry of a list.
 use Prim.Native.Nat.{ℕ, zero, suc, _+_, _-_, _≤_, _<_}
 use native.Mathlib.Omega.{arith}
 use mathlib.Core.Path.{_≡_, refl, ap, ap₂, sym, _∙_, subst}
@@ -32,16 +32,16 @@ use Rattle.settings.specs.Asked.{serviceAnswerOf, serviceServersOf}
 use Rattle.lookups.specs.Lookups.{lookupOf, lookupPlace}
 use Rattle.joins.specs.Joins.{settingOf}
 use Rattle.boundary.specs.Answers.{textAt}
-use Rattle.boundary.specs.Records.{noServers}
+use Rattle.boundary.specs.Records.{lentServers}
 use Rattle.boundary.specs.Settings.{entryLength, entriesAt, serviceSettingsAt}
 use Rattle.boundary.specs.declared.CEntries.{CEntries}
-use Rattle.qewaris.specs.Exports.{Stands, EntryAt, ListStands, entriesOf, Lists, Exported-strings, Exported-lists}
-use Rattle.qewaris.specs.ExportsHold.{number-some}
+use Rattle.qewaris.specs.Exports.{StringStands, EntryAt, ListStands, entriesOf, Lists, Exported-strings, Exported-lists}
+use Rattle.qewaris.specs.ExportsHold.{refusal-number}
 
 -- ---- strings
 
 string-stands : (file : List ℕ) (a : Answer) (o : Option Entry) → IfSome (EntryStands file) o →
-    Stands file (lookupOf a o) (textAt (lookupPlace (lookupOf a o)))
+    StringStands file (lookupOf a o) (textAt (lookupPlace (lookupOf a o)))
 string-stands file Good none h = record { within = omega arith; value = refl }
 string-stands file Good (some e) h =
     let q : e .start + length (e .value) - e .start ≡ length (e .value) = omega arith in
@@ -49,12 +49,12 @@ string-stands file Good (some e) h =
 string-stands file (Refused r l) o h = record { within = omega arith; value = refl }
 
 group-string : (d : Dialect) (name file group key : List ℕ) →
-    Stands file (lookupOf (asked (reading d name file)) (iwdEntry (sectionsOf d file) group key)) (textAt (lookupPlace (lookupOf (asked (reading d name file)) (iwdEntry (sectionsOf d file) group key))))
+    StringStands file (lookupOf (asked (reading d name file)) (iwdEntry (sectionsOf d file) group key)) (textAt (lookupPlace (lookupOf (asked (reading d name file)) (iwdEntry (sectionsOf d file) group key))))
 group-string d name file group key =
     string-stands file (asked (reading d name file)) (iwdEntry (sectionsOf d file) group key) (group-stands d file group key)
 
 service-string : (name file : List ℕ) (w : ℕ) (key : List ℕ) →
-    Stands file (lookupOf (askedOf w (reading ConnMan name file)) (settingOf w file key)) (textAt (lookupPlace (lookupOf (askedOf w (reading ConnMan name file)) (settingOf w file key))))
+    StringStands file (lookupOf (askedOf w (reading ConnMan name file)) (settingOf w file key)) (textAt (lookupPlace (lookupOf (askedOf w (reading ConnMan name file)) (settingOf w file key))))
 service-string name file w key =
     string-stands file (askedOf w (reading ConnMan name file)) (settingOf w file key) (service-stands ConnMan file w key)
 
@@ -185,6 +185,6 @@ exported-lists name file w e = go (askedOf w (reading ConnMan name file)) e
     stands key = list-stands file (settingOf w file key) (service-stands ConnMan file w key)
 
     go : (a : Answer) → answerNumber (serviceAnswerOf a (serviceAt w (sectionsOf ConnMan file)) .answer) ≡ 0 →
-        Lists file w (serviceSettingsAt (serviceAnswerOf a (serviceAt w (sectionsOf ConnMan file))) (serviceServersOf a (serviceAt w (sectionsOf ConnMan file)) noServers))
+        Lists file w (serviceSettingsAt (serviceAnswerOf a (serviceAt w (sectionsOf ConnMan file))) (serviceServersOf a (serviceAt w (sectionsOf ConnMan file)) lentServers))
     go Good e = record { search-domains = stands (word "SearchDomains"); timeservers = stands (word "Timeservers") }
-    go (Refused r l) e = absurd (true≢false (sym (eq-eqb (numberOf r) 0 e) ∙ number-some r))
+    go (Refused r l) e = absurd (true≢false (sym (eq-eqb (numberOf r) 0 e) ∙ refusal-number r))

@@ -40,7 +40,7 @@ use Rattle.mover.specs.Demand.{Service, Movable}
 use Rattle.mover.specs.Theorem as M
 use Rattle.mover.specs.Order.{good-movable}
 use Rattle.boundary.specs.Answers.{Left, readingAt, leftOf}
-use Rattle.boundary.specs.Records.{noServers, recordAt, recordAnswerAt, CArrays, known, recordIn, serversIn, writingIn}
+use Rattle.boundary.specs.Records.{lentServers, recordAt, recordAnswerAt, CArrays, known, recordIn, serversIn, writingIn}
 use Rattle.boundary.specs.Laws.{brought-back, brought-arrays}
 use Rattle.boundary.specs.declared.CRecord.{CRecord}
 use Rattle.boundary.specs.declared.CRecordAnswer.{CRecordAnswer}
@@ -48,15 +48,15 @@ use Rattle.qewaris.specs.Calls
 use Rattle.qewaris.specs.Demands.{ObeysTheRules}
 use Rattle.qewaris.specs.TableHolds.{settings-answer, service-answer, lookup-answer, joined-answer}
 use Rattle.qewaris.specs.Exports as E
-use Rattle.qewaris.specs.Exports.{Writable, Joinable, newName, newFile, OldBehind, Exported-success, Exported-write, Exported-move}
-use Rattle.qewaris.specs.ExportsHold.{number-some}
+use Rattle.qewaris.specs.Exports.{WritableBytes, Joinable, newName, newFile, OldBehind, Exported-success, Exported-write, Exported-move}
+use Rattle.qewaris.specs.ExportsHold.{refusal-number}
 
 -- ---- 0, and nothing else, is the number of what is good
 
 number-good : (a : Answer) → answerNumber a ≡ 0 → a ≡ Good
 number-good Good e = refl
 number-good (Refused r l) e =
-    let z : true ≡ false = sym (eq-eqb (numberOf r) 0 e) ∙ number-some r in absurd (true≢false z)
+    let z : true ≡ false = sym (eq-eqb (numberOf r) 0 e) ∙ refusal-number r in absurd (true≢false z)
 
 -- said of a number that is another
 of-number : {A : Type 0} {n m : ℕ} → n ≡ m → (A ↔ (m ≡ 0)) → A ↔ (n ≡ 0)
@@ -95,7 +95,7 @@ record-number : (a : Answer) (o : Option ℕ) (j : Join) →
     answerNumber (recordAnswer (J.orRefused a (orNoPlace o j)) .answer) ≡ 0 → (answerNumber a ≡ 0) × (o ≡ none)
 record-number Good none j e = (refl, refl)
 record-number Good (some l) j e = absurd (omega (arith, e))
-record-number (Refused r l) o j e = absurd (true≢false (sym (eq-eqb (numberOf r) 0 e) ∙ number-some r))
+record-number (Refused r l) o j e = absurd (true≢false (sym (eq-eqb (numberOf r) 0 e) ∙ refusal-number r))
 
 record-success : (name file : List ℕ) (w : ℕ) →
     Joinable name file w ↔ (answerNumber (serviceRecord name file w .answer) ≡ 0)
@@ -119,15 +119,15 @@ module _ (c : CRecord) (n f : List ℕ) where
   abbrev j : Join
   j = joined (recordIn c) (serversIn c)
 
-  brought-writing : Writable c n f → writing (recordIn c) (serversIn c) n f ≡ writes (nameText j) (fileText j)
+  brought-writing : WritableBytes c n f → writing (recordIn c) (serversIn c) n f ≡ writes (nameText j) (fileText j)
   unfolding writing
   brought-writing w =
       rw (w .formed-is, w .placed, le-leb (length (nameText j)) (length n) (w .name-room), le-leb (length (fileText j)) (length f) (w .file-room))
 
-  writable-writes : Writable c n f → writingIn c n f ≡ writes (nameText j) (fileText j)
+  writable-writes : WritableBytes c n f → writingIn c n f ≡ writes (nameText j) (fileText j)
   writable-writes w = rw (w .codes) (brought-writing w)
 
-  written-writable : answerNumber (writtenAnswer (writingIn c n f) .answer) ≡ 0 → Writable c n f
+  written-writable : answerNumber (writtenAnswer (writingIn c n f) .answer) ≡ 0 → WritableBytes c n f
   unfolding writing
   written-writable =
       go (known c) refl (formed (recordIn c) (serversIn c)) refl (hasPlace (j .ipv4)) refl (room (nameText j) n) refl (room (fileText j) f) refl
@@ -135,7 +135,7 @@ module _ (c : CRecord) (n f : List ℕ) where
       go : (a : Bool) → known c ≡ a → (b : Bool) → formed (recordIn c) (serversIn c) ≡ b → (p : Bool) →
           hasPlace (j .ipv4) ≡ p → (x : Bool) → room (nameText j) n ≡ x → (y : Bool) → room (fileText j) f ≡ y →
           answerNumber (writtenAnswer (cond a (cond b (cond p (cond (x && y) (writes (nameText j) (fileText j)) (refuses ShortBuffer 0)) (refuses NoPlace 0)) (refuses Malformed 0)) (refuses Malformed 0)) .answer) ≡ 0 →
-          Writable c n f
+          WritableBytes c n f
       go true ea true eb true ep true ex true ey e =
           record { codes = ea; formed-is = eb; placed = ep; name-room = leb-true (length (nameText j)) (length n) ex; file-room = leb-true (length (fileText j)) (length f) ey }
       go true ea true eb true ep true ex false ey e = absurd (omega (arith, e))
@@ -144,7 +144,7 @@ module _ (c : CRecord) (n f : List ℕ) where
       go true ea false eb p ep x ex y ey e = absurd (omega (arith, e))
       go false ea b eb p ep x ex y ey e = absurd (omega (arith, e))
 
-  write-success : Writable c n f ↔ (answerNumber (writtenAnswer (writingIn c n f) .answer) ≡ 0)
+  write-success : WritableBytes c n f ↔ (answerNumber (writtenAnswer (writingIn c n f) .answer) ≡ 0)
   write-success =
       (λ w. ap (λ (v : Writing). answerNumber (writtenAnswer v .answer)) (writable-writes w), written-writable)
 
@@ -213,8 +213,8 @@ exported-write c n f arrays e =
     let h = brought-writing c n f w in
     record {
       back =
-          ap₂ Calls.iwdRecord p t
-          ∙ ap₂ recordAnswerAt (writing-record (recordIn c) (serversIn c) a n f h) (writing-servers (recordIn c) (serversIn c) a n f h noServers)
+          ap₂ Calls.iwdRecordOf p t
+          ∙ ap₂ recordAnswerAt (writing-record (recordIn c) (serversIn c) a n f h) (writing-servers (recordIn c) (serversIn c) a n f h lentServers)
           ∙ ap (λ (r : CRecord). record { line = 0; number = 0; «record» = r; reserved = replicate 1 0 }) (brought-back c (w .codes) (arrays .servers));
       behind = old-behind (writingIn c n f) n f;
     }
@@ -224,7 +224,7 @@ unfolding serviceRecord
 exported-move name file w n f e =
     let m = move-success name file w n f .1 e in
     let h = leaves name file w n f in
-    let same = ap₂ recordAnswerAt (M.record-kept m h) (M.servers-kept m h noServers) in
+    let same = ap₂ recordAnswerAt (M.record-kept m h) (M.servers-kept m h lentServers) in
     record {
       accepted = ap (λ (r : Reading). readingAt r .number) (M.demand-3 m h .accepted);
       joined = ap (λ (v : Joined). answerNumber (recordAnswer v .answer)) (M.movable-record m);

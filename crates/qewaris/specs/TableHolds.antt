@@ -46,13 +46,13 @@ use Rattle.joins.specs.Joins.{ipv4OrDhcp, iwdJoin, networkName, foreign, foreig
 use Rattle.names.specs.Names.{networkOf}
 use Rattle.mover.specs.Moves.{lineIf, lineGiven, unplaced, least, earliest, orUnplaced, orRefused, moving}
 use Rattle.qewaris.specs.Demands as D
-use Rattle.qewaris.specs.Demands.{Call, answerOf, serviceRows, serviceRecordRows, writerRows, moveRows, rowsOf, linesOf, Demand-1-table}
+use Rattle.qewaris.specs.Demands.{Call, answerOf, serviceRows, serviceRecordRows, writerRows, moveRows, callRows, callLines, Demand-1-table}
 
 -- ---- an answer and its rows
 
 -- the number and the line of an answer are those of a row
-abbrev pub Given : ℕ → List AnswerRow → Answer → Type 0
-Given k rs a = hasRow k rs (answerNumber a) (answerLine a) ≡ true
+abbrev pub InRows : ℕ → List AnswerRow → Answer → Type 0
+InRows k rs a = hasRow k rs (answerNumber a) (answerLine a) ≡ true
 
 either-true : (a b : Bool) → b ≡ true → a || b ≡ true
 either-true true b e = refl
@@ -60,7 +60,7 @@ either-true false b e = e
 
 -- good, or refused with a row of rs
 answer-given : (k : ℕ) (rs : List AnswerRow) (a : Answer) →
-    ((r : Refusal) (l : ℕ) → a ≡ Refused r l → hasRow k rs (numberOf r) l ≡ true) → Given k (bare 0 ∷ rs) a
+    ((r : Refusal) (l : ℕ) → a ≡ Refused r l → hasRow k rs (numberOf r) l ≡ true) → InRows k (bare 0 ∷ rs) a
 answer-given k rs Good h = refl
 answer-given k rs (Refused r l) h =
     either-true (isRow k (numberOf r) l (bare 0)) (hasRow k rs (numberOf r) l) (h r l refl)
@@ -72,22 +72,22 @@ asked-refused (R.Accepted n m) e = let z : _≡_ {A = ℕ} 0 1 = cc in absurd (o
 asked-refused (R.Refused q m) {r} {l} e = let a : q ≡ r = cc in let b : m ≡ l = cc in rw (a, b)
 
 pub asked-given : (d : Dialect) (name file : List ℕ) →
-    Given (length (lines file)) (bare 0 ∷ ownRows d) (asked (reading d name file))
+    InRows (length (lines file)) (bare 0 ∷ ownRows d) (asked (reading d name file))
 asked-given d name file =
     answer-given (length (lines file)) (ownRows d) (asked (reading d name file)) (λ r l e. reading-has-row d name file (asked-refused (reading d name file) e))
 
 -- ---- a service of it
 
 pub asked-service-given : (name file : List ℕ) (w : ℕ) →
-    Given (length (lines file)) serviceRows (askedOf w (reading ConnMan name file))
+    InRows (length (lines file)) serviceRows (askedOf w (reading ConnMan name file))
 asked-service-given name file w = go (reading ConnMan name file) (asked-given ConnMan name file)
   where
-    count : (b : Bool) → Given (length (lines file)) serviceRows (cond b Good (Refused NoService 0))
+    count : (b : Bool) → InRows (length (lines file)) serviceRows (cond b Good (Refused NoService 0))
     count true = refl
     count false = refl
 
-    go : (x : Reading) → Given (length (lines file)) (bare 0 ∷ ownRows ConnMan) (asked x) →
-        Given (length (lines file)) serviceRows (askedOf w x)
+    go : (x : Reading) → InRows (length (lines file)) (bare 0 ∷ ownRows ConnMan) (asked x) →
+        InRows (length (lines file)) serviceRows (askedOf w x)
     go (R.Accepted n m) h = count (between 1 m w)
     go (R.Refused r l) h = has-row-append (length (lines file)) (bare 0 ∷ ownRows ConnMan) (bare 18 ∷ []) (numberOf r) l h
 
@@ -175,34 +175,34 @@ module _ (file : List ℕ) where
 
 -- ---- records and files
 
-record-given : (k : ℕ) (a : Answer) (o : Option ℕ) (j : Join) → Given k serviceRows a →
+record-given : (k : ℕ) (a : Answer) (o : Option ℕ) (j : Join) → InRows k serviceRows a →
     IfSome (λ l. between 1 k l ≡ true) o →
-    Given k serviceRecordRows (recordAnswer (J.orRefused a (orNoPlace o j)) .answer)
+    InRows k serviceRecordRows (recordAnswer (J.orRefused a (orNoPlace o j)) .answer)
 record-given k Good none j h p = refl
 record-given k Good (some l) j h p = rw p
 record-given k (Refused r l) o j h p = has-row-append k serviceRows (lined 16 ∷ []) (numberOf r) l h
 
 room-given : (k : ℕ) (b : Bool) (x y : List ℕ) →
-    Given k moveRows (writtenAnswer (cond b (writes x y) (refuses ShortBuffer 0)) .answer)
+    InRows k moveRows (writtenAnswer (cond b (writes x y) (refuses ShortBuffer 0)) .answer)
 room-given k true x y = refl
 room-given k false x y = refl
 
-move-given : (k : ℕ) (a : Answer) (o : Option ℕ) (j : Join) (n f : List ℕ) → Given k serviceRows a →
+move-given : (k : ℕ) (a : Answer) (o : Option ℕ) (j : Join) (n f : List ℕ) → InRows k serviceRows a →
     IfSome (λ l. between 1 k l ≡ true) o →
-    Given k moveRows (writtenAnswer (orRefused a (orUnplaced o (writingOf j n f))) .answer)
+    InRows k moveRows (writtenAnswer (orRefused a (orUnplaced o (writingOf j n f))) .answer)
 move-given k Good none j n f h p = room-given k (room (nameText j) n && room (fileText j) f) (nameText j) (fileText j)
 move-given k Good (some l) j n f h p = rw p
 move-given k (Refused r l) o j n f h p =
     has-row-append k serviceRecordRows (bare 17 ∷ []) (numberOf r) l (has-row-append k serviceRows (lined 16 ∷ []) (numberOf r) l h)
 
 pub write-given : (r : JoinRecord) (s : List (List ℕ)) (n f : List ℕ) →
-    Given 0 writerRows (writtenAnswer (writing r s n f) .answer)
+    InRows 0 writerRows (writtenAnswer (writing r s n f) .answer)
 unfolding writing
 write-given r s n f =
     go (formed r s) (hasPlace (joined r s .ipv4)) (room (nameText (joined r s)) n && room (fileText (joined r s)) f) (nameText (joined r s)) (fileText (joined r s))
   where
     go : (a b c : Bool) (x y : List ℕ) →
-        Given 0 writerRows (writtenAnswer (cond a (cond b (cond c (writes x y) (refuses ShortBuffer 0)) (refuses NoPlace 0)) (refuses Malformed 0)) .answer)
+        InRows 0 writerRows (writtenAnswer (cond a (cond b (cond c (writes x y) (refuses ShortBuffer 0)) (refuses NoPlace 0)) (refuses Malformed 0)) .answer)
     go true true true x y = refl
     go true true false x y = refl
     go true false c x y = refl

@@ -16,6 +16,6 @@ pub record Checks (d : Dialect) (name file : List ℕ) (r : Reading) : Type 0 wh
   pub seen : seenOf r ≡ seenOf (reading d name file)
 
 -- the answer a to a call has the number and the line of what the call is answered
-pub record Tells (c : Call) (a : Answer) : Type 0 where
+pub record TellsAnswer (c : Call) (a : Answer) : Type 0 where
   pub number : answerNumber a ≡ answerNumber (answerOf c)
   pub line : answerLine a ≡ answerLine (answerOf c)

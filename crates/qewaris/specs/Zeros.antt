@@ -19,8 +19,8 @@ zeroText n l = record { line = l; start = 0; length = 0; number = n; reserved = 
 abbrev pub zeroWritten : ℕ → ℕ → CWritten
 zeroWritten n l = record { line = l; «name_len» = 0; «file_len» = 0; number = n; reserved = replicate 7 0 }
 
-abbrev zeroRecord : CRecord
-zeroRecord =
+abbrev zeroCRecord : CRecord
+zeroCRecord =
     record {
       «name_len» = 0;
       name = replicate 32 0;
@@ -42,7 +42,7 @@ zeroRecord =
     }
 
 abbrev pub zeroAnswer : ℕ → ℕ → CRecordAnswer
-zeroAnswer n l = record { line = l; number = n; «record» = zeroRecord; reserved = replicate 1 0 }
+zeroAnswer n l = record { line = l; number = n; «record» = zeroCRecord; reserved = replicate 1 0 }
 
 abbrev pub zeroIwd : ℕ → ℕ → CIwdSettings
 zeroIwd n l =
@@ -83,8 +83,8 @@ zeroIwd n l =
           };
     }
 
-abbrev zeroEntries : CEntries
-zeroEntries = record { count = 0; start = replicate 4 0; length = replicate 4 0 }
+abbrev zeroCEntries : CEntries
+zeroCEntries = record { count = 0; start = replicate 4 0; length = replicate 4 0 }
 
 abbrev pub zeroService : ℕ → ℕ → CServiceSettings
 zeroService n l =
@@ -106,8 +106,8 @@ zeroService n l =
       addresses =
           record {
             «domain_line» = 0;
-            «search_domains» = zeroEntries;
-            timeservers = zeroEntries;
+            «search_domains» = zeroCEntries;
+            timeservers = zeroCEntries;
             «nameserver_count» = 0;
             nameservers = replicate 16 0;
             ipv4 = 0;

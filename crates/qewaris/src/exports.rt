@@ -4,7 +4,7 @@
 // for C. None has a `requires`; a record that is brought in with a code that there is not is refused with 19.
 ghost use mathlib.Core.Path.{_≡_};
 ghost use Rattle.boundary.specs.Answers.{Leaves};
-ghost use Rattle.qewaris.specs.Calls.{checkIwd, checkConnman, iwdSettingsOf, serviceSettingsOf, iwdPassphrase, iwdDomainName, globalName, globalDescription, serviceName, servicePassphrase, serviceDomain, iwdRecord, serviceRecord, writeIwd, moveService};
+ghost use Rattle.qewaris.specs.Calls.{checkIwd, checkConnman, iwdSettingsOf, serviceSettingsOf, iwdPassphrase, iwdDomainName, globalName, globalDescription, serviceName, servicePassphrase, serviceDomain, iwdRecordOf, serviceRecordOf, writeIwd, moveService};
 use boundary::CIwdSettings;
 use boundary::CReading;
 use boundary::CRecord;
@@ -106,7 +106,7 @@ pub extern "C" fn qewaris_service_domain(name: &[u8], file: &[u8], service: usiz
 
 #[no_mangle]
 pub extern "C" fn qewaris_iwd_record(name: &[u8], file: &[u8]) -> CRecordAnswer
-    ensures { λ r. ⌜ r ≡ iwdRecord (now (name .entry)) (now (file .entry)) ⌝ }
+    ensures { λ r. ⌜ r ≡ iwdRecordOf (now (name .entry)) (now (file .entry)) ⌝ }
 {
     let mut servers = [[0; 4]; 4];
     let answer = crate::joined::iwd_record(name, file, &mut servers);
@@ -115,7 +115,7 @@ pub extern "C" fn qewaris_iwd_record(name: &[u8], file: &[u8]) -> CRecordAnswer
 
 #[no_mangle]
 pub extern "C" fn qewaris_service_record(name: &[u8], file: &[u8], service: usize) -> CRecordAnswer
-    ensures { λ r. ⌜ r ≡ serviceRecord (now (name .entry)) (now (file .entry)) service ⌝ }
+    ensures { λ r. ⌜ r ≡ serviceRecordOf (now (name .entry)) (now (file .entry)) service ⌝ }
 {
     let mut servers = [[0; 4]; 4];
     let answer = crate::joined::service_record(name, file, service, &mut servers);

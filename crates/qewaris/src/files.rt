@@ -2,7 +2,7 @@
 ghost use Rattle.writer.specs.Writing.{writing, Writes};
 ghost use Rattle.mover.specs.Demand.{Moves};
 ghost use Rattle.qewaris.specs.Demands as Call;
-ghost use Rattle.qewaris.specs.Telling.{Tells};
+ghost use Rattle.qewaris.specs.Telling.{TellsAnswer};
 use records::JoinRecord;
 use writer::Written;
 
@@ -11,7 +11,7 @@ use writer::Written;
 // buffers as they were.
 pub fn write_iwd(r: JoinRecord, servers: [[u8; 4]; 4], name: &mut [u8], file: &mut [u8]) -> Written
     ensures { λ a. ⌜ Writes (writing r servers (now (name .entry)) (now (file .entry))) (now (name .entry)) (now (file .entry)) (now (name .exit)) (now (file .exit)) a ⌝ }
-    ensures { λ a. ⌜ Tells (Call.write r servers (now (name .entry)) (now (file .entry))) (a .answer) ⌝ }
+    ensures { λ a. ⌜ TellsAnswer (Call.write r servers (now (name .entry)) (now (file .entry))) (a .answer) ⌝ }
 {
     writer::write_iwd(r, servers, name, file)
 }
@@ -28,7 +28,7 @@ pub fn move_service(
     file_out: &mut [u8],
 ) -> Written
     ensures { λ a. ⌜ Moves (now (name .entry)) (now (file .entry)) service (now («name_out» .entry)) (now («file_out» .entry)) (now («name_out» .exit)) (now («file_out» .exit)) a ⌝ }
-    ensures { λ a. ⌜ Tells (Call.move (now (name .entry)) (now (file .entry)) service (now («name_out» .entry)) (now («file_out» .entry))) (a .answer) ⌝ }
+    ensures { λ a. ⌜ TellsAnswer (Call.move (now (name .entry)) (now (file .entry)) service (now («name_out» .entry)) (now («file_out» .entry))) (a .answer) ⌝ }
 {
     mover::move_service(name, file, service, name_out, file_out)
 }

@@ -2,7 +2,7 @@
 ghost use mathlib.Core.Path.{_≡_};
 ghost use Rattle.joins.specs.Joins.{iwdRecord, iwdRecordServers, serviceRecord, serviceRecordServers};
 ghost use Rattle.qewaris.specs.Demands as Call;
-ghost use Rattle.qewaris.specs.Telling.{Tells};
+ghost use Rattle.qewaris.specs.Telling.{TellsAnswer};
 use joins::RecordAnswer;
 
 // The join record of an iwd file, and its name servers in the lent array. A refusal gives a record that is all zero and
@@ -10,7 +10,7 @@ use joins::RecordAnswer;
 pub fn iwd_record(name: &[u8], file: &[u8], servers: &mut [[u8; 4]; 4]) -> RecordAnswer
     ensures { λ r. ⌜ r ≡ iwdRecord (now (name .entry)) (now (file .entry)) ⌝ }
     ensures { λ r. ⌜ now (servers .exit) ≡ iwdRecordServers (now (name .entry)) (now (file .entry)) (now (servers .entry)) ⌝ }
-    ensures { λ r. ⌜ Tells (Call.iwd-record (now (name .entry)) (now (file .entry)) (now (servers .entry))) (r .answer) ⌝ }
+    ensures { λ r. ⌜ TellsAnswer (Call.iwd-record (now (name .entry)) (now (file .entry)) (now (servers .entry))) (r .answer) ⌝ }
 {
     joins::iwd_record(name, file, servers)
 }
@@ -25,7 +25,7 @@ pub fn service_record(
 ) -> RecordAnswer
     ensures { λ r. ⌜ r ≡ serviceRecord (now (name .entry)) (now (file .entry)) service ⌝ }
     ensures { λ r. ⌜ now (servers .exit) ≡ serviceRecordServers (now (name .entry)) (now (file .entry)) service (now (servers .entry)) ⌝ }
-    ensures { λ r. ⌜ Tells (Call.service-record (now (name .entry)) (now (file .entry)) service (now (servers .entry))) (r .answer) ⌝ }
+    ensures { λ r. ⌜ TellsAnswer (Call.service-record (now (name .entry)) (now (file .entry)) service (now (servers .entry))) (r .answer) ⌝ }
 {
     joins::service_record(name, file, service, servers)
 }

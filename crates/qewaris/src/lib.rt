@@ -11,10 +11,8 @@ pub mod strings;
 pub mod typed;
 pub mod version;
 
-ghost use mathlib.Core.Path.{_≡_};
-ghost use Rattle.records.specs.Formed.{formed};
 ghost use Rattle.qewaris.specs.Telling.{Checks};
-use records::JoinRecord;
+pub use records::is_well_formed;
 use rules::Reading;
 use text::Dialect;
 
@@ -25,11 +23,4 @@ pub fn check(d: Dialect, name: &[u8], file: &[u8]) -> Reading
 {
     let mut places = [0; 976];
     pass::read(d, name, file, &mut places)
-}
-
-// Whether a join record and its name servers are well formed.
-pub fn is_well_formed(r: JoinRecord, servers: [[u8; 4]; 4]) -> bool
-    ensures { λ a. ⌜ a ≡ formed r servers ⌝ }
-{
-    records::is_well_formed(r, servers)
 }

@@ -1,88 +1,12 @@
-// The string lookups: the value of a string setting as the part of the lent file where it stands, still escaped.
+// The string lookups: the value of a string setting as the part of the lent file where it stands, still escaped. They are those of
+// crate `lookups`, with its contracts.
 //
 // `number` and `line` are result fields, set on every answer: document 01's number, and the line of the refusal or of the
 // setting, 0 where it is absent. A refusal and an absent setting hand back the empty part.
-ghost use Rattle.text.specs.Words.{word};
-ghost use Rattle.lookups.specs.Lookups.{iwdLookup, globalLookup, serviceLookup, Hands};
-
-// Passphrase of an iwd file.
-pub fn iwd_passphrase<'a>(
-    name: &[u8],
-    file: &'a [u8],
-    number: &mut u8,
-    line: &mut usize,
-) -> &'a [u8]
-    ensures { λ r. ⌜ Hands (now (file .entry)) (iwdLookup (word "Security") (word "Passphrase") (now (name .entry)) (now (file .entry))) (now (number .exit)) (now (line .exit)) (now r) ⌝ }
-{
-    lookups::iwd_passphrase(name, file, number, line)
-}
-
-// DomainName of an iwd file.
-pub fn iwd_domain_name<'a>(
-    name: &[u8],
-    file: &'a [u8],
-    number: &mut u8,
-    line: &mut usize,
-) -> &'a [u8]
-    ensures { λ r. ⌜ Hands (now (file .entry)) (iwdLookup (word "IPv4") (word "DomainName") (now (name .entry)) (now (file .entry))) (now (number .exit)) (now (line .exit)) (now r) ⌝ }
-{
-    lookups::iwd_domain_name(name, file, number, line)
-}
-
-// Name of `global` of a ConnMan file.
-pub fn global_name<'a>(name: &[u8], file: &'a [u8], number: &mut u8, line: &mut usize) -> &'a [u8]
-    ensures { λ r. ⌜ Hands (now (file .entry)) (globalLookup (word "Name") (now (name .entry)) (now (file .entry))) (now (number .exit)) (now (line .exit)) (now r) ⌝ }
-{
-    lookups::global_name(name, file, number, line)
-}
-
-// Description of `global` of a ConnMan file.
-pub fn global_description<'a>(
-    name: &[u8],
-    file: &'a [u8],
-    number: &mut u8,
-    line: &mut usize,
-) -> &'a [u8]
-    ensures { λ r. ⌜ Hands (now (file .entry)) (globalLookup (word "Description") (now (name .entry)) (now (file .entry))) (now (number .exit)) (now (line .exit)) (now r) ⌝ }
-{
-    lookups::global_description(name, file, number, line)
-}
-
-// Name of a service of a ConnMan file, by its number, from 1.
-pub fn service_name<'a>(
-    name: &[u8],
-    file: &'a [u8],
-    service: usize,
-    number: &mut u8,
-    line: &mut usize,
-) -> &'a [u8]
-    ensures { λ r. ⌜ Hands (now (file .entry)) (serviceLookup service (word "Name") (now (name .entry)) (now (file .entry))) (now (number .exit)) (now (line .exit)) (now r) ⌝ }
-{
-    lookups::service_name(name, file, service, number, line)
-}
-
-// Passphrase of a service of a ConnMan file, by its number, from 1.
-pub fn service_passphrase<'a>(
-    name: &[u8],
-    file: &'a [u8],
-    service: usize,
-    number: &mut u8,
-    line: &mut usize,
-) -> &'a [u8]
-    ensures { λ r. ⌜ Hands (now (file .entry)) (serviceLookup service (word "Passphrase") (now (name .entry)) (now (file .entry))) (now (number .exit)) (now (line .exit)) (now r) ⌝ }
-{
-    lookups::service_passphrase(name, file, service, number, line)
-}
-
-// Domain of a service of a ConnMan file, by its number, from 1.
-pub fn service_domain<'a>(
-    name: &[u8],
-    file: &'a [u8],
-    service: usize,
-    number: &mut u8,
-    line: &mut usize,
-) -> &'a [u8]
-    ensures { λ r. ⌜ Hands (now (file .entry)) (serviceLookup service (word "Domain") (now (name .entry)) (now (file .entry))) (now (number .exit)) (now (line .exit)) (now r) ⌝ }
-{
-    lookups::service_domain(name, file, service, number, line)
-}
+pub use lookups::global_description;
+pub use lookups::global_name;
+pub use lookups::iwd_domain_name;
+pub use lookups::iwd_passphrase;
+pub use lookups::service_domain;
+pub use lookups::service_name;
+pub use lookups::service_passphrase;

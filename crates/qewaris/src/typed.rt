@@ -2,7 +2,7 @@
 ghost use mathlib.Core.Path.{_≡_};
 ghost use Rattle.settings.specs.Asked.{iwdAnswered, iwdServersAfter, serviceAnswered, serviceServersAfter};
 ghost use Rattle.qewaris.specs.Demands as Call;
-ghost use Rattle.qewaris.specs.Telling.{Tells};
+ghost use Rattle.qewaris.specs.Telling.{TellsAnswer};
 use settings::IwdAnswer;
 use settings::ServiceAnswer;
 
@@ -11,7 +11,7 @@ use settings::ServiceAnswer;
 pub fn iwd_settings(name: &[u8], file: &[u8], servers: &mut [[u8; 4]; 4]) -> IwdAnswer
     ensures { λ r. ⌜ r ≡ iwdAnswered (now (name .entry)) (now (file .entry)) ⌝ }
     ensures { λ r. ⌜ now (servers .exit) ≡ iwdServersAfter (now (name .entry)) (now (file .entry)) (now (servers .entry)) ⌝ }
-    ensures { λ r. ⌜ Tells (Call.iwd-settings (now (name .entry)) (now (file .entry)) (now (servers .entry))) (r .answer) ⌝ }
+    ensures { λ r. ⌜ TellsAnswer (Call.iwd-settings (now (name .entry)) (now (file .entry)) (now (servers .entry))) (r .answer) ⌝ }
 {
     settings::iwd::iwd_settings(name, file, servers)
 }
@@ -26,7 +26,7 @@ pub fn service_settings(
 ) -> ServiceAnswer
     ensures { λ r. ⌜ r ≡ serviceAnswered (now (name .entry)) (now (file .entry)) service ⌝ }
     ensures { λ r. ⌜ now (servers .exit) ≡ serviceServersAfter (now (name .entry)) (now (file .entry)) service (now (servers .entry)) ⌝ }
-    ensures { λ r. ⌜ Tells (Call.service-settings (now (name .entry)) (now (file .entry)) service (now (servers .entry))) (r .answer) ⌝ }
+    ensures { λ r. ⌜ TellsAnswer (Call.service-settings (now (name .entry)) (now (file .entry)) service (now (servers .entry))) (r .answer) ⌝ }
 {
     settings::services::service_settings(name, file, service, servers)
 }

@@ -9,11 +9,11 @@ use Rattle.rules.specs.Reading.{reading}
 use Rattle.rules.specs.declared.Reading.{Reading}
 use Rattle.intake.specs.declared.Form.{Form}
 use Rattle.intake.specs.Forms.{complete}
-use Rattle.intake.specs.Input.{firstLine, behind}
+use Rattle.intake.specs.Input.{firstLine, behindLine}
 
 -- "a first line with the file name, then the file"
-abbrev pub answerTo : List ℕ → Reading
-answerTo i = reading (dialectOf (firstLine i)) (firstLine i) (behind i)
+abbrev pub checkedInput : List ℕ → Reading
+checkedInput i = reading (dialectOf (firstLine i)) (firstLine i) (behindLine i)
 
 -- what is asked for a long name line: one name where it is complete, no name where it is not
 abbrev pub longAnswer : Form → List ℕ → Reading

@@ -4,51 +4,29 @@
 // length. Where reading fails nothing is written: no file is judged that was cut off.
 ghost use mathlib.Core.Path.{_≡_};
 ghost use mathlib.Core.List.{List};
-ghost use Prim.Native.Nat.{ℕ, _<_};
+ghost use Prim.Native.Nat.{ℕ, _≤_};
 ghost use lib.ListN.{length};
 ghost use Rattle.names.specs.Dialects.{dialectOf};
 ghost use Rattle.rules.specs.Reading.{reading};
-ghost use Rattle.intake.specs.Input.{Keeps, Held};
-ghost use Rattle.qewaris_check.specs.Answers.{answerTo, longAnswer};
+ghost use Rattle.intake.specs.Input.{KeepsFile};
+ghost use Rattle.qewaris_check.specs.Answers.{checkedInput, longAnswer};
+use intake::FileBuffer;
 use intake::Form;
-use intake::Kept;
+use intake::NameBuffer;
+use intake::NamedFile;
 use intake::forms;
-use intake::keeping;
-use libc::STDIN_FILENO;
-use libc::STDOUT_FILENO;
+use intake::streams;
 use rules::Reading;
 use text::Dialect;
-
-// How reading went, and what is kept.
-struct Input {
-    whole: bool,
-    kept: Kept,
-}
-
-fn say(s: &[u8]) {
-    io::write_all(STDOUT_FILENO, s);
-}
-
-fn say_number(n: usize) {
-    io::print_decimal(STDOUT_FILENO, n as u64);
-}
-
-fn say_refused(number: u8, line: usize) {
-    say(b"refused ");
-    say_number(number as usize);
-    say(b" ");
-    say_number(line);
-    say(b"\n");
-}
 
 fn say_reading(r: Reading) {
     match r {
         Reading::Accepted(settings, _) => {
-            say(b"accepted ");
-            say_number(settings);
-            say(b"\n");
+            streams::say(b"accepted ");
+            streams::say_number(settings);
+            streams::say(b"\n");
         }
-        Reading::Refused(refusal, line) => say_refused(tables::numbers::number_of(refusal), line),
+        Reading::Refused(refusal, line) => streams::say_refused(refusal, line),
     }
 }
 
@@ -71,11 +49,12 @@ fn check_long(form: Form, file: &[u8]) -> Reading
 
 // What the kept input answers. A full buffer of the name is a name line that is longer than any good iwd name, and a full
 // buffer of the file is a file that is too long.
-fn check_kept(k: Kept, name: &[u8], file: &[u8]) -> Reading
-    requires { ⌜ Held (now name) (now file) k ⌝ }
-    requires { ⌜ (70 < length (now name)) × (16384 < length (now file)) ⌝ }
-    ensures { λ r. ⌜ ((i : List ℕ) → Keeps i (now (name .entry)) (now (file .entry)) k → r ≡ answerTo i) ⌝ }
+fn check_kept(k: NamedFile, name: &NameBuffer, file: &FileBuffer) -> Reading
+    requires { ⌜ (k .name ≤ length (now name)) × (k .file ≤ length (now file)) ⌝ }
+    ensures { λ r. ⌜ ((i : List ℕ) → KeepsFile i (now (name .entry)) (now (file .entry)) k → r ≡ checkedInput i) ⌝ }
 {
+    let name = &name[..];
+    let file = &file[..];
     let n = k.name;
     let form = k.form;
     let size = k.file;
@@ -85,39 +64,14 @@ fn check_kept(k: Kept, name: &[u8], file: &[u8]) -> Reading
     check_name(&name[0..n], &file[0..size])
 }
 
-// Reads the input into the two buffers, as far as it is asked for: up to its end, or until the file is too long. The number
-// of reads is bounded, so that the loop ends, by more than any input has.
-fn read_input(name: &mut [u8], file: &mut [u8]) -> Input
-    ensures { λ r. ⌜ length (now (name .exit)) ≡ length (now (name .entry)) ⌝ }
-    ensures { λ r. ⌜ length (now (file .exit)) ≡ length (now (file .entry)) ⌝ }
-    ensures { λ r. ⌜ Held (now (name .exit)) (now (file .exit)) (r .kept) ⌝ }
-{
-    let mut buf = io::large_buffer();
-    let mut kept = keeping::nothing();
-    let mut left: u64 = 18446744073709551615;
-    while 0 < left {
-        let got = libc::read(STDIN_FILENO, &mut buf);
-        if got < 0 {
-            return Input { whole: false, kept };
-        }
-        let n = io::count(got, &buf);
-        if n == 0 {
-            return Input { whole: true, kept };
-        }
-        kept = keeping::take(name, file, kept, &buf[0..n]);
-        if kept.file == file.len() {
-            return Input { whole: true, kept };
-        }
-        left -= 1;
-    }
-    Input { whole: false, kept }
-}
-
 fn main() {
+    let mut number = [0u8; 4];
     let mut name = [0u8; 129];
     let mut file = [0u8; 16385];
-    let input = read_input(&mut name, &mut file);
+    let input = streams::read_input(&mut number, &mut name, &mut file, false);
     if input.whole {
-        say_reading(check_kept(input.kept, &name, &file));
+        let kept = input.kept;
+        let rest = kept.rest;
+        say_reading(check_kept(rest, &name, &file));
     }
 }

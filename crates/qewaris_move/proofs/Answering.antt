@@ -13,33 +13,32 @@ use Rattle.mover.specs.Moves.{moving}
 use Rattle.intake.specs.declared.Form.{Form}
 use Rattle.intake.specs.declared.Form.the-variants.{Empty}
 use Rattle.intake.specs.Forms.{formFrom, complete}
-use Rattle.intake.specs.Input.{firstLine, behind}
-use Rattle.intake.specs.Enough.{parted-first, parted-behind}
+use Rattle.intake.specs.declared.Input.{Input}
+use Rattle.intake.specs.Input.{firstLine, behindLine, KeepsInput, SomeInput}
+use Rattle.intake.specs.Enough.{number-front, parted-first, parted-behind}
 use Rattle.intake.proofs.Fronts.{front-part}
-use Rattle.qewaris_move.specs.declared.Numbered.{Numbered}
-use Rattle.qewaris_move.specs.Number.{serviceNumber}
-use Rattle.qewaris_move.specs.Answers.{answerTo}
-use Rattle.qewaris_move.specs.Input.{Keeps, Held}
-use Rattle.qewaris_move.specs.Enough.{number-front, moving-front, moving-complete, moving-incomplete}
+use Rattle.intake.specs.Number.{serviceNumber}
+use Rattle.qewaris_move.specs.Answers.{movedInput}
+use Rattle.qewaris_move.specs.Enough.{moving-front, moving-complete, moving-incomplete}
 
-module _ (i : List ℕ) {number name file : List ℕ} {k : Numbered} (h : Keeps i number name file k) where
+module _ (i : List ℕ) {number name file : List ℕ} {k : Input} (h : KeepsInput i number name file k) where
   kept-number : 3 < length number → serviceNumber (part 0 (k .number) number) ≡ serviceNumber (firstLine i)
   kept-number l = ap serviceNumber (front-part (h .numbered)) ∙ number-front (h .line) (length number) l ∙ ap serviceNumber (parted-first (k .ended) (h .parted))
 
-  kept-line : h .kept .line ≡ firstLine (behind i)
+  kept-line : h .kept .line ≡ firstLine (behindLine i)
   kept-line = parted-first (k .rest .ended) (h .kept .parted) ∙ ap firstLine (parted-behind (k .ended) (h .parted))
 
-  kept-rest : h .kept .rest ≡ behind (behind i)
-  kept-rest = parted-behind (k .rest .ended) (h .kept .parted) ∙ ap behind (parted-behind (k .ended) (h .parted))
+  kept-rest : h .kept .rest ≡ behindLine (behindLine i)
+  kept-rest = parted-behind (k .rest .ended) (h .kept .parted) ∙ ap behindLine (parted-behind (k .ended) (h .parted))
 
-  kept-answer : (n f : List ℕ) {w : ℕ} → 3 < length number → 16384 < length file → w ≡ serviceNumber (part 0 (k .number) number) → moving (h .kept .line) (part 0 (k .rest .file) file) w n f ≡ answerTo i n f
+  kept-answer : (n f : List ℕ) {w : ℕ} → 3 < length number → 16384 < length file → w ≡ serviceNumber (part 0 (k .number) number) → moving (h .kept .line) (part 0 (k .rest .file) file) w n f ≡ movedInput i n f
   kept-answer n f {w} l m e =
       ap (λ (t : List ℕ). moving (h .kept .line) t w n f) (front-part (h .kept .filed))
       ∙ moving-front w n f (h .kept .line) (h .kept .rest) (length file) m
       ∙ ap₂ (λ (a b : List ℕ). moving a b w n f) kept-line kept-rest
-      ∙ ap (λ (v : ℕ). moving (firstLine (behind i)) (behind (behind i)) v n f) (e ∙ kept-number l)
+      ∙ ap (λ (v : ℕ). moving (firstLine (behindLine i)) (behindLine (behindLine i)) v n f) (e ∙ kept-number l)
 
-  pub kept-moved : {w : ℕ} → 3 < length number → 16384 < length file → w ≡ serviceNumber (part 0 (k .number) number) → {n f x y : List ℕ} {a : Written} → ((line : List ℕ) → k .rest .form ≡ formFrom Empty line → Writes (moving line (part 0 (k .rest .file) file) w n f) n f x y a) → Writes (answerTo i n f) n f x y a
+  pub kept-moved : {w : ℕ} → 3 < length number → 16384 < length file → w ≡ serviceNumber (part 0 (k .number) number) → {n f x y : List ℕ} {a : Written} → ((line : List ℕ) → k .rest .form ≡ formFrom Empty line → Writes (moving line (part 0 (k .rest .file) file) w n f) n f x y a) → Writes (movedInput i n f) n f x y a
   kept-moved l m e {n} {f} {x} {y} {a} g = subst (λ (v : Writing). Writes v n f x y a) (kept-answer n f l m e) (g (h .kept .line) (h .kept .formed))
 
 -- ---- what is asked by the form of the name line
@@ -56,5 +55,5 @@ written-within : (v : Writing) {n f x y : List ℕ} {a : Written} → Writes v n
 written-within (writes p q) {n} {f} w = rw (w .answer, w .name, w .file) (omega (arith, length-append p (drop (length p) n)), omega (arith, length-append q (drop (length q) f)))
 written-within (refuses r l) w = rw (w .answer) (omega arith, omega arith)
 
-pub held-written : {number name file : List ℕ} {k : Numbered} → Held number name file k → {n f x y : List ℕ} {a : Written} → ((i : List ℕ) (m : List ℕ) → Keeps i number m file k → Writes (answerTo i n f) n f x y a) → (a .«name_len» ≤ length x) × (a .«file_len» ≤ length y)
-held-written {number} {name} h {n} {f} g = written-within (answerTo (h .input) n f) (g (h .input) name (h .keeps))
+pub input-written : {number name file : List ℕ} {k : Input} → SomeInput number name file k → {n f x y : List ℕ} {a : Written} → ((i : List ℕ) (m : List ℕ) → KeepsInput i number m file k → Writes (movedInput i n f) n f x y a) → (a .«name_len» ≤ length x) × (a .«file_len» ≤ length y)
+input-written {number} {name} h {n} {f} g = written-within (movedInput (h .input) n f) (g (h .input) name (h .keeps))

@@ -23,23 +23,6 @@ use Rattle.intake.specs.Forms.{formFrom, complete}
 use Rattle.intake.specs.Laws.{form-connman}
 use Rattle.rules.specs.Acceptance.{reading-large}
 use Rattle.intake.specs.Enough.{reading-name}
-use mathlib.Core.Option.{Option}
-use Rattle.text.specs.Options.{andThen}
-use Rattle.text.specs.OptionLaws.{unsized}
-use Rattle.qewaris_move.specs.Number.{orZero, serviceNumber}
-
--- four bytes of a number line already count as 0, whatever follows
-pub number-long : (s : List ℕ) → 3 < length s → serviceNumber s ≡ 0
-number-long s h = ap (λ (o : Option (List ℕ)). orZero (andThen o (decimalValue 0))) (unsized 1 3 s (λ z. omega (arith, z .most)))
-
-pub number-front : (s : List ℕ) (m : ℕ) → 3 < m → serviceNumber (take m s) ≡ serviceNumber s
-number-front s m h = go (leb (length s) m) refl
-  where
-    go : (b : Bool) → leb (length s) m ≡ b → serviceNumber (take m s) ≡ serviceNumber s
-    go true e = ap serviceNumber (take-all m s (leb-true (length s) m e))
-    go false e =
-        let k : m < length s = leb-false (length s) m e in
-        number-long (take m s) (omega (arith, length-take m s)) ∙ sym (number-long s (omega arith))
 
 module _ (w : ℕ) (n f : List ℕ) where
   -- a name counts only by the reading

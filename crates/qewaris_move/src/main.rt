@@ -3,69 +3,42 @@
 //
 // The line is `refused` with the number and the line. Each part of the input may have any length. Where reading fails nothing
 // is written: no file is judged that was cut off.
-mod numbers;
-mod taking;
-
 ghost use mathlib.Core.List.{List};
+ghost use Prim.Native.Nat.{ℕ, _≤_};
 ghost use mathlib.Core.Path.{_≡_};
-ghost use Prim.Native.Nat.{ℕ, _≤_, _<_};
 ghost use lib.ListN.{length};
 ghost use Rattle.writer.specs.Writing.{Writes};
 ghost use Rattle.mover.specs.Moves.{moving};
 ghost use Rattle.intake.specs.declared.Form.the-variants.{Empty};
 ghost use Rattle.intake.specs.Forms.{formFrom};
-ghost use Rattle.qewaris_move.specs.Answers.{answerTo};
-ghost use Rattle.qewaris_move.specs.Input.{Keeps, Held};
+ghost use Rattle.intake.specs.Input.{KeepsInput};
+ghost use Rattle.qewaris_move.specs.Answers.{movedInput};
+use intake::FileBuffer;
 use intake::Form;
-use intake::Kept;
+use intake::Input;
+use intake::NumberBuffer;
 use intake::forms;
-use libc::STDIN_FILENO;
-use libc::STDOUT_FILENO;
+use intake::numbers;
+use intake::streams;
 use rules::Answer;
 use writer::Written;
 
-// How much of the input is kept: whether the number line has ended, its bytes, and what is kept of the rest.
-struct Numbered {
-    ended: bool,
-    number: usize,
-    rest: Kept,
-}
+// Room for the longest name and the longest file that a move writes.
+type NewName = [u8; 70];
 
-// How reading went, and what is kept.
-struct Input {
-    whole: bool,
-    kept: Numbered,
-}
+type NewFile = [u8; 858];
 
-fn say(s: &[u8]) {
-    io::write_all(STDOUT_FILENO, s);
-}
-
-fn say_number(n: usize) {
-    io::print_decimal(STDOUT_FILENO, n as u64);
-}
-
-fn say_refused(number: u8, line: usize) {
-    say(b"refused ");
-    say_number(number as usize);
-    say(b" ");
-    say_number(line);
-    say(b"\n");
-}
-
-fn say_written(w: Written, name: &[u8], file: &[u8])
+fn say_written(w: Written, name: &NewName, file: &NewFile)
     requires { ⌜ (w .«name_len» ≤ length (now name)) × (w .«file_len» ≤ length (now file)) ⌝ }
 {
+    let name = &name[..];
+    let file = &file[..];
     let answer = w.answer;
     let name_len = w.name_len;
     let file_len = w.file_len;
     match answer {
-        Answer::Good => {
-            say(&name[0..name_len]);
-            say(b"\n");
-            say(&file[0..file_len]);
-        }
-        Answer::Refused(refusal, line) => say_refused(tables::numbers::number_of(refusal), line),
+        Answer::Good => streams::say_file(&name[0..name_len], &file[0..file_len]),
+        Answer::Refused(refusal, line) => streams::say_refused(refusal, line),
     }
 }
 
@@ -74,8 +47,8 @@ fn move_named(
     form: Form,
     file: &[u8],
     service: usize,
-    name_out: &mut [u8],
-    file_out: &mut [u8],
+    name_out: &mut NewName,
+    file_out: &mut NewFile,
 ) -> Written
     ensures { λ a. ⌜ ((line : List ℕ) → form ≡ formFrom Empty line → Writes (moving line (now (file .entry)) service (now («name_out» .entry)) (now («file_out» .entry))) (now («name_out» .entry)) (now («file_out» .entry)) (now («name_out» .exit)) (now («file_out» .exit)) a) ⌝ }
 {
@@ -88,16 +61,17 @@ fn move_named(
 // Moves what the kept input asks for. A full buffer of the number is a line with more than three digits, a full buffer of the
 // file is a file that is too long, and of the name line only the form counts.
 fn move_kept(
-    k: Numbered,
-    number: &[u8],
-    file: &[u8],
-    name_out: &mut [u8],
-    file_out: &mut [u8],
+    k: Input,
+    number: &NumberBuffer,
+    file: &FileBuffer,
+    name_out: &mut NewName,
+    file_out: &mut NewFile,
 ) -> Written
     requires { ⌜ (k .number ≤ length (now number)) × (k .rest .file ≤ length (now file)) ⌝ }
-    requires { ⌜ (3 < length (now number)) × (16384 < length (now file)) ⌝ }
-    ensures { λ a. ⌜ ((i : List ℕ) (name : List ℕ) → Keeps i (now (number .entry)) name (now (file .entry)) k → Writes (answerTo i (now («name_out» .entry)) (now («file_out» .entry))) (now («name_out» .entry)) (now («file_out» .entry)) (now («name_out» .exit)) (now («file_out» .exit)) a) ⌝ }
+    ensures { λ a. ⌜ ((i : List ℕ) (name : List ℕ) → KeepsInput i (now (number .entry)) name (now (file .entry)) k → Writes (movedInput i (now («name_out» .entry)) (now («file_out» .entry))) (now («name_out» .entry)) (now («file_out» .entry)) (now («name_out» .exit)) (now («file_out» .exit)) a) ⌝ }
 {
+    let number = &number[..];
+    let file = &file[..];
     let digits = k.number;
     let rest = k.rest;
     let form = rest.form;
@@ -106,39 +80,11 @@ fn move_kept(
     move_named(form, &file[0..size], service, name_out, file_out)
 }
 
-// Reads the input into the three buffers, as far as it is asked for: up to its end, or until the file is too long. The number
-// of reads is bounded, so that the loop ends, by more than any input has.
-fn read_input(number: &mut [u8], name: &mut [u8], file: &mut [u8]) -> Input
-    ensures { λ r. ⌜ length (now (number .exit)) ≡ length (now (number .entry)) ⌝ }
-    ensures { λ r. ⌜ length (now (file .exit)) ≡ length (now (file .entry)) ⌝ }
-    ensures { λ r. ⌜ Held (now (number .exit)) (now (name .exit)) (now (file .exit)) (r .kept) ⌝ }
-{
-    let mut buf = io::large_buffer();
-    let mut kept = taking::nothing();
-    let mut left: u64 = 18446744073709551615;
-    while 0 < left {
-        let got = libc::read(STDIN_FILENO, &mut buf);
-        if got < 0 {
-            return Input { whole: false, kept };
-        }
-        let n = io::count(got, &buf);
-        if n == 0 {
-            return Input { whole: true, kept };
-        }
-        kept = taking::take(number, name, file, kept, &buf[0..n]);
-        if kept.rest.file == file.len() {
-            return Input { whole: true, kept };
-        }
-        left -= 1;
-    }
-    Input { whole: false, kept }
-}
-
 fn main() {
     let mut number = [0u8; 4];
-    let mut name = [0u8; 1];
+    let mut name = [0u8; 129];
     let mut file = [0u8; 16385];
-    let input = read_input(&mut number, &mut name, &mut file);
+    let input = streams::read_input(&mut number, &mut name, &mut file, true);
     let kept = input.kept;
     if input.whole {
         let mut name_out = [0u8; 70];

@@ -1,5 +1,4 @@
--- What is kept lies in the buffers, and answers for the whole input (`answer-short`, `answer-long`).
-use Rattle.intake.proofs.Parts.{held-name, held-file}
+-- What is kept answers for the whole input (`answer-short`, `answer-long`).
 use Rattle.qewaris_check.proofs.Answering.{answer-short, answer-long}
 use borrow.Author.Needs.{needs}
 use Rattle.qewaris_check.proofs.check_kept.Statement.{statement}
@@ -11,14 +10,14 @@ check-kept-spec =
     (tie.spec
     (λ c. search needs)
     (λ c. search needs)
-    (λ c. held-file (c .before .before .before .pre .0))
+    (λ c. search needs)
     (λ c κs. search needs)
-    (λ c. λ i h. answer-long i h (c .before .before .before .before .before .pre .1 .1) (c .before .before .before .before .before .pre .1 .0) (c .before .before .if1 .taken) (c .check-long .ensures))
+    (λ c. λ i h. answer-long i h (search needs) (search needs) (search needs) (c .check-long .ensures))
     (λ c. search needs)
     (λ c. search needs)
-    (λ c. held-name (c .before .before .before .pre .0))
     (λ c. search needs)
     (λ c. search needs)
-    (λ c. held-file (c .before .before .before .before .pre .0))
+    (λ c. search needs)
+    (λ c. search needs)
     (λ c κs. search needs)
-    (λ c. λ i h. answer-short i h (c .before .before .before .before .before .before .pre .1 .1) (c .before .before .before .if1 .left) (c .check-name .ensures)))
+    (λ c. λ i h. answer-short i h (search needs) (search needs) (c .check-name .ensures)))

@@ -16,6 +16,4 @@ move-kept-spec =
     (λ c. search needs)
     (λ c. search needs)
     (λ c κs. search needs)
-    (λ c. search needs)
-    (λ c. search needs)
-    (λ c. λ i name h. kept-moved i h (c .before .before .before .before .before .before .before .before .before .before .before .before .before .before .before .pre .1 .0) (c .before .before .before .before .before .before .before .before .before .before .before .before .before .before .before .pre .1 .1) (c .before .before .before .before .before .before .before .before .service-number .ensures) (c .before .before .before .before .move-named .ensures)))
+    (λ c. λ i name h. kept-moved i h (search needs) (search needs) (c .before .before .before .before .service-number .ensures) (c .move-named .ensures)))

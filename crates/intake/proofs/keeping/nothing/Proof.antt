@@ -1,5 +1,5 @@
--- Of no input nothing is kept.
-use Rattle.intake.proofs.Parts.{keeps-none}
+-- Of no input nothing is kept (`nothing-kept`).
+use Rattle.intake.proofs.Parts.{nothing-kept}
 use Rattle.intake.proofs.keeping.nothing.Statement.{statement}
 use Rattle.intake.proofs.keeping.nothing.Tie as tie
 
@@ -7,4 +7,4 @@ pub nothing-spec : {M : Type 1} → statement M
 nothing-spec =
     tie.close
     (tie.spec
-    (λ c. λ name file. keeps-none name file))
+    (λ c. nothing-kept (c .args .ended)))

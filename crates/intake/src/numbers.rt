@@ -1,10 +1,10 @@
 // The number of a service, from its line.
 ghost use mathlib.Core.Path.{_≡_};
-ghost use Rattle.qewaris_move.specs.Number.{serviceNumber};
+ghost use Rattle.intake.specs.Number.{serviceNumber};
 use text::classes;
 
 // The number that 1 to 3 decimal digits write, and 0 for any other line.
-pub(crate) fn service_number(line: &[u8]) -> usize
+pub fn service_number(line: &[u8]) -> usize
     ensures { λ r. ⌜ r ≡ serviceNumber (now (line .entry)) ⌝ }
 {
     if 3 < line.len() {

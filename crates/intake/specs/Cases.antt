@@ -4,7 +4,7 @@ use mathlib.Core.List.{List, [], _∷_, _++_, map}
 use Prim.Native.Nat.{ℕ}
 use Rattle.text.specs.Words.{word}
 use Rattle.addresses.specs.Addresses.{decimalValue}
-use Rattle.qewaris_move.specs.Number.{serviceNumber}
+use Rattle.intake.specs.Number.{serviceNumber}
 
 abbrev numberLines : List (List ℕ × ℕ)
 numberLines =

@@ -9,10 +9,10 @@ use lib.ListN.{length, drop, getD, drop-of-length-le}
 use Rattle.text.specs.Bytes.{isDigit}
 use Rattle.text.specs.Laws.{view-more, between-low, between-high}
 use Rattle.addresses.specs.Addresses.{decimalValue}
-use Rattle.qewaris_move.specs.Number.{orZero, serviceNumber}
+use Rattle.intake.specs.Number.{orZero, serviceNumber}
 
 -- from i on the digits that are left go behind v, and v is still small
-pub record Counting (s : List ℕ) (i v : ℕ) : Type 0 where
+pub record NumberSoFar (s : List ℕ) (i v : ℕ) : Type 0 where
   pub within : i ≤ length s
   pub short : length s ≤ 3
   pub rest : orZero (decimalValue v (drop i s)) ≡ serviceNumber s
@@ -20,9 +20,9 @@ pub record Counting (s : List ℕ) (i v : ℕ) : Type 0 where
   pub one-digit : i < 2 → v ≤ 9
   pub two-digits : i < 3 → v ≤ 99
 
-pub counting-first : (s : List ℕ) → length s ≤ 3 → Counting s 0 0
+pub so-far-first : (s : List ℕ) → length s ≤ 3 → NumberSoFar s 0 0
 unfolding decimalValue
-counting-first s h = record {
+so-far-first s h = record {
   within = omega arith;
   short = h;
   rest = go s h;
@@ -41,34 +41,34 @@ pub record Small (v c : ℕ) : Type 0 where
   pub low : 48 ≤ c
   pub high : c ≤ 57
 
-module _ (s : List ℕ) {i v : ℕ} (p : Counting s i v) where
-  pub counting-end : length s ≤ i → v ≡ serviceNumber s
+module _ (s : List ℕ) {i v : ℕ} (p : NumberSoFar s i v) where
+  pub so-far-end : length s ≤ i → v ≡ serviceNumber s
   unfolding decimalValue
-  counting-end l = sym (ap (λ (t : List ℕ). orZero (decimalValue v t)) (drop-of-length-le s {i = i} l)) ∙ p .rest
+  so-far-end l = sym (ap (λ (t : List ℕ). orZero (decimalValue v t)) (drop-of-length-le s {i = i} l)) ∙ p .rest
 
   module _ (l : i < length s) {b : Bool} (e : b ≡ isDigit (getD s i 0)) where
-    pub counting-other : not b ≡ true → 0 ≡ serviceNumber s
+    pub so-far-other : not b ≡ true → 0 ≡ serviceNumber s
     unfolding decimalValue
-    counting-other h = (rw (view-more s i l, sym e ∙ not-true b h) at (p .rest))
+    so-far-other h = (rw (view-more s i l, sym e ∙ not-true b h) at (p .rest))
 
-    counting-digit : not b ≡ false → isDigit (getD s i 0) ≡ true
-    counting-digit h = sym e ∙ not-false b h
+    so-far-digit : not b ≡ false → isDigit (getD s i 0) ≡ true
+    so-far-digit h = sym e ∙ not-false b h
 
-    pub counting-small : not b ≡ false → Small v (getD s i 0)
-    counting-small h = record {
+    pub so-far-small : not b ≡ false → Small v (getD s i 0)
+    so-far-small h = record {
       value = p .two-digits (omega (arith, p .short));
-      low = between-low {x = getD s i 0} 48 57 (counting-digit h);
-      high = between-high {x = getD s i 0} 48 57 (counting-digit h);
+      low = between-low {x = getD s i 0} 48 57 (so-far-digit h);
+      high = between-high {x = getD s i 0} 48 57 (so-far-digit h);
     }
 
-    pub counting-turn : not b ≡ false → Counting s (i + 1) (v * 10 + (getD s i 0 - 48))
+    pub so-far-turn : not b ≡ false → NumberSoFar s (i + 1) (v * 10 + (getD s i 0 - 48))
     unfolding decimalValue
-    counting-turn h =
-        let most : getD s i 0 ≤ 57 = counting-small h .high in
+    so-far-turn h =
+        let most : getD s i 0 ≤ 57 = so-far-small h .high in
         record {
           within = omega arith;
           short = p .short;
-          rest = rw (view-more s i l, counting-digit h) at (p .rest);
+          rest = rw (view-more s i l, so-far-digit h) at (p .rest);
           none-yet = λ k. omega arith;
           one-digit = λ k. omega (arith, p .none-yet (omega arith));
           two-digits = λ k. omega (arith, p .one-digit (omega arith));
