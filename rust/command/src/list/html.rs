@@ -3,7 +3,7 @@
 use super::rows::{Rank, Row};
 use super::table::{cells, counts};
 use super::Listed;
-use crate::report::shown_path;
+use crate::report::{place, shown_path, Told};
 use std::fmt::Write;
 use std::path::PathBuf;
 
@@ -16,7 +16,10 @@ body{font:15px/1.45 system-ui,sans-serif;margin:1.5rem auto;max-width:82rem;padd
 h1{font-size:1.4rem;margin:0 0 .3rem}
 p{margin:.2rem 0}
 .note{color:#555}
-ul{margin:1rem 0;padding:.6rem 1rem .6rem 2rem;background:#fff4d6;border-left:.3rem solid #b26a00}
+h2{font-size:1.1rem;margin:1.2rem 0 .3rem}
+ul{margin:1rem 0;padding:.6rem 1rem .6rem 2rem}
+.across{background:#fff4d6;border-left:.3rem solid #b26a00}
+.full{margin:0;padding-top:0}
 table{border-collapse:collapse;width:100%;margin:1rem 0}
 th,td{text-align:left;vertical-align:top;padding:.35rem .6rem;border-bottom:1px solid #ccc;overflow-wrap:break-word}
 li{overflow-wrap:anywhere}
@@ -24,6 +27,7 @@ th{border-bottom:2px solid #444;white-space:nowrap}
 td:nth-child(1){white-space:nowrap;font-weight:600}
 td:nth-child(4),td:nth-child(5),td:nth-child(6){white-space:nowrap}
 td:nth-child(2){min-width:9rem;max-width:24rem}
+td:nth-child(3){min-width:7rem;max-width:16rem}
 td:nth-child(8){min-width:16rem}
 .worst td:nth-child(1),.open{color:#a30000;font-weight:700}
 .warned td:nth-child(1){color:#8a4b00}
@@ -43,7 +47,7 @@ td.none{display:none}
 body{font-size:10px;margin:0;max-width:none;padding:0}
 tr{break-inside:avoid}
 thead{display:table-header-group}
-ul,.worst,.warned{background:none}
+.across,.worst,.warned{background:none}
 }
 ";
 
@@ -62,19 +66,33 @@ pub fn page(paths: &[PathBuf], listed: &Listed) -> String {
         let _ = writeln!(page, "<p>{}</p>", escaped(&line));
     }
     if !listed.across.is_empty() {
-        page.push_str("<ul>\n");
-        for found in &listed.across {
-            let _ = writeln!(page, "<li>{}</li>", escaped(&found.warning.sentence));
-        }
-        page.push_str("</ul>\n");
+        let across = listed.across.iter().map(|found| escaped(&found.warning.sentence));
+        page.push_str(&items("across", across));
     }
     page.push_str("<table>\n<thead><tr>");
     TITLES.iter().for_each(|title| page.push_str(&format!("<th>{title}</th>")));
     page.push_str("</tr></thead>\n<tbody>\n");
     listed.rows.iter().for_each(|found| page.push_str(&row(found)));
-    page.push_str("</tbody>\n</table>\n<p class=\"note\">No passphrase and no key stands on this page. Made by qewaris ");
+    page.push_str("</tbody>\n</table>\n");
+    let details = listed.details();
+    if !details.is_empty() {
+        page.push_str("<h2>In full</h2>\n");
+        page.push_str(&items("full", details.iter().map(detail)));
+    }
+    page.push_str("<p class=\"note\">No passphrase and no key stands on this page. Made by qewaris ");
     page.push_str(concat!(env!("CARGO_PKG_VERSION"), ".</p>\n</body>\n</html>\n"));
     page
+}
+
+/// A list of texts that are escaped already.
+fn items(class: &str, texts: impl Iterator<Item = String>) -> String {
+    let items: String = texts.map(|text| format!("<li>{text}</li>\n")).collect();
+    format!("<ul class=\"{class}\">\n{items}</ul>\n")
+}
+
+fn detail(told: &Told<'_>) -> String {
+    let head = escaped(&place(told.path, told.line));
+    format!("<strong>{head}</strong> {} {}", told.label, escaped(&told.text()))
 }
 
 fn row(row: &Row) -> String {

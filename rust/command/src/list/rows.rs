@@ -5,7 +5,8 @@ use crate::catalogue::{counted, Dialect};
 use crate::diagnosis::{finding, Finding};
 use crate::input::Input;
 use crate::layout;
-use crate::report::{shown_path, HIDDEN};
+use crate::output::Style;
+use crate::report::{shown_path, Told, HIDDEN};
 use crate::secrets::swallowed_secret;
 use crate::services::Service;
 use crate::visible::visible;
@@ -157,6 +158,20 @@ impl Row {
             Moves::IsIwd => "is iwd",
             Moves::Unknown => "",
         }
+    }
+
+    /// Its warnings, and every line that stands in the way of its move.
+    pub fn details(&self) -> impl Iterator<Item = Told<'_>> {
+        let warnings = self.warnings.iter().map(|warning| Told::warning(&self.path, warning));
+        let in_the_way = self.refusals.iter().filter(|_| self.moves == Moves::No);
+        warnings.chain(in_the_way.map(|finding| Told {
+            path: &self.path,
+            line: finding.line,
+            style: Style::Warning,
+            label: "does not move:",
+            sentence: &finding.discreet,
+            name: finding.number.to_string(),
+        }))
     }
 
     pub fn dialect(&self) -> Dialect {

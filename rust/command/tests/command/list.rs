@@ -66,6 +66,29 @@ fn the_worst_stand_first_and_each_says_what_to_do() {
     assert!(folder.run(&["list", "--no-warnings", "a/quotes.psk"]).out.contains("\ngood "));
 }
 
+#[test]
+fn every_line_in_the_way_of_a_move_is_told_below_the_rows_and_on_the_page() {
+    let folder = Folder::new("in-the-way");
+    let file = "[service_a]\nType = wifi\nName = \"Desk\"\nPassphrase = low tide 88\nMAC = 02:00:5e:10:00:01\nTimeservers = <b>.example\n";
+    folder.write("a.config", file);
+    let told = [
+        "a.config:3: warning: Name stands in quotation marks, which count as a part of it; a value needs none [quoted-value]",
+        "a.config:5: does not move: [service_a] has MAC, which picks an interface and has no place in iwd; a service without it moves [16]",
+        "a.config:6: does not move: [service_a] has Timeservers, which has no place in iwd; a service without it moves [16]",
+    ];
+    let run = folder.run(&["list", "a.config"]);
+    assert!(run.out.ends_with(&format!("\n\n{}\n", told.join("\n"))), "{}", run.out);
+    let run = folder.run(&["list", "--no-warnings", "a.config"]);
+    assert!(run.out.ends_with(&format!("\n\n{}\n", told[1..].join("\n"))), "{}", run.out);
+    folder.run(&["list", "a.config", "--html", "page.html"]);
+    let page = String::from_utf8(folder.read("page.html")).unwrap();
+    for line in told {
+        let (place, text) = line.split_once(' ').unwrap();
+        let item = format!("<li><strong>{place}</strong> {text}</li>\n");
+        assert!(page.contains(&item), "{item}{page}");
+    }
+}
+
 /// A ConnMan file of the network `Quay`, with this passphrase and address.
 fn quay(passphrase: &str, address: usize) -> String {
     format!("[service_a]\nType = wifi\nName = Quay\nPassphrase = {passphrase}\nIPv4 = 10.0.0.{address}/24/10.0.0.1\n")
