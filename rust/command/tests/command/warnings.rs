@@ -37,6 +37,12 @@ fn cases() -> Vec<Case> {
         ),
         case(
             "a.config",
+            "[service_a]\nType = wifi\nName = Desk 4 Pasphrase = lowtide8\nSecurity = none\n",
+            &["3: warning: Name has a word for a passphrase and an equal sign in it, and seems to have swallowed the next line; each setting stands on a line of its own [swallowed-line]"],
+        ),
+        case("a.config", TILL.replace("low tide 88", "my key=tide 88"), &[]),
+        case(
+            "a.config",
             format!("[global]\nDescription = Till Hidden=true\n{TILL}"),
             &["2: warning: Description has Hidden and an equal sign in it, and seems to have swallowed the next line; each setting stands on a line of its own [swallowed-line]"],
         ),
