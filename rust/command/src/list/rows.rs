@@ -188,14 +188,11 @@ pub fn rows(input: &Input, with_warnings: bool) -> Vec<Row> {
     let warnings = if with_warnings { found_in(input) } else { Vec::new() };
     match input.dialect() {
         Dialect::Iwd => vec![of_iwd(input, warnings)],
-        Dialect::Connman if counts.services == 0 => vec![Row {
-            rank: Rank::Unmovable,
+        Dialect::Connman if counts.services == 0 => vec![ranked(Row {
             moves: Moves::No,
-            ..Row::unreadable(
-                input.path.clone(),
-                "The file has no service; see whether it is the right one".to_string(),
-            )
-        }],
+            warnings,
+            ..Row::unreadable(input.path.clone(), String::new())
+        })],
         Dialect::Connman => {
             let services = (1..=counts.services).filter_map(|number| Service::of(input, number).ok());
             services

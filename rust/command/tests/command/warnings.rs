@@ -32,6 +32,19 @@ fn cases() -> Vec<Case> {
         case("a.config", TILL, &[]),
         case(
             "a.config",
+            "",
+            &[" warning: The file has no service, and a till gets no network from it; see whether it was cut short [no-service]"],
+        ),
+        case(
+            "a.config",
+            "[global]\nDescription = Till Hidden=true\n",
+            &[
+                " warning: The file has no service, and a till gets no network from it; see whether it was cut short [no-service]",
+                "2: warning: Description has Hidden and an equal sign in it, and seems to have swallowed the next line; each setting stands on a line of its own [swallowed-line]",
+            ],
+        ),
+        case(
+            "a.config",
             "[service_a]\nType = wifi\nName = Desk 4 Passphrase = lowtide8\nSecurity = none\n",
             &["3: warning: Name has Passphrase and an equal sign in it, and seems to have swallowed the next line; each setting stands on a line of its own [swallowed-line]"],
         ),
@@ -161,7 +174,8 @@ fn every_word_is_earned_and_explained() {
     let folder = Folder::new("words");
     let listed = folder.run(&["explain"]).out;
     let words: Vec<&str> = listed.lines().skip(19).filter_map(|line| line.split_whitespace().next()).collect();
-    assert_eq!(words.len(), 17, "{listed}");
+    assert_eq!(words.len(), 18, "{listed}");
+    let page = include_str!("../../../../man/qewaris.1").replace("\\-", "-");
     let told: Vec<String> = cases().iter().flat_map(|case| case.told).map(|told| told.to_string()).collect();
     let elsewhere = ["both-suffixes", "readable-by-others", "two-keys", "one-address", "empty-folder"];
     for word in words {
@@ -170,6 +184,7 @@ fn every_word_is_earned_and_explained() {
         let run = folder.run(&["explain", word]);
         assert_eq!((run.code, run.err.as_str()), (Some(0), ""));
         assert!(run.out.starts_with(&format!("{word}: ")), "{}", run.out);
+        assert!(page.contains(&format!("\n.TP\n.B {word}\n")), "the man page has no {word}");
         for heading in ["\nWhat to do\n", "\nWhere this comes from\n"] {
             assert!(run.out.contains(heading), "{}", run.out);
         }
