@@ -3,6 +3,7 @@
 
 use crate::advice::advice;
 use crate::diagnosis::{Excerpt, Finding};
+use crate::hex::decoded;
 use crate::input::Input;
 use crate::output::{Output, Style};
 use crate::secrets::swallowed_secret;
@@ -34,13 +35,10 @@ pub fn shown_path(path: &Path) -> String {
 /// Whether a file name is the hex of a text that seems to have swallowed a line.
 pub fn is_telling_name(name: &[u8]) -> bool {
     let stem = name.split(|byte| *byte == b'.').next().unwrap_or_default();
-    let digit = |byte: u8| char::from(byte).to_digit(16).and_then(|digit| u8::try_from(digit).ok());
     let hex = stem.strip_prefix(b"=").unwrap_or_default();
-    let decoded: Option<Vec<u8>> = hex
-        .chunks_exact(2)
-        .map(|pair| Some(digit(pair[0])? * 16 + digit(pair[1])?))
-        .collect();
-    decoded.is_some_and(|text| swallowed_secret(&text).is_some())
+    // A digit too many at its end does not make it less telling.
+    let pairs = hex.get(..hex.len() / 2 * 2).unwrap_or_default();
+    decoded(pairs).is_some_and(|text| swallowed_secret(&text).is_some())
 }
 
 /// A file and a line of it, as they stand before what is found there.

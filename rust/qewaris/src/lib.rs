@@ -26,6 +26,7 @@
 pub mod catalogue;
 pub mod diagnosis;
 mod files;
+pub mod hex;
 pub mod layout;
 mod messages;
 pub mod raw;

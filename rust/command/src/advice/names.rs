@@ -1,6 +1,6 @@
 //! The right name of a file whose name is refused.
 
-use crate::forms::hex;
+use crate::hex::{decoded, encoded};
 use crate::report::is_telling_name;
 use crate::visible::visible;
 
@@ -28,15 +28,6 @@ fn iwd_stem(stem: &[u8]) -> Option<Vec<u8>> {
     Some(if is_plain {
         network
     } else {
-        format!("={}", hex(&network)).into_bytes()
+        format!("={}", encoded(&network)).into_bytes()
     })
-}
-
-/// The bytes of hex digits, in either case.
-fn decoded(digits: &[u8]) -> Option<Vec<u8>> {
-    let digit = |byte: u8| char::from(byte).to_digit(16).and_then(|digit| u8::try_from(digit).ok());
-    if digits.len() % 2 == 1 {
-        return None;
-    }
-    digits.chunks(2).map(|pair| Some(digit(pair[0])? * 16 + digit(pair[1])?)).collect()
 }
