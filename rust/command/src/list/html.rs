@@ -26,18 +26,19 @@ li{overflow-wrap:anywhere}
 th{border-bottom:2px solid #444;white-space:nowrap}
 td:nth-child(1){white-space:nowrap;font-weight:600}
 td:nth-child(4),td:nth-child(5),td:nth-child(6){white-space:nowrap}
-td:nth-child(2){min-width:9rem;max-width:24rem}
-td:nth-child(3){min-width:7rem;max-width:16rem}
-td:nth-child(8){min-width:16rem}
+td:nth-child(2),td:nth-child(3){overflow-wrap:anywhere}
+td:nth-child(2){min-width:13em}
+td:nth-child(3){min-width:8em}
+td:nth-child(8){min-width:15em}
 .worst td:nth-child(1),.open{color:#a30000;font-weight:700}
 .warned td:nth-child(1){color:#8a4b00}
 .worst{background:#ffecec}
 .warned{background:#fff9e8}
-@media screen and (max-width:46rem){
+@media screen and (max-width:76rem){
 thead{display:none}
 table,tbody,tr,td{display:block;width:auto}
 tr{border:1px solid #999;border-radius:.4rem;margin:.7rem 0;padding:.3rem 0}
-td{border:0;padding:.15rem .7rem .15rem 8rem;position:relative;white-space:normal!important;min-width:0!important;max-width:none!important;\
+td{border:0;padding:.15rem .7rem .15rem 8rem;position:relative;white-space:normal!important;min-width:0!important;\
 overflow-wrap:anywhere}
 td::before{content:attr(data-label);position:absolute;left:.7rem;width:7rem;color:#555;font-weight:400}
 td.none{display:none}
