@@ -319,7 +319,7 @@ fn move_request(found: &Words) -> Result<Request, String> {
         let path = PathBuf::from(last);
         if path.is_dir() || last.as_bytes().ends_with(b"/") {
             let folder = visible(last.as_bytes());
-            return Err(format!("{folder} is a folder; --to {folder} says that the iwd files go there"));
+            return Err(format!("{folder} names a folder; --to {folder} says that the iwd files go there"));
         }
     }
     let to = to.unwrap_or(OsStr::new("."));

@@ -130,7 +130,7 @@ fn the_folder_in_last_place_is_answered_with_to() {
     folder.write("a.config", till("Left"));
     folder.write("out/note", "");
     for (last, told) in [("out/", "out/"), ("out", "out"), ("gone/", "gone/")] {
-        let sentence = format!("{told} is a folder; --to {told} says that the iwd files go there. Try qewaris move --help");
+        let sentence = format!("{told} names a folder; --to {told} says that the iwd files go there. Try qewaris move --help");
         folder
             .run(&["move", "a.config", last])
             .gives(3, "", &format!("qewaris: {sentence}\n"));
