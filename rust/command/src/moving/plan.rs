@@ -153,12 +153,12 @@ impl Plan {
             let Some(first) = first else { continue };
             found = true;
             let of = |service: &Moved| format!("{}: [{}] on line {}", shown_path(&service.path), service.group, service.line);
-            let which = match first.path == later.path {
-                true => format!("{} and [{}] on line {}", of(first), later.group, later.line),
-                false => format!("{} and {}", of(first), of(later)),
+            let (second, remedy) = match first.path == later.path {
+                true => (format!("[{}] on line {}", later.group, later.line), "--service picks one of them"),
+                false => (of(later), "the files of two tills go into two folders"),
             };
             let name = shown_path(Path::new(OsStr::from_bytes(&later.iwd.name)));
-            output.error(&format!("{which} would both be {name}; each file is of one service"))?;
+            output.error(&format!("{} and {second} would both be {name}; {remedy}", of(first)))?;
         }
         Ok(found)
     }

@@ -59,7 +59,7 @@ fn two_files_of_one_network_clash() {
     folder.write("a.config", till("Left"));
     folder.write("b.config", till("Left"));
     let told = "qewaris: a.config: [service_till] on line 1 and b.config: [service_till] on line 1 would both be Left.psk; \
-                each file is of one service\nqewaris: nothing was written\n";
+                the files of two tills go into two folders\nqewaris: nothing was written\n";
     folder.run(&["move", "a.config", "b.config", "--to", "."]).gives(1, "", told);
     folder
         .run(&["move", "a.config", "./a.config", "--to", "."])

@@ -102,6 +102,10 @@ const WRONG: &[(&[&str], &str)] = &[
         &["move", "shop.config", "--to=a", "--to=b"],
         "--to is given twice. Try qewaris move --help",
     ),
+    (
+        &["list", "shop.config", "--html", "page/"],
+        "--html needs the name of a file. Try qewaris list --help",
+    ),
     (&["move", "shop.config", "--to="], "--to needs a folder. Try qewaris move --help"),
     (
         &["explain", "0"],
