@@ -9,6 +9,9 @@ use std::path::PathBuf;
 
 const TITLES: [&str; 8] = ["State", "File", "Network", "Key", "Hidden", "Address", "Moves to iwd", "What to do"];
 
+/// How many paths stand in the title.
+const NAMED: usize = 3;
+
 /// What the page looks like: a table at the width of a desk and on paper, cards at that of a phone.
 const STYLE: &str = "\
 :root{color-scheme:light}
@@ -54,14 +57,12 @@ thead{display:table-header-group}
 
 /// The page of a list of these paths.
 pub fn page(paths: &[PathBuf], listed: &Listed) -> String {
-    let names: Vec<String> = paths.iter().map(|path| escaped(&shown_path(path))).collect();
     let mut page = format!(
         "<!DOCTYPE html>\n<html lang=\"en\">\n<head>\n<meta charset=\"utf-8\">\n\
          <meta http-equiv=\"Content-Security-Policy\" content=\"default-src 'none'; style-src 'unsafe-inline'\">\n\
          <meta name=\"viewport\" content=\"width=device-width, initial-scale=1\">\n\
-         <title>Network files of {names}</title>\n<style>\n{STYLE}</style>\n</head>\n<body>\n\
-         <h1>Network files of {names}</h1>\n",
-        names = names.join(", ")
+         <title>{title}</title>\n<style>\n{STYLE}</style>\n</head>\n<body>\n<h1>{title}</h1>\n",
+        title = title(paths)
     );
     for line in counts(listed) {
         let _ = writeln!(page, "<p>{}</p>", escaped(&line));
@@ -70,11 +71,9 @@ pub fn page(paths: &[PathBuf], listed: &Listed) -> String {
         let across = listed.across.iter().map(|found| escaped(&found.warning.sentence));
         page.push_str(&items("across", across));
     }
-    page.push_str("<table>\n<thead><tr>");
-    TITLES.iter().for_each(|title| page.push_str(&format!("<th>{title}</th>")));
-    page.push_str("</tr></thead>\n<tbody>\n");
-    listed.rows.iter().for_each(|found| page.push_str(&row(found)));
-    page.push_str("</tbody>\n</table>\n");
+    if !listed.rows.is_empty() {
+        page.push_str(&table(&listed.rows));
+    }
     let details = listed.details();
     if !details.is_empty() {
         page.push_str("<h2>In full</h2>\n");
@@ -83,6 +82,22 @@ pub fn page(paths: &[PathBuf], listed: &Listed) -> String {
     page.push_str("<p class=\"note\">No passphrase and no key stands on this page. Made by qewaris ");
     page.push_str(concat!(env!("CARGO_PKG_VERSION"), ".</p>\n</body>\n</html>\n"));
     page
+}
+
+/// What the page is called: for the paths, and for the first of many.
+fn title(paths: &[PathBuf]) -> String {
+    let names: Vec<String> = paths.iter().take(NAMED).map(|path| escaped(&shown_path(path))).collect();
+    let more = match paths.len().saturating_sub(NAMED) {
+        0 => String::new(),
+        count => format!(" and {count} more"),
+    };
+    format!("Network files of {}{more}", names.join(", "))
+}
+
+fn table(rows: &[Row]) -> String {
+    let titles: String = TITLES.iter().map(|title| format!("<th>{title}</th>")).collect();
+    let rows: String = rows.iter().map(row).collect();
+    format!("<table>\n<thead><tr>{titles}</tr></thead>\n<tbody>\n{rows}</tbody>\n</table>\n")
 }
 
 /// A list of texts that are escaped already.

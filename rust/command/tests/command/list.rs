@@ -185,3 +185,29 @@ fn the_page_stands_by_itself_and_is_for_its_owner() {
     folder.run(&["list", ".", "--html", "gone/tills.html"]).gives(2, "", told);
     assert_eq!(names_in(folder.path()), ["<b>&\"'", "tills.html"]);
 }
+
+#[test]
+fn the_title_of_the_page_names_the_first_of_many_and_a_page_without_rows_has_no_table() {
+    let folder = Folder::new("titles");
+    for name in ["a", "b", "c", "d", "e"] {
+        folder.write(format!("{name}.open"), "");
+    }
+    folder.run(&["list", "a.open", "b.open", "c.open", "d.open", "e.open", "--html", "page.html"]);
+    let page = String::from_utf8(folder.read("page.html")).unwrap();
+    assert!(
+        page.contains("<h1>Network files of a.open, b.open, c.open and 2 more</h1>\n"),
+        "{page}"
+    );
+    std::fs::create_dir(folder.path().join("stick")).unwrap();
+    let run = folder.run(&["list", "stick", "--html", "empty.html"]);
+    assert_eq!(run.code, Some(2));
+    let page = String::from_utf8(folder.read("empty.html")).unwrap();
+    assert!(
+        page.contains("<h1>Network files of stick</h1>\n") && !page.contains("<table>"),
+        "{page}"
+    );
+    assert!(
+        page.contains("<li>stick: There is no iwd or ConnMan file in it; is a stick not mounted?</li>"),
+        "{page}"
+    );
+}
