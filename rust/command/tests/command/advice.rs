@@ -12,6 +12,9 @@ const CASES: &[(&str, &[u8], &str)] = &[
     ("Desk 4.PSK", b"", "The right name is Desk 4.psk"),
     ("Caf\u{e9}.Open", b"", "The right name is =436166c3a9.open"),
     ("till-4 left.config", b"", "The right name is till4left.config"),
+    ("till-4.conf", b"", "The right name is till4.config"),
+    ("Caf\u{e9}.psk.txt", b"", "The right name is =436166c3a9.psk"),
+    ("Desk 4.psk ", b"", "The right name is Desk 4.psk"),
     (
         "a.config",
         b"[service_a]\nType = wifi\nName = Desk\nPasphrase = low tide 88\n",
@@ -65,6 +68,16 @@ fn a_refusal_comes_with_what_to_do() {
             assert_eq!(run.out.lines().last(), Some(format!("    {told}").as_str()), "{name}: {}", run.out);
         }
         fs::remove_file(folder.path().join(name)).unwrap();
+    }
+}
+
+#[test]
+fn a_name_that_could_be_any_is_told_without_a_right_one() {
+    let folder = Folder::new("no-advice");
+    for name in ["notes.txt", "notes", ".psk", "Desk.psk.bak", "office.8021x"] {
+        folder.write(name, "");
+        let run = folder.run(&["check", name]);
+        assert_eq!((run.code, run.out.lines().count()), (Some(1), 1), "{}", run.out);
     }
 }
 
