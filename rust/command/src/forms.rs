@@ -1,6 +1,7 @@
 //! The JSON that programs read, one object on each line. The man page tells its form, and `format` is raised when that changes.
 
 use crate::diagnosis::Finding;
+use crate::hex::encoded;
 use crate::items::Tally;
 use crate::json::{members, number, Json, Members};
 use crate::report::is_telling_name;
@@ -52,7 +53,7 @@ pub fn path_members(name: &str, path: Option<&Path>) -> Members {
 pub fn bytes_members(name: &str, bytes: Option<&[u8]>) -> Members {
     members([
         (name, Json::from(bytes.and_then(|bytes| std::str::from_utf8(bytes).ok()))),
-        (&format!("{name}_hex"), Json::from(bytes.map(hex))),
+        (&format!("{name}_hex"), Json::from(bytes.map(encoded))),
     ])
 }
 
@@ -170,9 +171,4 @@ pub fn counts_with(command: &str, tally: &Tally, warnings: usize, services: Opti
         ("left_out", number(services.map(|(_, left_out)| left_out))),
     ]));
     Json::Object(found)
-}
-
-/// Bytes in lower-case hex.
-pub fn hex(bytes: &[u8]) -> String {
-    bytes.iter().map(|byte| format!("{byte:02x}")).collect()
 }

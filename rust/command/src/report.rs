@@ -3,6 +3,7 @@
 
 use crate::advice::advice;
 use crate::diagnosis::{Excerpt, Finding};
+use crate::hex::decoded;
 use crate::input::Input;
 use crate::output::{Output, Style};
 use crate::secrets::swallowed_secret;
@@ -34,17 +35,14 @@ pub fn shown_path(path: &Path) -> String {
 /// Whether a file name is the hex of a text that seems to have swallowed a line.
 pub fn is_telling_name(name: &[u8]) -> bool {
     let stem = name.split(|byte| *byte == b'.').next().unwrap_or_default();
-    let digit = |byte: u8| char::from(byte).to_digit(16).and_then(|digit| u8::try_from(digit).ok());
     let hex = stem.strip_prefix(b"=").unwrap_or_default();
-    let decoded: Option<Vec<u8>> = hex
-        .chunks_exact(2)
-        .map(|pair| Some(digit(pair[0])? * 16 + digit(pair[1])?))
-        .collect();
-    decoded.is_some_and(|text| swallowed_secret(&text).is_some())
+    // A digit too many at its end does not make it less telling.
+    let pairs = hex.get(..hex.len() / 2 * 2).unwrap_or_default();
+    decoded(pairs).is_some_and(|text| swallowed_secret(&text).is_some())
 }
 
 /// A file and a line of it, as they stand before what is found there.
-fn place(path: &Path, line: Option<usize>) -> String {
+pub fn place(path: &Path, line: Option<usize>) -> String {
     match line {
         Some(line) => format!("{}:{line}:", shown_path(path)),
         None => format!("{}:", shown_path(path)),
@@ -67,9 +65,15 @@ pub fn print_finding(output: &mut Output, path: &Path, finding: &Finding) -> io:
 
 /// Prints a finding under a label of its own.
 pub fn print_labelled(output: &mut Output, path: &Path, finding: &Finding, label: &str) -> io::Result<()> {
-    let head = output.styled(Style::Bold, &place(path, finding.line));
-    let label = output.styled(Style::Error, label);
-    output.line(&format!("{head} {label} {} [{}]", finding.sentence, finding.number))?;
+    let told = Told {
+        path,
+        line: finding.line,
+        style: Style::Error,
+        label,
+        sentence: &finding.sentence,
+        name: finding.number.to_string(),
+    };
+    told.print(output)?;
     match &finding.excerpt {
         Some(excerpt) => print_excerpt(output, excerpt),
         None => Ok(()),
@@ -78,9 +82,42 @@ pub fn print_labelled(output: &mut Output, path: &Path, finding: &Finding, label
 
 /// Prints a warning about a file.
 pub fn print_warning(output: &mut Output, path: &Path, warning: &Warning) -> io::Result<()> {
-    let head = output.styled(Style::Bold, &place(path, warning.line));
-    let label = output.styled(Style::Warning, "warning:");
-    output.line(&format!("{head} {label} {} [{}]", warning.sentence, warning.word.row().name))
+    Told::warning(path, warning).print(output)
+}
+
+/// What is told of a place in a file, on one line.
+pub struct Told<'a> {
+    pub path: &'a Path,
+    pub line: Option<usize>,
+    pub style: Style,
+    pub label: &'a str,
+    pub sentence: &'a str,
+    /// The number or the word that `qewaris explain` takes.
+    pub name: String,
+}
+
+impl Told<'_> {
+    pub fn warning<'a>(path: &'a Path, warning: &'a Warning) -> Told<'a> {
+        Told {
+            path,
+            line: warning.line,
+            style: Style::Warning,
+            label: "warning:",
+            sentence: &warning.sentence,
+            name: warning.word.row().name.to_string(),
+        }
+    }
+
+    /// What stands behind the label.
+    pub fn text(&self) -> String {
+        format!("{} [{}]", self.sentence, self.name)
+    }
+
+    pub fn print(&self, output: &mut Output) -> io::Result<()> {
+        let head = output.styled(Style::Bold, &place(self.path, self.line));
+        let label = output.styled(self.style, self.label);
+        output.line(&format!("{head} {label} {}", self.text()))
+    }
 }
 
 fn print_excerpt(output: &mut Output, excerpt: &Excerpt) -> io::Result<()> {

@@ -140,7 +140,7 @@ pub fn is_of_paper(dialect: Dialect, group: &[u8], key: &[u8]) -> bool {
 }
 
 /// The keys of iwd's paper that are not taken here, beside those of extended logins.
-const IWD_ONLY: [&str; 7] = [
+pub const IWD_ONLY: [&str; 7] = [
     "TransitionDisable",
     "DisabledTransitionModes",
     "UseDefaultEccGroup",
@@ -151,7 +151,7 @@ const IWD_ONLY: [&str; 7] = [
 ];
 
 /// The keys of ConnMan's paper that are not taken here.
-const CONNMAN_ONLY: [&str; 8] = [
+pub const CONNMAN_ONLY: [&str; 8] = [
     "EAP",
     "CACertFile",
     "ClientCertFile",

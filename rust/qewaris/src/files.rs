@@ -28,10 +28,9 @@ pub struct IwdFile {
 
 impl fmt::Debug for IwdFile {
     fn fmt(&self, f: &mut fmt::Formatter<'_>) -> fmt::Result {
-        let file = Hidden(self.file.len());
         f.debug_struct("IwdFile")
             .field("name", &String::from_utf8_lossy(&self.name))
-            .field("file", &file)
+            .field("file", &Hidden)
             .finish()
     }
 }

@@ -26,6 +26,7 @@
 pub mod catalogue;
 pub mod diagnosis;
 mod files;
+pub mod hex;
 pub mod layout;
 mod messages;
 pub mod raw;
@@ -49,11 +50,11 @@ pub use strings::{
     global_description, global_name, iwd_domain_name, iwd_passphrase, service_domain, service_name, service_passphrase, Text,
 };
 
-/// A secret as `Debug` shows it: its length only.
-struct Hidden(usize);
+/// A secret as `Debug` shows it, without its length.
+struct Hidden;
 
 impl std::fmt::Debug for Hidden {
     fn fmt(&self, f: &mut std::fmt::Formatter<'_>) -> std::fmt::Result {
-        write!(f, "<{} bytes, not shown>", self.0)
+        f.write_str("<not shown>")
     }
 }

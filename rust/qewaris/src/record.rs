@@ -89,8 +89,8 @@ impl fmt::Debug for Credential {
     fn fmt(&self, f: &mut fmt::Formatter<'_>) -> fmt::Result {
         match self {
             Credential::None => f.write_str("None"),
-            Credential::Passphrase(bytes) => f.debug_tuple("Passphrase").field(&Hidden(bytes.len())).finish(),
-            Credential::Key(bytes) => f.debug_tuple("Key").field(&Hidden(bytes.len())).finish(),
+            Credential::Passphrase(_) => f.debug_tuple("Passphrase").field(&Hidden).finish(),
+            Credential::Key(_) => f.debug_tuple("Key").field(&Hidden).finish(),
         }
     }
 }

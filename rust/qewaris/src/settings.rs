@@ -35,7 +35,7 @@ pub struct IwdSecurity {
 
 impl fmt::Debug for IwdSecurity {
     fn fmt(&self, f: &mut fmt::Formatter<'_>) -> fmt::Result {
-        let key = self.pre_shared_key.map(|key| Hidden(key.len()));
+        let key = self.pre_shared_key.map(|_| Hidden);
         f.debug_struct("IwdSecurity")
             .field("passphrase_line", &self.passphrase_line)
             .field("pre_shared_key", &key)

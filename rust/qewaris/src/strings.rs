@@ -18,11 +18,10 @@ pub struct Text<'a> {
 
 impl fmt::Debug for Text<'_> {
     fn fmt(&self, f: &mut fmt::Formatter<'_>) -> fmt::Result {
-        let bytes = Hidden(self.bytes.len());
         f.debug_struct("Text")
             .field("line", &self.line)
             .field("start", &self.start)
-            .field("bytes", &bytes)
+            .field("bytes", &Hidden)
             .finish()
     }
 }

@@ -100,4 +100,13 @@ fn no_secret_is_shown() {
             "{text}"
         );
     }
+    let longer = String::from_utf8_lossy(SHOP).replace("tide 88", "tide 88 and 89");
+    for file in [SHOP, longer.as_bytes()] {
+        let passphrase = service_passphrase(b"shop.config", file, 1);
+        assert_eq!(
+            format!("{:?}", (service_record(b"shop.config", file, 1).unwrap().credential, passphrase)),
+            "(Passphrase(<not shown>), Ok(Some(Text { line: 4, start: 54, bytes: <not shown> })))",
+            "nor is its length"
+        );
+    }
 }

@@ -7,8 +7,9 @@ use std::os::unix::ffi::OsStrExt;
 pub fn mending(input: &Input, line: &[u8]) -> Option<String> {
     let file = quoted(input);
     let bytes = input.bytes.as_slice();
-    if bytes.starts_with(b"\xff\xfe") || bytes.starts_with(b"\xfe\xff") {
-        let command = format!("iconv -f UTF-16 -t UTF-8 {file} > new && cat new > {file}");
+    if let Some(encoding) = utf16(bytes) {
+        // Line ends are mended with it, and no copy is left that others could read.
+        let command = format!("text=$(iconv -f {encoding} -t UTF-8 {file}) && printf '%s\\n' \"$text\" | tr -d '\\r' > {file}");
         return Some(format!("The file is UTF-16, and this mends it: {command}"));
     }
     let (mark, returns) = ("begins with a byte order mark", "has Windows line ends");
@@ -21,6 +22,16 @@ pub fn mending(input: &Input, line: &[u8]) -> Option<String> {
         (false, false) => return None,
     };
     Some(format!("The file {found}, and this mends it: sed -i '{edit}' {file}"))
+}
+
+/// How text of two bytes for each letter is called: by its byte order mark, or by the zeros of its first two letters.
+fn utf16(bytes: &[u8]) -> Option<&'static str> {
+    match bytes {
+        [0xff, 0xfe, ..] | [0xfe, 0xff, ..] => Some("UTF-16"),
+        [1..=255, 0, 1..=255, 0, ..] => Some("UTF-16LE"),
+        [0, 1..=255, 0, 1..=255, ..] => Some("UTF-16BE"),
+        _ => None,
+    }
 }
 
 /// The path as a shell takes it; `FILE` where that cannot be printed plainly.

@@ -1,21 +1,32 @@
 //! The right name of a file whose name is refused.
 
-use crate::forms::hex;
+use crate::hex::{decoded, encoded};
 use crate::report::is_telling_name;
 use crate::visible::visible;
 
 /// The name that the file should have, where it can be told.
 pub fn right_name(name: &[u8]) -> Option<String> {
-    let dot = name.iter().rposition(|byte| *byte == b'.')?;
-    let (stem, suffix) = (&name[..dot], name[dot..].to_ascii_lowercase());
+    let (stem, suffix) = parts(name.trim_ascii_end())?;
+    // An editor on Windows puts .txt behind a name, and does not show it.
+    let (stem, suffix) = match suffix.as_slice() {
+        b".txt" => parts(stem)?,
+        _ => (stem, suffix),
+    };
     let right = match suffix.as_slice() {
-        b".config" => stem.iter().filter(|byte| byte.is_ascii_alphanumeric()).copied().collect(),
+        b".config" | b".conf" => stem.iter().filter(|byte| byte.is_ascii_alphanumeric()).copied().collect(),
         b".psk" | b".open" => iwd_stem(stem)?,
         _ => return None,
     };
-    let right = [right, suffix].concat();
+    let suffix = if suffix == b".conf" { &b".config"[..] } else { &suffix };
+    let right = [&right, suffix].concat();
     let is_right = right != name && !right.starts_with(b".") && !is_telling_name(&right);
     is_right.then(|| visible(&right))
+}
+
+/// A name in two parts, before its last dot and from there on; the second in lower case.
+fn parts(name: &[u8]) -> Option<(&[u8], Vec<u8>)> {
+    let dot = name.iter().rposition(|byte| *byte == b'.')?;
+    Some((&name[..dot], name[dot..].to_ascii_lowercase()))
 }
 
 /// The stem of a network's file: its name where that may stand plainly, else its hex.
@@ -28,15 +39,6 @@ fn iwd_stem(stem: &[u8]) -> Option<Vec<u8>> {
     Some(if is_plain {
         network
     } else {
-        format!("={}", hex(&network)).into_bytes()
+        format!("={}", encoded(&network)).into_bytes()
     })
-}
-
-/// The bytes of hex digits, in either case.
-fn decoded(digits: &[u8]) -> Option<Vec<u8>> {
-    let digit = |byte: u8| char::from(byte).to_digit(16).and_then(|digit| u8::try_from(digit).ok());
-    if digits.len() % 2 == 1 {
-        return None;
-    }
-    digits.chunks(2).map(|pair| Some(digit(pair[0])? * 16 + digit(pair[1])?)).collect()
 }

@@ -293,7 +293,10 @@ fn show(found: &Words) -> Result<Request, String> {
 
 fn list(found: &Words) -> Result<Request, String> {
     let html = found.value("--html")?.map(PathBuf::from);
-    if html.as_ref().is_some_and(|path| path.file_name().is_none()) {
+    if html
+        .as_ref()
+        .is_some_and(|path| path.file_name().is_none() || path.as_os_str().as_bytes().ends_with(b"/"))
+    {
         return Err("--html needs the name of a file".to_string());
     }
     Ok(Request::List(List {
@@ -319,7 +322,7 @@ fn move_request(found: &Words) -> Result<Request, String> {
         let path = PathBuf::from(last);
         if path.is_dir() || last.as_bytes().ends_with(b"/") {
             let folder = visible(last.as_bytes());
-            return Err(format!("{folder} is a folder; --to {folder} says that the iwd files go there"));
+            return Err(format!("{folder} names a folder; --to {folder} says that the iwd files go there"));
         }
     }
     let to = to.unwrap_or(OsStr::new("."));

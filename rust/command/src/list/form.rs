@@ -3,7 +3,7 @@
 use super::rows::{Moves, Rank, Row};
 use super::Listed;
 use crate::forms::{self, bytes_members, head, kind, path_members};
-use crate::json::{members, number, Json};
+use crate::json::{members, number, Json, Members};
 use crate::secrets::swallowed_secret;
 use crate::show::form::ipv4;
 use std::ffi::OsStr;
@@ -39,28 +39,30 @@ fn row(row: &Row) -> Json {
         network.filter(|network| swallowed_secret(network).is_none()),
     ));
     let record = row.record.as_ref();
-    let moves = match &row.moves {
-        Moves::Yes(_) => Json::Bool(true),
-        Moves::No => Json::Bool(false),
-        Moves::IsIwd | Moves::Unknown => Json::Null,
-    };
     found.extend(members([
         ("credential", Json::from(record.map(|record| record.credential.word()))),
         ("hidden", record.map_or(Json::Null, |record| Json::Bool(record.hidden))),
         ("ipv4", record.map_or(Json::Null, |record| ipv4(&record.ipv4))),
-        ("moves", moves),
     ]));
-    let name = match &row.moves {
-        Moves::Yes(name) => Some(Path::new(OsStr::from_bytes(name))),
-        _ => None,
-    };
-    found.extend(path_members("iwd_name", name));
+    found.extend(moves(&row.moves));
     found.extend(members([
         ("refusals", forms::refusals(&row.refusals)),
         ("warnings", Json::List(row.warnings.iter().map(forms::warning).collect())),
         ("remedy", Json::from(row.remedy.as_ref())),
     ]));
     Json::Object(found)
+}
+
+/// Whether it moves, and under which name.
+fn moves(moves: &Moves) -> Members {
+    let (does_move, name) = match moves {
+        Moves::Yes(name) => (Json::Bool(true), Some(Path::new(OsStr::from_bytes(name)))),
+        Moves::No => (Json::Bool(false), None),
+        Moves::IsIwd | Moves::Unknown => (Json::Null, None),
+    };
+    let mut found = members([("moves", does_move)]);
+    found.extend(path_members("iwd_name", name));
+    found
 }
 
 fn state(rank: Rank) -> &'static str {

@@ -10,7 +10,7 @@ use crate::arguments::{List, Warnings};
 use crate::items::{Item, Tally};
 use crate::output::Output;
 use crate::placing::{may_place, place, Failure, NewFile};
-use crate::report::shown_path;
+use crate::report::{shown_path, Told};
 use crate::walk;
 use crate::Outcome;
 use across::{across, Across};
@@ -36,6 +36,11 @@ impl Listed {
         }
         rows::sort(&mut rows);
         Listed { rows, across, tally }
+    }
+
+    /// What is told below the rows: their warnings as the other commands tell them, and every line that stands in the way of a move.
+    fn details(&self) -> Vec<Told<'_>> {
+        self.rows.iter().flat_map(Row::details).collect()
     }
 
     /// How many rows there are of each rank that there is.

@@ -5,7 +5,8 @@ use crate::catalogue::{counted, Dialect};
 use crate::diagnosis::{finding, Finding};
 use crate::input::Input;
 use crate::layout;
-use crate::report::{shown_path, HIDDEN};
+use crate::output::Style;
+use crate::report::{shown_path, Told, HIDDEN};
 use crate::secrets::swallowed_secret;
 use crate::services::Service;
 use crate::visible::visible;
@@ -159,6 +160,20 @@ impl Row {
         }
     }
 
+    /// Its warnings, and every line that stands in the way of its move.
+    pub fn details(&self) -> impl Iterator<Item = Told<'_>> {
+        let warnings = self.warnings.iter().map(|warning| Told::warning(&self.path, warning));
+        let in_the_way = self.refusals.iter().filter(|_| self.moves == Moves::No);
+        warnings.chain(in_the_way.map(|finding| Told {
+            path: &self.path,
+            line: finding.line,
+            style: Style::Warning,
+            label: "does not move:",
+            sentence: &finding.discreet,
+            name: finding.number.to_string(),
+        }))
+    }
+
     pub fn dialect(&self) -> Dialect {
         Dialect::of(self.path.as_os_str().as_encoded_bytes())
     }
@@ -173,14 +188,11 @@ pub fn rows(input: &Input, with_warnings: bool) -> Vec<Row> {
     let warnings = if with_warnings { found_in(input) } else { Vec::new() };
     match input.dialect() {
         Dialect::Iwd => vec![of_iwd(input, warnings)],
-        Dialect::Connman if counts.services == 0 => vec![Row {
-            rank: Rank::Unmovable,
+        Dialect::Connman if counts.services == 0 => vec![ranked(Row {
             moves: Moves::No,
-            ..Row::unreadable(
-                input.path.clone(),
-                "The file has no service; see whether it is the right one".to_string(),
-            )
-        }],
+            warnings,
+            ..Row::unreadable(input.path.clone(), String::new())
+        })],
         Dialect::Connman => {
             let services = (1..=counts.services).filter_map(|number| Service::of(input, number).ok());
             services

@@ -4,7 +4,6 @@ use super::rows::{Rank, Row};
 use super::Listed;
 use crate::catalogue::counted;
 use crate::output::{Output, Style};
-use crate::report::print_warning;
 use crate::visible::columns;
 use std::io;
 
@@ -42,20 +41,11 @@ pub fn print(listed: &Listed, output: &mut Output) -> io::Result<()> {
         };
         output.line(&format!("{state}{rest}"))?;
     }
-    print_warnings(listed, output)
-}
-
-/// The warnings of all rows, as the other commands tell them.
-fn print_warnings(listed: &Listed, output: &mut Output) -> io::Result<()> {
-    if listed.rows.iter().any(|row| !row.warnings.is_empty()) {
+    let details = listed.details();
+    if !details.is_empty() {
         output.line("")?;
     }
-    for row in &listed.rows {
-        row.warnings
-            .iter()
-            .try_for_each(|warning| print_warning(output, &row.path, warning))?;
-    }
-    Ok(())
+    details.iter().try_for_each(|told| told.print(output))
 }
 
 /// The lines that count.

@@ -14,7 +14,7 @@ use crate::services::Service;
 use crate::show::of_service;
 use crate::visible::visible;
 use crate::warnings::{found_in, Warning, Word};
-use qewaris::{check_connman, IwdFile};
+use qewaris::{check_connman, IwdFile, Refusal};
 use std::ffi::OsStr;
 use std::fs;
 use std::io;
@@ -90,19 +90,8 @@ impl Plan {
         let count = match check_connman(&input.name, &input.bytes) {
             Ok(counts) => counts.services,
             Err(refusal) => {
-                let subject = Subject {
-                    for_move: true,
-                    ..input.subject()
-                };
-                let found = finding(&subject, &refusal);
                 tally.refuse(&input.path);
-                if request.json {
-                    let state = State::Refused(&found, advice(input, &found));
-                    return output
-                        .line(&forms::file("move", &input.path, &state, &[]).to_string())
-                        .map(|()| None);
-                }
-                return print_refused(output, input, &found).map(|()| None);
+                return tell_refused(request, input, &refusal, output).map(|()| None);
             }
         };
         let Some(numbers) = numbers(&request.services, count) else {
@@ -164,12 +153,12 @@ impl Plan {
             let Some(first) = first else { continue };
             found = true;
             let of = |service: &Moved| format!("{}: [{}] on line {}", shown_path(&service.path), service.group, service.line);
-            let which = match first.path == later.path {
-                true => format!("{} and [{}] on line {}", of(first), later.group, later.line),
-                false => format!("{} and {}", of(first), of(later)),
+            let (second, remedy) = match first.path == later.path {
+                true => (format!("[{}] on line {}", later.group, later.line), "--service picks one of them"),
+                false => (of(later), "the files of two tills go into two folders"),
             };
             let name = shown_path(Path::new(OsStr::from_bytes(&later.iwd.name)));
-            output.error(&format!("{which} would both be {name}; each file is of one service"))?;
+            output.error(&format!("{} and {second} would both be {name}; {remedy}", of(first)))?;
         }
         Ok(found)
     }
@@ -241,6 +230,21 @@ fn numbers(services: &Services, count: usize) -> Option<Vec<Number>> {
     }
 }
 
+/// Tells why a whole file is refused.
+fn tell_refused(request: &Move, input: &Input, refusal: &Refusal, output: &mut Output) -> io::Result<()> {
+    let subject = Subject {
+        for_move: true,
+        ..input.subject()
+    };
+    let found = finding(&subject, refusal);
+    if !request.json {
+        return print_refused(output, input, &found);
+    }
+    let state = State::Refused(&found, advice(input, &found));
+    output.line(&forms::file("move", &input.path, &state, &[]).to_string())
+}
+
+/// Tells of a service that stays, with every line that stands in the way.
 fn tell(request: &Move, service: Option<&Staying>, label: &str, output: &mut Output) -> io::Result<()> {
     let Some(service) = service.filter(|_| !request.json) else {
         return Ok(());

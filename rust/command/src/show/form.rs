@@ -4,7 +4,8 @@ use super::settings::Group;
 use super::value::Hiding;
 use super::{Shown, ShownService};
 use crate::catalogue::Dialect;
-use crate::forms::{self, bytes_members, hex, path_members, Contents, State};
+use crate::forms::{self, bytes_members, path_members, Contents, State};
+use crate::hex::encoded;
 use crate::json::{members, Json};
 use qewaris::{Credential, Ipv4, JoinRecord};
 use std::ffi::OsStr;
@@ -63,7 +64,7 @@ fn record(record: &JoinRecord, hiding: &Hiding) -> Json {
     let credential = record.credential.word();
     let (passphrase, key) = match &record.credential {
         Credential::Passphrase(passphrase) => (Some(passphrase.clone()), None),
-        Credential::Key(key) => (None, Some(hex(key).into_bytes())),
+        Credential::Key(key) => (None, Some(encoded(key).into_bytes())),
         _ => (None, None),
     };
     let is_hidden = hiding.hides(&record.name);

@@ -1,7 +1,7 @@
 //! The typed settings of the library as rows of key and value, by group.
 
 use super::value::Value;
-use crate::forms::hex;
+use crate::hex::encoded;
 use qewaris::{Ipv4, Ipv6Method, Privacy, Refusal, Security, ServiceType, Text};
 use std::net::Ipv4Addr;
 
@@ -22,7 +22,7 @@ pub fn iwd(name: &[u8], file: &[u8]) -> Result<Vec<Group>, Refusal> {
         ("AlwaysRandomizeAddress", Value::Flag(found.general.always_randomize_address)),
         ("AddressOverride", Value::Plain(found.general.address_override.map(mac))),
     ];
-    let key = found.security.pre_shared_key.map(|key| hex(&key).into_bytes());
+    let key = found.security.pre_shared_key.map(|key| encoded(&key).into_bytes());
     let security = vec![("Passphrase", Value::Secret(passphrase)), ("PreSharedKey", Value::Secret(key))];
     let ipv4 = vec![
         ("Address", address(found.ipv4.address)),

@@ -4,7 +4,7 @@ use super::settings::Group;
 use super::value::Hiding;
 use super::{Shown, ShownService};
 use crate::catalogue::{counted, Dialect};
-use crate::forms::hex;
+use crate::hex::encoded;
 use crate::output::{Output, Style};
 use crate::report::shown_path;
 use qewaris::{Credential, Ipv4, JoinRecord};
@@ -74,7 +74,7 @@ fn print_record(record: &JoinRecord, hiding: &Hiding, output: &mut Output) -> io
     let mut rows = vec![("network name", hiding.name(&record.name))];
     match &record.credential {
         Credential::Passphrase(passphrase) => rows.push(("passphrase", hiding.secret(passphrase))),
-        Credential::Key(key) => rows.push(("key", hiding.secret(hex(key).as_bytes()))),
+        Credential::Key(key) => rows.push(("key", hiding.secret(encoded(key).as_bytes()))),
         Credential::None => rows.push(("credential", "none, the network is open".to_string())),
         other => rows.push(("credential", other.word().to_string())),
     }

@@ -1,6 +1,6 @@
 //! A setting's value as it is shown: in a table, in JSON, and hidden where it is a secret.
 
-use crate::forms::hex;
+use crate::hex::encoded;
 use crate::json::{members, Json, Members};
 use crate::report::HIDDEN;
 use crate::secrets::{mark, swallowed_secret};
@@ -39,7 +39,7 @@ impl Value {
             Value::Text(text) => text.as_ref().map(|text| hiding.text(text)),
             Value::Name(name) => name.as_deref().map(|name| hiding.name(name)),
             Value::Hex(name) if name.as_deref().is_some_and(|name| hiding.hides(name)) => Some(HIDDEN.to_string()),
-            Value::Hex(name) => name.as_deref().map(hex),
+            Value::Hex(name) => name.as_deref().map(encoded),
             Value::Texts(texts) => {
                 let texts: Vec<String> = texts.iter().map(|text| hiding.text(text)).collect();
                 (!texts.is_empty()).then(|| texts.join(", "))
@@ -57,7 +57,7 @@ impl Value {
             Value::List(items) => Json::List(items.iter().map(Json::text).collect()),
             Value::Text(text) => Json::from(text.as_ref().map(|text| hiding.masked(text))),
             Value::Name(name) => Json::from(name.as_deref().filter(|name| !hiding.hides(name)).map(String::from_utf8_lossy)),
-            Value::Hex(name) => Json::from(name.as_deref().filter(|name| !hiding.hides(name)).map(hex)),
+            Value::Hex(name) => Json::from(name.as_deref().filter(|name| !hiding.hides(name)).map(encoded)),
             Value::Texts(texts) if texts.is_empty() => Json::Null,
             Value::Texts(texts) => Json::List(texts.iter().map(|text| Json::text(hiding.masked(text))).collect()),
             Value::Secret(secret) => return hiding.secret_members(key, secret.as_deref()),

@@ -10,6 +10,9 @@ use qewaris::{Credential, Ipv4, JoinRecord};
 pub fn warnings(name: &[u8], file: &[u8]) -> Vec<Warning> {
     let sections = sections(Dialect::Connman, file);
     let mut found = Vec::new();
+    if layout::services(file).is_empty() {
+        found.push(Warning::new(Word::NoService, None, &[]));
+    }
     let mut number = 0;
     for (place, section) in sections.iter().enumerate() {
         if section.name == b"global" {

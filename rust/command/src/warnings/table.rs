@@ -60,6 +60,12 @@ table! {
         source "libell and GLib both pass over a line that starts with #."
         remedy "Take the # away, or the whole line if the network has no key."
         example Some(("Desk.open", b"[Security]\n#Passphrase=low tide 88\n"));
+    NoService "no-service" "a ConnMan file has no service"
+        sentence "The file has no service, and a till gets no network from it; see whether it was cut short"
+        meaning "A ConnMan file without a service is good and says nothing. A copy that was broken off leaves such a file, often of no bytes."
+        source "connman-service.config: a network is a group service_*, and a file may have none."
+        remedy "See whether it is the right file, and copy it again."
+        example Some(("shop.config", b""));
     BothKeys "both-keys" "an iwd file has a passphrase and a key"
         sentence "Passphrase and PreSharedKey are both given; the passphrase counts by the papers, and on a WPA2 network iwd takes the key"
         meaning "If the two do not belong together, the till joins with one where the other is meant."

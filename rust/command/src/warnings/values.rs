@@ -1,28 +1,29 @@
 //! What can be said of a single value, in either dialect.
 
 use super::{Warning, Word};
-use crate::catalogue::{Dialect, Keys, Kind};
+use crate::catalogue::{kind_in, Dialect, Keys, Kind};
 use crate::layout::{self, is_blank, Form, Section, Setting};
-use crate::secrets::swallowed;
+use crate::secrets::{swallowed, swallowed_secret};
 use crate::visible::visible;
 
 /// The warnings about the texts of a group.
 pub fn warnings(keys: Keys, section: &Section<'_>) -> Vec<Warning> {
-    let is_text = |setting: &&Setting<'_>| {
-        let kind = keys.iter().find(|(key, _)| key.as_bytes() == setting.key).map(|(_, kind)| *kind);
-        kind.is_some_and(|kind| kind.lengths().is_some() || kind == Kind::Entries)
-    };
-    let texts = section.settings.iter().filter(is_text);
+    let kind = |setting: &Setting<'_>| kind_in(keys, setting.key);
+    let is_text = |kind: Kind| kind.lengths().is_some() || kind == Kind::Entries;
+    let texts = section
+        .settings
+        .iter()
+        .filter_map(|setting| Some((setting, kind(setting).filter(|kind| is_text(*kind))?)));
     // The texts of `global` describe the file, and no till reads them.
     let is_read = section.name != b"global";
-    texts.filter_map(|setting| about(setting, is_read)).collect()
+    texts.filter_map(|(setting, kind)| about(setting, kind, is_read)).collect()
 }
 
 /// The first of the things that can be wrong with a text.
-fn about(setting: &Setting<'_>, is_read: bool) -> Option<Warning> {
+fn about(setting: &Setting<'_>, kind: Kind, is_read: bool) -> Option<Warning> {
     let key = ("key", visible(setting.key));
     let warning = |word, parts: &[(&str, String)]| Some(Warning::new(word, Some(setting.line), parts));
-    if let Some(inner) = swallowed(setting.value) {
+    if let Some(inner) = swallowed_in(setting.value, kind) {
         return warning(Word::SwallowedLine, &[key, ("found", inner.to_string())]);
     }
     if !is_read {
@@ -33,6 +34,13 @@ fn about(setting: &Setting<'_>, is_read: bool) -> Option<Warning> {
     }
     let mark = comment_mark(setting.value)?;
     warning(Word::CommentBehindValue, &[key, ("found", mark.to_string())])
+}
+
+/// What of the next line a text seems to have swallowed. What is hidden for it is told; a passphrase is hidden anyway, and may say
+/// what it likes beside the listed keys.
+fn swallowed_in(value: &[u8], kind: Kind) -> Option<&'static str> {
+    let is_telling = kind != Kind::Passphrase && swallowed_secret(value).is_some();
+    swallowed(value).or(is_telling.then_some("a word for a passphrase"))
 }
 
 fn is_quoted(value: &[u8]) -> bool {

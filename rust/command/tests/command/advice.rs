@@ -12,6 +12,9 @@ const CASES: &[(&str, &[u8], &str)] = &[
     ("Desk 4.PSK", b"", "The right name is Desk 4.psk"),
     ("Caf\u{e9}.Open", b"", "The right name is =436166c3a9.open"),
     ("till-4 left.config", b"", "The right name is till4left.config"),
+    ("till-4.conf", b"", "The right name is till4.config"),
+    ("Caf\u{e9}.psk.txt", b"", "The right name is =436166c3a9.psk"),
+    ("Desk 4.psk ", b"", "The right name is Desk 4.psk"),
     (
         "a.config",
         b"[service_a]\nType = wifi\nName = Desk\nPasphrase = low tide 88\n",
@@ -45,7 +48,12 @@ const CASES: &[(&str, &[u8], &str)] = &[
     (
         "a.psk",
         b"\xff\xfe[\0S\0",
-        "The file is UTF-16, and this mends it: iconv -f UTF-16 -t UTF-8 a.psk > new && cat new > a.psk",
+        "The file is UTF-16, and this mends it: text=$(iconv -f UTF-16 -t UTF-8 a.psk) && printf '%s\\n' \"$text\" | tr -d '\\r' > a.psk",
+    ),
+    (
+        "a b.psk",
+        b"[\0S\0",
+        "The file is UTF-16, and this mends it: text=$(iconv -f UTF-16LE -t UTF-8 'a b.psk') && printf '%s\\n' \"$text\" | tr -d '\\r' > 'a b.psk'",
     ),
 ];
 
@@ -64,18 +72,28 @@ fn a_refusal_comes_with_what_to_do() {
 }
 
 #[test]
+fn a_name_that_could_be_any_is_told_without_a_right_one() {
+    let folder = Folder::new("no-advice");
+    for name in ["notes.txt", "notes", ".psk", "Desk.psk.bak", "office.8021x"] {
+        folder.write(name, "");
+        let run = folder.run(&["check", name]);
+        assert_eq!((run.code, run.out.lines().count()), (Some(1), 1), "{}", run.out);
+    }
+}
+
+#[test]
 fn the_commands_mend_the_files() {
     let folder = Folder::new("mend");
-    let utf16: Vec<u8> = [0xff, 0xfe]
-        .into_iter()
-        .chain(DESK.encode_utf16().flat_map(u16::to_le_bytes))
-        .collect();
     let windows = SHOP.replace('\n', "\r\n");
-    let files: [(&str, Vec<u8>); 4] = [
+    let wide = |text: &str, bytes: fn(u16) -> [u8; 2]| -> Vec<u8> { text.encode_utf16().flat_map(bytes).collect() };
+    let files: [(&str, Vec<u8>); 7] = [
         ("shop.config", windows.clone().into_bytes()),
         ("both.config", format!("\u{feff}{windows}").into_bytes()),
         ("Desk mark.psk", format!("\u{feff}{DESK}").into_bytes()),
-        ("Desk wide.psk", utf16),
+        ("Desk wide.psk", wide(&format!("\u{feff}{DESK}"), u16::to_le_bytes)),
+        ("wide.config", wide(&format!("\u{feff}{windows}"), u16::to_be_bytes)),
+        ("little.config", wide(&windows, u16::to_le_bytes)),
+        ("big.config", wide(SHOP, u16::to_be_bytes)),
     ];
     for (name, file) in files {
         folder.write(name, file);
@@ -85,6 +103,7 @@ fn the_commands_mend_the_files() {
         assert!(done.unwrap().success(), "{mending}");
         folder.run(&["check", name]).gives(0, "", "");
     }
+    assert_eq!(folder.names().len(), 7, "no copy is left: {:?}", folder.names());
 }
 
 #[test]

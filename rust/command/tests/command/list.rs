@@ -33,30 +33,31 @@ fn the_worst_stand_first_and_each_says_what_to_do() {
     folder.write("a/silent.config", "[service_a]\nType = wifi\nName = Silent\n");
     let run = folder.run(&["list", "a", "gone.psk"]);
     assert_eq!(run.code, Some(2));
+    let counts = "6 files: 4 good, 1 refused, 1 unreadable, 0 skipped\n\
+                  6 rows: 1 OPEN by silence, 1 refused, 1 unreadable, 1 with a warning, 1 not to be moved, 1 good\n";
+    assert!(run.out.starts_with(counts), "{}", run.out);
     let behind = run.out.lines().skip_while(|line| !line.starts_with("STATE")).skip(1);
     let rows: Vec<&str> = behind.take_while(|line| !line.is_empty()).collect();
     let starts = [
         "OPEN by silence  a/silent.config",
         "refused          a/bad.psk",
         "unreadable       gone.psk",
-    ];
-    let ends = [
         "warning          a/quotes.psk",
         "does not move    a/mac.config",
         "good             a/a good.psk",
     ];
     assert_eq!(rows.len(), 6, "{}", run.out);
-    for (row, start) in rows.iter().zip(starts.iter().chain(&ends)) {
+    for (row, start) in rows.iter().zip(starts) {
         assert!(row.starts_with(start), "{row} and not {start}");
     }
-    assert!(
-        run.out.starts_with("6 files: 4 good, 1 refused, 1 unreadable, 0 skipped\n"),
-        "{}",
-        run.out
-    );
-    assert!(run
-        .out
-        .contains("6 rows: 1 OPEN by silence, 1 refused, 1 unreadable, 1 with a warning, 1 not to be moved, 1 good\n"));
+}
+
+#[test]
+fn warnings_of_a_list_are_told_in_full_and_counted_where_asked() {
+    let folder = Folder::new("list-warnings");
+    folder.write("a/a good.psk", DESK);
+    folder.write("a/quotes.psk", "[Security]\nPassphrase='low tide 88'\n");
+    let run = folder.run(&["list", "a"]);
     let warning =
         "\na/quotes.psk:2: warning: Passphrase stands in quotation marks, which count as a part of it; a value needs none [quoted-value]\n";
     assert!(run.out.contains(warning), "{}", run.out);
@@ -64,6 +65,29 @@ fn the_worst_stand_first_and_each_says_what_to_do() {
     assert_eq!(folder.run(&["list", "a/quotes.psk"]).code, Some(0));
     assert_eq!(folder.run(&["list", "--strict", "a/quotes.psk"]).code, Some(1));
     assert!(folder.run(&["list", "--no-warnings", "a/quotes.psk"]).out.contains("\ngood "));
+}
+
+#[test]
+fn every_line_in_the_way_of_a_move_is_told_below_the_rows_and_on_the_page() {
+    let folder = Folder::new("in-the-way");
+    let file = "[service_a]\nType = wifi\nName = \"Desk\"\nPassphrase = low tide 88\nMAC = 02:00:5e:10:00:01\nTimeservers = <b>.example\n";
+    folder.write("a.config", file);
+    let told = [
+        "a.config:3: warning: Name stands in quotation marks, which count as a part of it; a value needs none [quoted-value]",
+        "a.config:5: does not move: [service_a] has MAC, which picks an interface and has no place in iwd; a service without it moves [16]",
+        "a.config:6: does not move: [service_a] has Timeservers, which has no place in iwd; a service without it moves [16]",
+    ];
+    let run = folder.run(&["list", "a.config"]);
+    assert!(run.out.ends_with(&format!("\n\n{}\n", told.join("\n"))), "{}", run.out);
+    let run = folder.run(&["list", "--no-warnings", "a.config"]);
+    assert!(run.out.ends_with(&format!("\n\n{}\n", told[1..].join("\n"))), "{}", run.out);
+    folder.run(&["list", "a.config", "--html", "page.html"]);
+    let page = String::from_utf8(folder.read("page.html")).unwrap();
+    for line in told {
+        let (place, text) = line.split_once(' ').unwrap();
+        let item = format!("<li><strong>{place}</strong> {text}</li>\n");
+        assert!(page.contains(&item), "{item}{page}");
+    }
 }
 
 /// A ConnMan file of the network `Quay`, with this passphrase and address.
@@ -160,4 +184,30 @@ fn the_page_stands_by_itself_and_is_for_its_owner() {
     let told = "qewaris: gone cannot be written: there is no such file or folder\n";
     folder.run(&["list", ".", "--html", "gone/tills.html"]).gives(2, "", told);
     assert_eq!(names_in(folder.path()), ["<b>&\"'", "tills.html"]);
+}
+
+#[test]
+fn the_title_of_the_page_names_the_first_of_many_and_a_page_without_rows_has_no_table() {
+    let folder = Folder::new("titles");
+    for name in ["a", "b", "c", "d", "e"] {
+        folder.write(format!("{name}.open"), "");
+    }
+    folder.run(&["list", "a.open", "b.open", "c.open", "d.open", "e.open", "--html", "page.html"]);
+    let page = String::from_utf8(folder.read("page.html")).unwrap();
+    assert!(
+        page.contains("<h1>Network files of a.open, b.open, c.open and 2 more</h1>\n"),
+        "{page}"
+    );
+    std::fs::create_dir(folder.path().join("stick")).unwrap();
+    let run = folder.run(&["list", "stick", "--html", "empty.html"]);
+    assert_eq!(run.code, Some(2));
+    let page = String::from_utf8(folder.read("empty.html")).unwrap();
+    assert!(
+        page.contains("<h1>Network files of stick</h1>\n") && !page.contains("<table>"),
+        "{page}"
+    );
+    assert!(
+        page.contains("<li>stick: There is no iwd or ConnMan file in it; is a stick not mounted?</li>"),
+        "{page}"
+    );
 }

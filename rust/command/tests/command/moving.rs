@@ -121,7 +121,7 @@ fn two_services_of_one_file_name_are_an_error() {
         "two.config",
         TWO.replace("Right\nSecurity = none", "Left\nPassphrase = high tide 99"),
     );
-    let told = "qewaris: two.config: [service_a] on line 1 and [service_b] on line 5 would both be Left.psk; each file is of one service\n\
+    let told = "qewaris: two.config: [service_a] on line 1 and [service_b] on line 5 would both be Left.psk; --service picks one of them\n\
                 qewaris: nothing was written\n";
     folder.run(&["move", "two.config", "--all", "--force"]).gives(1, "", told);
     assert_eq!(folder.names(), ["two.config"]);

@@ -59,7 +59,7 @@ fn two_files_of_one_network_clash() {
     folder.write("a.config", till("Left"));
     folder.write("b.config", till("Left"));
     let told = "qewaris: a.config: [service_till] on line 1 and b.config: [service_till] on line 1 would both be Left.psk; \
-                each file is of one service\nqewaris: nothing was written\n";
+                the files of two tills go into two folders\nqewaris: nothing was written\n";
     folder.run(&["move", "a.config", "b.config", "--to", "."]).gives(1, "", told);
     folder
         .run(&["move", "a.config", "./a.config", "--to", "."])
@@ -130,7 +130,7 @@ fn the_folder_in_last_place_is_answered_with_to() {
     folder.write("a.config", till("Left"));
     folder.write("out/note", "");
     for (last, told) in [("out/", "out/"), ("out", "out"), ("gone/", "gone/")] {
-        let sentence = format!("{told} is a folder; --to {told} says that the iwd files go there. Try qewaris move --help");
+        let sentence = format!("{told} names a folder; --to {told} says that the iwd files go there. Try qewaris move --help");
         folder
             .run(&["move", "a.config", last])
             .gives(3, "", &format!("qewaris: {sentence}\n"));

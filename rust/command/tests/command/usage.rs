@@ -102,6 +102,10 @@ const WRONG: &[(&[&str], &str)] = &[
         &["move", "shop.config", "--to=a", "--to=b"],
         "--to is given twice. Try qewaris move --help",
     ),
+    (
+        &["list", "shop.config", "--html", "page/"],
+        "--html needs the name of a file. Try qewaris list --help",
+    ),
     (&["move", "shop.config", "--to="], "--to needs a folder. Try qewaris move --help"),
     (
         &["explain", "0"],
@@ -155,7 +159,7 @@ fn every_refusal_is_explained() {
         assert!(run.out.contains(&format!(" [{number}]\n")), "the example earns it: {}", run.out);
     }
     let run = folder.run(&["explain"]);
-    assert_eq!((run.code, run.out.lines().count()), (Some(0), 19 + 17));
+    assert_eq!((run.code, run.out.lines().count()), (Some(0), 19 + 18));
 }
 
 #[test]

@@ -19,7 +19,14 @@ fn case(name: &'static str, file: impl ToString, told: &'static [&'static str]) 
 
 /// Each warning of one file, and beside it the file that earns none.
 fn cases() -> Vec<Case> {
-    let key = "0".repeat(64);
+    [of_services(), of_lost_lines(), of_texts(), of_iwd_settings(), of_odd_letters()]
+        .into_iter()
+        .flatten()
+        .collect()
+}
+
+/// Of services that say nothing, and files that have none.
+fn of_services() -> Vec<Case> {
     vec![
         case(
             "a.config",
@@ -32,14 +39,61 @@ fn cases() -> Vec<Case> {
         case("a.config", TILL, &[]),
         case(
             "a.config",
+            "",
+            &[" warning: The file has no service, and a till gets no network from it; see whether it was cut short [no-service]"],
+        ),
+        case(
+            "a.config",
+            "[global]\nDescription = Till Hidden=true\n",
+            &[
+                " warning: The file has no service, and a till gets no network from it; see whether it was cut short [no-service]",
+                "2: warning: Description has Hidden and an equal sign in it, and seems to have swallowed the next line; each setting stands on a line of its own [swallowed-line]",
+            ],
+        ),
+    ]
+}
+
+/// Of lines that were swallowed or commented out.
+fn of_lost_lines() -> Vec<Case> {
+    vec![
+        case(
+            "a.config",
             "[service_a]\nType = wifi\nName = Desk 4 Passphrase = lowtide8\nSecurity = none\n",
             &["3: warning: Name has Passphrase and an equal sign in it, and seems to have swallowed the next line; each setting stands on a line of its own [swallowed-line]"],
         ),
         case(
             "a.config",
+            "[service_a]\nType = wifi\nName = Desk 4 Pasphrase = lowtide8\nSecurity = none\n",
+            &["3: warning: Name has a word for a passphrase and an equal sign in it, and seems to have swallowed the next line; each setting stands on a line of its own [swallowed-line]"],
+        ),
+        case("a.config", TILL.replace("low tide 88", "my key=tide 88"), &[]),
+        case(
+            "a.config",
             format!("[global]\nDescription = Till Hidden=true\n{TILL}"),
             &["2: warning: Description has Hidden and an equal sign in it, and seems to have swallowed the next line; each setting stands on a line of its own [swallowed-line]"],
         ),
+        case(
+            "Desk.open",
+            "[Security]\n # Passphrase = low tide 88\n",
+            &["2: warning: The line is a Passphrase that is commented out, and the network is without a key; take the # away if it has one [commented-out-passphrase]"],
+        ),
+        case(
+            "a.config",
+            format!("{TILL}[service_b]\nType = wifi\nName = Left\nSecurity = none\n#Passphrase=low tide 88\n"),
+            &["9: warning: The line is a Passphrase that is commented out, and the network is without a key; take the # away if it has one [commented-out-passphrase]"],
+        ),
+        case(
+            "a.config",
+            "## passphrase=low tide 88\n[service_a]\nType = wifi\nName = Desk\nSecurity = none\n",
+            &["1: warning: The line is a Passphrase that is commented out, and the network is without a key; take the # away if it has one [commented-out-passphrase]"],
+        ),
+        case("a.config", format!("{TILL}# Passphrase = low tide 88\n# Hidden = true\n"), &[]),
+    ]
+}
+
+/// Of marks and blanks around a text.
+fn of_texts() -> Vec<Case> {
+    vec![
         case(
             "Desk.psk",
             "[Security]\nPassphrase=\"low tide 88\"\n",
@@ -63,21 +117,18 @@ fn cases() -> Vec<Case> {
         ),
         case("Desk.psk", "[Security]\nPassphrase=low#tide;88\n", &[]),
         case(
-            "Desk.open",
-            "[Security]\n # Passphrase = low tide 88\n",
-            &["2: warning: The line is a Passphrase that is commented out, and the network is without a key; take the # away if it has one [commented-out-passphrase]"],
-        ),
-        case(
             "a.config",
-            format!("{TILL}[service_b]\nType = wifi\nName = Left\nSecurity = none\n#Passphrase=low tide 88\n"),
-            &["9: warning: The line is a Passphrase that is commented out, and the network is without a key; take the # away if it has one [commented-out-passphrase]"],
+            TILL.replace("88", "88 \t"),
+            &["4: warning: Passphrase has blanks at its end; ConnMan counts them, and the papers and the move do not [trailing-blanks]"],
         ),
-        case(
-            "a.config",
-            "## passphrase=low tide 88\n[service_a]\nType = wifi\nName = Desk\nSecurity = none\n",
-            &["1: warning: The line is a Passphrase that is commented out, and the network is without a key; take the # away if it has one [commented-out-passphrase]"],
-        ),
-        case("a.config", format!("{TILL}# Passphrase = low tide 88\n# Hidden = true\n"), &[]),
+        case("a.config", TILL.replace("Desk 4", "Desk 4 "), &[]),
+    ]
+}
+
+/// Of settings that iwd takes otherwise.
+fn of_iwd_settings() -> Vec<Case> {
+    let key = "0".repeat(64);
+    vec![
         case(
             "Desk.psk",
             format!("[Security]\nPassphrase=low tide 88\nPreSharedKey={key}\n"),
@@ -101,6 +152,17 @@ fn cases() -> Vec<Case> {
         ),
         case("Desk.open", "[IPv4]\nDNS=10.0.0.2 10.0.0.3\n", &[]),
         case(
+            "Desk.open",
+            "[IPv4]\nDomainName=shop.example\n",
+            &["2: warning: DomainName is never read by iwd 2.3; nothing comes of it [domain-unread]"],
+        ),
+    ]
+}
+
+/// Of names and texts that iwd does not take.
+fn of_odd_letters() -> Vec<Case> {
+    vec![
+        case(
             "=436166e9.open",
             "",
             &[" warning: The network name is not UTF-8; iwd passes over such a file without a word [name-not-utf8]"],
@@ -117,17 +179,6 @@ fn cases() -> Vec<Case> {
             &[" warning: The network name has a Unicode noncharacter in it; iwd refuses the whole file [noncharacter]"],
         ),
         case("Desk.psk", "# \u{fffe}\n[Security]\nPassphrase=low tide \u{fffd}\n", &[]),
-        case(
-            "Desk.open",
-            "[IPv4]\nDomainName=shop.example\n",
-            &["2: warning: DomainName is never read by iwd 2.3; nothing comes of it [domain-unread]"],
-        ),
-        case(
-            "a.config",
-            TILL.replace("88", "88 \t"),
-            &["4: warning: Passphrase has blanks at its end; ConnMan counts them, and the papers and the move do not [trailing-blanks]"],
-        ),
-        case("a.config", TILL.replace("Desk 4", "Desk 4 "), &[]),
     ]
 }
 
@@ -155,7 +206,8 @@ fn every_word_is_earned_and_explained() {
     let folder = Folder::new("words");
     let listed = folder.run(&["explain"]).out;
     let words: Vec<&str> = listed.lines().skip(19).filter_map(|line| line.split_whitespace().next()).collect();
-    assert_eq!(words.len(), 17, "{listed}");
+    assert_eq!(words.len(), 18, "{listed}");
+    let page = include_str!("../../../../man/qewaris.1").replace("\\-", "-");
     let told: Vec<String> = cases().iter().flat_map(|case| case.told).map(|told| told.to_string()).collect();
     let elsewhere = ["both-suffixes", "readable-by-others", "two-keys", "one-address", "empty-folder"];
     for word in words {
@@ -164,6 +216,7 @@ fn every_word_is_earned_and_explained() {
         let run = folder.run(&["explain", word]);
         assert_eq!((run.code, run.err.as_str()), (Some(0), ""));
         assert!(run.out.starts_with(&format!("{word}: ")), "{}", run.out);
+        assert!(page.contains(&format!("\n.TP\n.B {word}\n")), "the man page has no {word}");
         for heading in ["\nWhat to do\n", "\nWhere this comes from\n"] {
             assert!(run.out.contains(heading), "{}", run.out);
         }

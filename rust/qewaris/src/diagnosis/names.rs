@@ -1,6 +1,7 @@
 //! Refusal 2: what is wrong with a file name.
 
 use super::{called, Diagnosis, Subject};
+use crate::hex::decoded;
 use crate::messages::Message;
 use crate::visible::{quoted, visible};
 
@@ -81,9 +82,7 @@ fn encoded(hex: &[u8], suffix: &str) -> Option<Diagnosis> {
     if hex.len() % 2 == 1 {
         return Some(Diagnosis::new(Message::NameHexCount).with("found", hex.len()));
     }
-    let digit = |byte: u8| char::from(byte).to_digit(16).and_then(|digit| u8::try_from(digit).ok());
-    let network: Option<Vec<u8>> = hex.chunks(2).map(|pair| Some(digit(pair[0])? * 16 + digit(pair[1])?)).collect();
-    let network = network?;
+    let network = decoded(hex)?;
     length(&network, suffix).or_else(|| {
         let plainly = [&network, suffix.as_bytes()].concat();
         let found = Diagnosis::new(Message::NameHexPlain).with("found", quoted(&network));

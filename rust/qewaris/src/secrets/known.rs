@@ -2,6 +2,7 @@
 
 use super::words::{is_telling_key, leading_word, mentions_secret};
 use crate::catalogue::{all_keys, kind_anywhere, Kind};
+use crate::hex::encoded;
 use crate::layout::{is_blank, lines, trimmed};
 
 /// A text that is shorter is not looked for elsewhere: it would be found in any word.
@@ -77,7 +78,7 @@ fn equals(text: &[u8]) -> impl Iterator<Item = usize> + '_ {
 /// A text as it may stand elsewhere: in either case, with escapes and without, and in hex.
 fn forms(text: &[u8]) -> Vec<Vec<u8>> {
     let plain = unescaped(text);
-    let hex: String = plain.iter().map(|byte| format!("{byte:02x}")).collect();
+    let hex = encoded(&plain);
     let all = [
         text.to_vec(),
         text.to_ascii_lowercase(),

@@ -1,15 +1,9 @@
 //! The words by which a line is known: keys, groups, and what tells of a secret.
 
-use crate::catalogue::{all_keys, IWD};
+use crate::catalogue::{all_keys, CONNMAN_ONLY, IWD, IWD_ONLY};
 
-/// Keys that the daemons have and the library does not take.
-const OTHER_KEYS: [&str; 29] = [
-    "TransitionDisable",
-    "DisabledTransitionModes",
-    "UseDefaultEccGroup",
-    "PasswordIdentifier",
-    "EncryptedSalt",
-    "EncryptedSecurity",
+/// Further keys by which a secret is known: those of extended logins, what iwd writes by itself, and what other programs have.
+const OTHER_KEYS: [&str; 14] = [
     "SAE-PT-Group19",
     "SAE-PT-Group20",
     "EAP-Method",
@@ -19,16 +13,7 @@ const OTHER_KEYS: [&str; 29] = [
     "EAP-TLS-ClientCert",
     "EAP-TLS-ClientKey",
     "EAP-TLS-ClientKeyPassphrase",
-    "MulticastDNS",
-    "EAP",
-    "CACertFile",
-    "ClientCertFile",
-    "PrivateKeyFile",
-    "PrivateKeyPassphrase",
-    "PrivateKeyPassphraseType",
-    "Identity",
     "AnonymousIdentity",
-    "Phase2",
     "Password",
     "PSK",
     "Key",
@@ -86,7 +71,7 @@ pub fn is_near_key(bytes: &[u8]) -> bool {
 }
 
 fn keys() -> impl Iterator<Item = &'static str> {
-    all_keys().map(|(key, _)| key).chain(OTHER_KEYS)
+    all_keys().map(|(key, _)| key).chain(IWD_ONLY).chain(CONNMAN_ONLY).chain(OTHER_KEYS)
 }
 
 /// Whether a word is a group's name or nearly one.

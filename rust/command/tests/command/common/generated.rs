@@ -12,9 +12,9 @@ pub struct Generated {
 }
 
 impl Generated {
-    /// The same file with a longer passphrase.
+    /// The same file with a longer passphrase. No word that tells of a secret has a z, so the new letters make none.
     pub fn lengthened(&self) -> Vec<u8> {
-        let (core, longer) = (self.core.as_bytes(), format!("{}kz", self.core));
+        let (core, longer) = (self.core.as_bytes(), format!("{}zz", self.core));
         let mut found = Vec::new();
         let mut rest = self.file.as_slice();
         while let Some(place) = rest.windows(core.len()).position(|window| window == core) {
