@@ -21,30 +21,30 @@ use Rattle.rules.specs.declared.Reading.{Reading}
 use Rattle.rules.specs.declared.Reading.the-variants.{Accepted, Refused}
 use Rattle.rules.specs.declared.Refusal.{Refusal}
 use Rattle.rules.specs.declared.Refusal.the-variants.{Size, FileName}
-use Rattle.reader.specs.Holds.{Holds}
+use Rattle.reader.specs.Holds.{HoldsGroups}
 use Rattle.reader.specs.Steps.{Known}
-use Rattle.reader.specs.Ending.{kindOfName, dialectOf, Ends}
+use Rattle.reader.specs.Ending.{kindOfName, nameDialect, EndSays}
 use Rattle.reader.specs.declared.FileKind.{FileKind}
 use Rattle.reader.specs.declared.FileKind.the-variants as K
 use Rattle.reader.specs.declared.State.{State}
 use Rattle.reader.proofs.FileKind.{the-type}
-use Rattle.pass.specs.Pass.{WalkIs, Walks, Found, ReadsKind, Reads}
+use Rattle.pass.specs.Pass.{WalkIs, Walks, Found, ReadsKind, ReadsFile}
 use Rattle.pass.specs.declared.Walked.{Walked}
 use Rattle.pass.specs.declared.Walked.the-variants.{Through, Stopped}
 use Rattle.reader.specs.Store.{fileLimit, tableLength}
 
 -- ---- the kind of a name
 
-name-dialect : (d : Dialect) (name : List ℕ) {n : Name} → nameIn d name ≡ some n → dialectOf n ≡ d
+name-dialect : (d : Dialect) (name : List ℕ) {n : Name} → nameIn d name ≡ some n → nameDialect n ≡ d
 name-dialect Iwd name {n} e = go (networkOf name) e
   where
-    go : (o : Option Network) → mapped (λ x. iwdName (x .suffix)) o ≡ some n → dialectOf n ≡ Iwd
+    go : (o : Option Network) → mapped (λ x. iwdName (x .suffix)) o ≡ some n → nameDialect n ≡ Iwd
     go none e = absurd (Option·none-ne-some n e)
-    go (some x) e = ap dialectOf (sym (Option·some-injective (iwdName (x .suffix)) n e))
+    go (some x) e = ap nameDialect (sym (Option·some-injective (iwdName (x .suffix)) n e))
 name-dialect ConnMan name {n} e = go (connmanName name) e
   where
-    go : (b : Bool) → only b (some connmanFile) ≡ some n → dialectOf n ≡ ConnMan
-    go true e = ap dialectOf (sym (Option·some-injective connmanFile n e))
+    go : (b : Bool) → only b (some connmanFile) ≡ some n → nameDialect n ≡ ConnMan
+    go true e = ap nameDialect (sym (Option·some-injective connmanFile n e))
     go false e = absurd (Option·none-ne-some n e)
 
 some-kind : (n : Name) → K.Misnamed ≡ kindOfName (some n) → ⊥
@@ -84,7 +84,7 @@ module _ {d : Dialect} {file : List ℕ} {x : List ℕ} {r : Walked} (h : Walks 
         go none q = absurd (none-kind k t q)
         go (some n) q = rw (walked e)
 
-    pub kind-through : {st : State} → r ≡ Through st → {a : Reading} → Ends k st x a → ReadsKind k d file x a
+    pub kind-through : {st : State} → r ≡ Through st → {a : Reading} → EndSays k st x a → ReadsKind k d file x a
     unfolding sectionsOf
     kind-through {st} e {a} ends =
         record {
@@ -95,12 +95,12 @@ module _ {d : Dialect} {file : List ℕ} {x : List ℕ} {r : Walked} (h : Walks 
       where
         go : (name : List ℕ) (o : Option Name) → nameIn d name ≡ o → k ≡ kindOfName o → a ≡ readingOf d o file
         go name none v q = absurd (none-kind k t q)
-        go name (some n) v q = rw (walked e .0) (ends .reading n q (grown d 1 0 [] (lines file)) (subst (λ (b : Dialect). Holds b file st x (grown d 1 0 [] (lines file))) (sym (name-dialect d name v)) (walked e .1)))
+        go name (some n) v q = rw (walked e .0) (ends .reading n q (grown d 1 0 [] (lines file)) (subst (λ (b : Dialect). HoldsGroups b file st x (grown d 1 0 [] (lines file))) (sym (name-dialect d name v)) (walked e .1)))
 
 -- ---- any file
 
 module _ {d : Dialect} (name : List ℕ) {file : List ℕ} where
-  pub reads-large : {y : List ℕ} → fileLimit < length file → y ≡ replicate tableLength 0 → Reads d name file y (Refused Size 0)
+  pub reads-large : {y : List ℕ} → fileLimit < length file → y ≡ replicate tableLength 0 → ReadsFile d name file y (Refused Size 0)
   unfolding reading
   reads-large l e = record { is = rw (lt-leb (length file) fileLimit l); found = λ q. refused-accepted q; few = λ q. refused-accepted q; left = λ q. e }
 
@@ -109,8 +109,8 @@ module _ {d : Dialect} (name : List ℕ) {file : List ℕ} where
     unfolding reading
     is-reading = rw (le-leb (length file) fileLimit l) (h .is name e)
 
-    pub reads-accepted : {n m : ℕ} → r ≡ Accepted n m → Reads d name file y (Accepted n m)
+    pub reads-accepted : {n m : ℕ} → r ≡ Accepted n m → ReadsFile d name file y (Accepted n m)
     reads-accepted q = record { is = sym q ∙ is-reading; found = λ z. h .found q; few = λ z. h .few (q ∙ z); left = λ z. refused-accepted (sym z) }
 
-    pub reads-refused : {f : Refusal} {i : ℕ} → r ≡ Refused f i → {z : List ℕ} → z ≡ replicate tableLength 0 → Reads d name file z (Refused f i)
+    pub reads-refused : {f : Refusal} {i : ℕ} → r ≡ Refused f i → {z : List ℕ} → z ≡ replicate tableLength 0 → ReadsFile d name file z (Refused f i)
     reads-refused q v = record { is = sym q ∙ is-reading; found = λ z. refused-accepted z; few = λ z. refused-accepted z; left = λ z. v }

@@ -19,22 +19,22 @@ use Rattle.rules.specs.declared.Answer.{Answer}
 use Rattle.rules.specs.declared.Answer.the-variants.{Good}
 use Rattle.rules.specs.declared.Reading.{Reading}
 use Rattle.reader.specs.History.{base}
-use Rattle.reader.specs.Holds.{Row}
+use Rattle.reader.specs.Holds.{RowKeeps}
 use Rattle.reader.proofs.FileFault.{group-row}
 use Rattle.reader.proofs.Values.{numbered-service, numbered-row}
-use Rattle.pass.specs.Pass.{Found, Reads}
+use Rattle.pass.specs.Pass.{Found, ReadsFile}
 
 -- ---- the rows after a reading
 
-pub found-group : {d : Dialect} {file y : List ℕ} → Found d file y → (g : Group) → groupOf d (groupName g) ≡ some g → serves g ≡ false → Row d file y (base g 0) g (entriesIn (groupName g) (sectionsOf d file))
-found-group {d} {file} {y} f g q v = subst (λ (gs : List Section). Row d file y (base g 0) g (entriesIn (groupName g) gs)) (f .all) (group-row (f .kept) g q v)
+pub found-group : {d : Dialect} {file y : List ℕ} → Found d file y → (g : Group) → groupOf d (groupName g) ≡ some g → serves g ≡ false → RowKeeps d file y (base g 0) g (entriesIn (groupName g) (sectionsOf d file))
+found-group {d} {file} {y} f g q v = subst (λ (gs : List Section). RowKeeps d file y (base g 0) g (entriesIn (groupName g) gs)) (f .all) (group-row (f .kept) g q v)
 
-pub found-service : {file y : List ℕ} → Found ConnMan file y → (w : ℕ) → (1 ≤ w) × (w ≤ 8) → Row ConnMan file y (base Service w) Service (serviceAt w (sectionsOf ConnMan file))
-found-service {file} {y} f w few = subst (λ (es : List Entry). Row ConnMan file y (base Service w) Service es) (numbered-service w (f .groups) ∙ ap (serviceAt w) (f .all)) (numbered-row (f .kept) w few)
+pub found-service : {file y : List ℕ} → Found ConnMan file y → (w : ℕ) → (1 ≤ w) × (w ≤ 8) → RowKeeps ConnMan file y (base Service w) Service (serviceAt w (sectionsOf ConnMan file))
+found-service {file} {y} f w few = subst (λ (es : List Entry). RowKeeps ConnMan file y (base Service w) Service es) (numbered-service w (f .groups) ∙ ap (serviceAt w) (f .all)) (numbered-row (f .kept) w few)
 
 -- ---- the answers
 
-module _ {d : Dialect} {name file : List ℕ} {y : List ℕ} {r : Reading} (h : Reads d name file y r) {a : Answer} where
+module _ {d : Dialect} {name file : List ℕ} {y : List ℕ} {r : Reading} (h : ReadsFile d name file y r) {a : Answer} where
   pub file-found : a ≡ asked r → a ≡ Good → Found d file y
   file-found e g = h .found (asked-reading r (sym e ∙ g) .1 .1)
 

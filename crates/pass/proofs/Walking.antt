@@ -23,8 +23,8 @@ use Rattle.rules.specs.declared.Group.the-variants as G
 use Rattle.rules.specs.declared.Refusal.{Refusal}
 use Rattle.reader.specs.Store.{fileLimit, slotCount, linesFrom, codesFrom, tableLength, lastRow, Slot, slot, emptySlot}
 use Rattle.reader.specs.History.{baseAt, groupAt}
-use Rattle.reader.specs.Holds.{Row, Holds}
-use Rattle.reader.specs.Steps.{Known, StepIs, Steps}
+use Rattle.reader.specs.Holds.{RowKeeps, HoldsGroups}
+use Rattle.reader.specs.Steps.{Known, StepIs, StepSays}
 use Rattle.reader.specs.declared.State.{State}
 use Rattle.reader.specs.declared.Current.the-variants.{Outside}
 use Rattle.reader.specs.declared.Stepped.{Stepped}
@@ -48,7 +48,7 @@ pub record Running (d : Dialect) (file : List ℕ) (x : List ℕ) (st : State) (
 empty-slot : (i : ℕ) → i < slotCount → slot i (replicate tableLength 0) ≡ emptySlot
 empty-slot i h = rw (getD-replicate {A = ℕ} tableLength i 0 0 (omega (arith, h)), getD-replicate {A = ℕ} tableLength (slotCount + i) 0 0 (omega (arith, h)), getD-replicate {A = ℕ} tableLength (linesFrom + i) 0 0 (omega (arith, h)), getD-replicate {A = ℕ} tableLength (codesFrom + i) 0 0 (omega (arith, h)))
 
-pub empty-row : (d : Dialect) (file : List ℕ) (b : ℕ) (g : Group) → b ≤ lastRow → Row d file (replicate tableLength 0) b g []
+pub empty-row : (d : Dialect) (file : List ℕ) (b : ℕ) (g : Group) → b ≤ lastRow → RowKeeps d file (replicate tableLength 0) b g []
 empty-row d file b g h = record { each = λ k z. empty-slot (b + place k (keyNames g)) (omega (arith, h, keys-few g k)) }
 
 pub running-first : (d : Dialect) (file : List ℕ) → length file ≤ fileLimit → {x : List ℕ} → x ≡ replicate tableLength 0 → Running d file x (record { current = Outside; services = 0; settings = 0 }) 0 1
@@ -109,7 +109,7 @@ unfolding grown
 line-next d n s gs l ls = refl
 
 module _ {d : Dialect} {file : List ℕ} {x : List ℕ} {st : State} {at line : ℕ} (h : Running d file x st at line) where
-  module _ (l : at < length file) {end : ℕ} (t : Stop inLine file at end) {y : List ℕ} {r : Stepped} (p : Steps d file st x line at (valueStart d (part at end file)) (lineOf d (part at end file)) y r) where
+  module _ (l : at < length file) {end : ℕ} (t : Stop inLine file at end) {y : List ℕ} {r : Stepped} (p : StepSays d file st x line at (valueStart d (part at end file)) (lineOf d (part at end file)) y r) where
     abbrev this : List ℕ
     this = part at end file
 
@@ -146,5 +146,5 @@ module _ {d : Dialect} {file : List ℕ} {x : List ℕ} {st : State} {at line : 
     unfolding lineFault grown
     running-end =
         record {
-          is = (sym (h .rest) ∙ ap (lineFault d line at (h .known .groups)) none-left, subst (λ (gs : List Section). Holds d file st x gs) (sym (ap (grown d line at (h .known .groups)) none-left) ∙ h .all) (h .known .holds));
+          is = (sym (h .rest) ∙ ap (lineFault d line at (h .known .groups)) none-left, subst (λ (gs : List Section). HoldsGroups d file st x gs) (sym (ap (grown d line at (h .known .groups)) none-left) ∙ h .all) (h .known .holds));
         }

@@ -11,7 +11,7 @@ use Rattle.rules.specs.Reading.{Name, lineFault, grown, sectionsOf, nameIn, rea
 use Rattle.rules.specs.declared.Reading.{Reading}
 use Rattle.rules.specs.declared.Reading.the-variants.{Accepted, Refused}
 use Rattle.rules.specs.declared.Refusal.{Refusal}
-use Rattle.reader.specs.Holds.{Table, Holds}
+use Rattle.reader.specs.Holds.{TableKeeps, HoldsGroups}
 use Rattle.reader.specs.Ending.{kindOfName}
 use Rattle.reader.specs.declared.FileKind.{FileKind}
 use Rattle.pass.specs.declared.Walked.{Walked}
@@ -21,7 +21,7 @@ use Rattle.reader.specs.Store.{tableLength}
 -- no line is faulty, and the state and the table hold of the groups of the whole file; or the first faulty line
 abbrev pub WalkIs : Dialect → List ℕ → List ℕ → Walked → Type 0
 WalkIs d file y (Through st) =
-    (lineFault d 1 0 [] (lines file) ≡ none) × Holds d file st y (grown d 1 0 [] (lines file))
+    (lineFault d 1 0 [] (lines file) ≡ none) × HoldsGroups d file st y (grown d 1 0 [] (lines file))
 WalkIs d file y (Stopped r l) = lineFault d 1 0 [] (lines file) ≡ some (record { refusal = r; line = l })
 
 pub record Walks (d : Dialect) (file : List ℕ) (y : List ℕ) (r : Walked) : Type 0 where
@@ -31,7 +31,7 @@ pub record Walks (d : Dialect) (file : List ℕ) (y : List ℕ) (r : Walked) : T
 pub record Found (d : Dialect) (file : List ℕ) (y : List ℕ) : Type 0 where
   pub groups : List Section
   pub all : reverse groups ≡ sectionsOf d file
-  pub kept : Table d file y groups
+  pub kept : TableKeeps d file y groups
 
 -- of a file whose size is allowed and whose name says the kind k
 pub record ReadsKind (k : FileKind) (d : Dialect) (file : List ℕ) (y : List ℕ) (r : Reading) : Type 0 where
@@ -40,7 +40,7 @@ pub record ReadsKind (k : FileKind) (d : Dialect) (file : List ℕ) (y : List �
   pub few : {n m : ℕ} → r ≡ Accepted n m → m ≤ 8
 
 -- of any file; the table was empty before, and "Every answer but 0 leaves all lent buffers unchanged"
-pub record Reads (d : Dialect) (name file : List ℕ) (y : List ℕ) (r : Reading) : Type 0 where
+pub record ReadsFile (d : Dialect) (name file : List ℕ) (y : List ℕ) (r : Reading) : Type 0 where
   pub is : r ≡ reading d name file
   pub found : {n m : ℕ} → r ≡ Accepted n m → Found d file y
   pub few : {n m : ℕ} → r ≡ Accepted n m → m ≤ 8

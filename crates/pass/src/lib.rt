@@ -8,7 +8,7 @@ ghost use lib.ListN.{length, replicate};
 ghost use Rattle.names.specs.Names.{networkOf, connmanName};
 ghost use Rattle.rules.specs.Reading.{nameIn};
 ghost use Rattle.reader.specs.Ending.{kindOfName};
-ghost use Rattle.pass.specs.Pass.{Walks, ReadsKind, Reads};
+ghost use Rattle.pass.specs.Pass.{Walks, ReadsKind, ReadsFile};
 ghost use Rattle.reader.specs.Store.{fileLimit, tableLength};
 use reader::Current;
 use reader::FILE_LIMIT;
@@ -107,7 +107,7 @@ fn read_kind(kind: FileKind, d: Dialect, file: &[u8], x: &mut Places) -> Reading
 // leaves the table as it was, empty.
 pub fn read(d: Dialect, name: &[u8], file: &[u8], x: &mut Places) -> Reading
     requires empty { ⌜ now x ≡ replicate tableLength 0 ⌝ }
-    ensures { λ r. ⌜ Reads d (now (name .entry)) (now (file .entry)) (now (x .exit)) r ⌝ }
+    ensures { λ r. ⌜ ReadsFile d (now (name .entry)) (now (file .entry)) (now (x .exit)) r ⌝ }
 {
     if FILE_LIMIT < file.len() {
         return Reading::Refused(Refusal::Size, 0);

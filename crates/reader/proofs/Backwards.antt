@@ -13,9 +13,8 @@ use Rattle.text.specs.declared.Dialect.{Dialect}
 use Rattle.rules.specs.Sections.{Section, nameGiven, serves, services, entriesIn, settings}
 use Rattle.rules.specs.Faults.{Fault}
 use Rattle.rules.specs.Groups.{sectionFault, servicesFault}
-use Rattle.reader.specs.History.{allFault}
 use Rattle.reader.specs.Holds.{WellNamed}
-use Rattle.reader.proofs.ServicesFault.{or-none}
+use Rattle.reader.proofs.ServicesFault.{allFault, or-none}
 
 -- ---- how many services, how many settings
 

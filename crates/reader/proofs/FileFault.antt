@@ -15,8 +15,8 @@ use Rattle.rules.specs.Groups.{fileFault}
 use Rattle.tables.specs.KeyPlaces.{keyNames}
 use Rattle.rules.specs.declared.Group.{Group}
 use Rattle.rules.specs.declared.Group.the-variants.{Security, Ipv4}
-use Rattle.reader.specs.History.{base, rowOf, latest}
-use Rattle.reader.specs.Holds.{Row, Table}
+use Rattle.reader.specs.History.{base, rowNumber, latest}
+use Rattle.reader.specs.Holds.{RowKeeps, TableKeeps}
 use Rattle.reader.specs.FileRule.{slotsFile}
 use Rattle.reader.specs.declared.KeyName.the-variants as N
 use Rattle.reader.proofs.Rows.{group-at, own-row}
@@ -26,12 +26,12 @@ use Rattle.reader.proofs.PlainHeading.{entries-latest}
 use Rattle.reader.proofs.Backwards.{entries-reverse}
 
 -- the row of a group that stands once
-pub group-row : {d : Dialect} {file x : List ℕ} {gs : List Section} → Table d file x gs → (g : Group) → groupOf d (groupName g) ≡ some g → serves g ≡ false → Row d file x (base g 0) g (entriesIn (groupName g) (reverse gs))
+pub group-row : {d : Dialect} {file x : List ℕ} {gs : List Section} → TableKeeps d file x gs → (g : Group) → groupOf d (groupName g) ≡ some g → serves g ≡ false → RowKeeps d file x (base g 0) g (entriesIn (groupName g) (reverse gs))
 group-row {d} {file} {x} {gs} t g q v =
-    subst (λ (es : List Entry). Row d file x (base g 0) g es) (sym (entries-reverse (groupName g) d gs (t .rows .well) ∙ entries-latest d (groupName g) g q v gs (t .rows .well) refl))
-    (subst (λ (h : Group). Row d file x (base g 0) h (latest (rowOf g 0) gs)) (group-at g 0 (λ e. absurd (true≢false (sym e ∙ v)))) (t .rows .each (rowOf g 0) (own-row d (groupName g) q 0 (omega arith))))
+    subst (λ (es : List Entry). RowKeeps d file x (base g 0) g es) (sym (entries-reverse (groupName g) d gs (t .rows .well) ∙ entries-latest d (groupName g) g q v gs (t .rows .well) refl))
+    (subst (λ (h : Group). RowKeeps d file x (base g 0) h (latest (rowNumber g 0) gs)) (group-at g 0 (λ e. absurd (true≢false (sym e ∙ v)))) (t .rows .each (rowNumber g 0) (own-row d (groupName g) q 0 (omega arith))))
 
-module _ {file : List ℕ} {x : List ℕ} {gs : List Section} (t : Table Iwd file x gs) where
+module _ {file : List ℕ} {x : List ℕ} {gs : List Section} (t : TableKeeps Iwd file x gs) where
   pub file-fault : (s : Suffix) → faultAt 0 (slotsFile s x) ≡ fileFault s (reverse gs)
   unfolding slotsFile fileFault groupOf
   file-fault s =

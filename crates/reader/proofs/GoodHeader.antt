@@ -22,9 +22,9 @@ use Rattle.rules.specs.declared.Refusal.{Refusal}
 use Rattle.rules.specs.declared.Refusal.the-variants.{RepeatedGroup, ManyServices}
 use Rattle.reader.specs.Store.{stored}
 use Rattle.reader.specs.History.{base, nameBase}
-use Rattle.reader.specs.Holds.{Holds}
+use Rattle.reader.specs.Holds.{HoldsGroups}
 use Rattle.reader.specs.Headings.{slotsNamed, slotsOpen, slotsHeading}
-use Rattle.reader.specs.Steps.{header, named, Opened, Steps, StepIs}
+use Rattle.reader.specs.Steps.{headerSlot, nameSlot, Opened, StepSays, StepIs}
 use Rattle.reader.specs.declared.State.{State}
 use Rattle.reader.specs.declared.Current.the-variants.{In}
 use Rattle.reader.specs.declared.Heading.{Heading}
@@ -37,10 +37,10 @@ use Rattle.reader.proofs.HeadingFault.{headingFault, heading-fault}
 -- ---- what is stored
 
 module _ {st : State} {x : List ℕ} {g : Group} {s : ℕ} {p : Place} {l : ℕ} {r : State} {y : List ℕ} where
-  pub opened-service : serves g ≡ true → y ≡ stored (nameBase + st .services) (named p l) (stored (base g (st .services + 1)) (header s l) x) → r ≡ record { current = In g (base g (st .services + 1)); services = st .services + 1; settings = st .settings } → Opened st x g s p l r y
+  pub opened-service : serves g ≡ true → y ≡ stored (nameBase + st .services) (nameSlot p l) (stored (base g (st .services + 1)) (headerSlot s l) x) → r ≡ record { current = In g (base g (st .services + 1)); services = st .services + 1; settings = st .settings } → Opened st x g s p l r y
   opened-service v b e = record { plain = λ q. absurd (true≢false (sym v ∙ q)); service = λ q. (b, e) }
 
-  pub opened-plain : serves g ≡ false → y ≡ stored (base g (st .services)) (header s l) x → r ≡ record { current = In g (base g (st .services)); services = st .services; settings = st .settings } → Opened st x g s p l r y
+  pub opened-plain : serves g ≡ false → y ≡ stored (base g (st .services)) (headerSlot s l) x → r ≡ record { current = In g (base g (st .services)); services = st .services; settings = st .settings } → Opened st x g s p l r y
   opened-plain v b e = record { plain = λ q. (b, e); service = λ q. absurd (true≢false (sym q ∙ v)) }
 
 pub room-few : {a : Bool} (n : ℕ) → a ≡ true → (a && leb 8 n) ≡ false → n < 8
@@ -70,30 +70,30 @@ new-name n g gs = go (nameGiven n gs) (serves g && leb 8 (services gs))
 
 -- ---- the step
 
-module _ {d : Dialect} {file : List ℕ} {st : State} {x : List ℕ} {s l : ℕ} {p : Place} (inside : Inside (length file) p) (k : 0 < l) {gs : List Section} (h : Holds d file st x gs) {g : Group} (q : groupOf d (partAt file p) ≡ some g) (new : nameGiven (partAt file p) gs ≡ false) (room : (serves g && leb 8 (st .services)) ≡ false) {r : State} {y : List ℕ} (o : Opened st x g s p l r y) where
-  held : (b : Bool) → serves g ≡ b → Holds d file r y (record { name = partAt file p; group = g; line = l; start = s; entries = [] } ∷ gs)
+module _ {d : Dialect} {file : List ℕ} {st : State} {x : List ℕ} {s l : ℕ} {p : Place} (inside : Inside (length file) p) (k : 0 < l) {gs : List Section} (h : HoldsGroups d file st x gs) {g : Group} (q : groupOf d (partAt file p) ≡ some g) (new : nameGiven (partAt file p) gs ≡ false) (room : (serves g && leb 8 (st .services)) ≡ false) {r : State} {y : List ℕ} (o : Opened st x g s p l r y) where
+  held : (b : Bool) → serves g ≡ b → HoldsGroups d file r y (record { name = partAt file p; group = g; line = l; start = s; entries = [] } ∷ gs)
   held true v =
       let t : g ≡ Service = serves-service g v in
       rw (o .service v .0, t) (holds-service h p (q ∙ ap some t) new s l k (room-few (st .services) v room) inside (o .service v .1 ∙ rw t))
   held false v = rw (o .plain v .0) (holds-plain h (partAt file p) g q new s l k v (o .plain v .1))
 
 module _ (d : Dialect) (file : List ℕ) (st : State) (x : List ℕ) (p : Place) {t : Heading} (e : t ≡ slotsHeading file x (st .services) (partAt file p) (groupOf d (partAt file p))) where
-  fault-is : (gs : List Section) → Holds d file st x gs → fault d gs (Lines.header (partAt file p)) ≡ headingFault t
+  fault-is : (gs : List Section) → HoldsGroups d file st x gs → fault d gs (Lines.header (partAt file p)) ≡ headingFault t
   fault-is gs h = sym (heading-fault h (partAt file p)) ∙ ap headingFault (sym e)
 
-  pub header-stops : {s l : ℕ} {r : Refusal} {y : List ℕ} → t ≡ Refused r → Steps d file st x l s 0 (Lines.header (partAt file p)) y (Stops r)
+  pub header-stops : {s l : ℕ} {r : Refusal} {y : List ℕ} → t ≡ Refused r → StepSays d file st x l s 0 (Lines.header (partAt file p)) y (Stops r)
   header-stops v = record { says = λ gs h. fault-is gs h ∙ ap headingFault v }
 
   module _ {g : Group} (v : t ≡ Opens g) where
     pub header-good : Good (st .services) (groupOf d (partAt file p)) g
     header-good = heading-good file x (st .services) (partAt file p) (groupOf d (partAt file p)) (sym e ∙ v)
 
-    pub header-goes : {s l : ℕ} → Inside (length file) p → 0 < l → {r : State} {y : List ℕ} → Opened st x g s p l r y → Steps d file st x l s 0 (Lines.header (partAt file p)) y (Goes r)
+    pub header-goes : {s l : ℕ} → Inside (length file) p → 0 < l → {r : State} {y : List ℕ} → Opened st x g s p l r y → StepSays d file st x l s 0 (Lines.header (partAt file p)) y (Goes r)
     unfolding fault withLine
     header-goes inside k o =
         record {
           says = λ gs h.
               let good : fault d gs (Lines.header (partAt file p)) ≡ none = fault-is gs h ∙ ap headingFault v in
-              let named : headerFault (partAt file p) (some g) gs ≡ none = ap (λ (m : Option Group). headerFault (partAt file p) m gs) (sym (header-good .is)) ∙ good in
-              (good, rw (header-good .is) (held inside k h (header-good .is) (new-name (partAt file p) g gs named) (header-good .room) o (serves g) refl));
+              let free : headerFault (partAt file p) (some g) gs ≡ none = ap (λ (m : Option Group). headerFault (partAt file p) m gs) (sym (header-good .is)) ∙ good in
+              (good, rw (header-good .is) (held inside k h (header-good .is) (new-name (partAt file p) g gs free) (header-good .room) o (serves g) refl));
         }

@@ -16,8 +16,8 @@ use Rattle.rules.specs.Sections.{services, Entry, Section, given, withEntry, se
 use Rattle.tables.specs.KeyPlaces.{keyNames}
 use Rattle.rules.specs.declared.Group.{Group}
 use Rattle.reader.specs.Store.{slotCount, Slot, slot, stored}
-use Rattle.reader.specs.History.{nameBase, baseAt, Own, groupAt, rowAfter, latest}
-use Rattle.reader.specs.Holds.{Stands, Row, Spans, among, Holds}
+use Rattle.reader.specs.History.{nameBase, baseAt, OwnRow, groupAt, rowAfter, latest}
+use Rattle.reader.specs.Holds.{SlotSays, RowKeeps, Spans, among, HoldsGroups}
 use Rattle.reader.specs.declared.State.{State}
 use Rattle.reader.proofs.Slots.{stored-long, stored-there}
 use Rattle.reader.proofs.Rows.{keys-few, row-kept, row-put, Lies, lies, own-row, group-after, row-here}
@@ -33,7 +33,7 @@ spans-kept {file} s h = record { few = s .few; each = λ i k. subst (λ (t : Slo
 
 -- ---- a setting in the group of the latest section
 
-module _ {d : Dialect} {file : List ℕ} {st : State} {x : List ℕ} {s : Section} {gs : List Section} (h : Holds d file st x (s ∷ gs)) (k : List ℕ) (z : place k (keyNames (s .group)) ≡ 0 → ⊥) (p : Slot) where
+module _ {d : Dialect} {file : List ℕ} {st : State} {x : List ℕ} {s : Section} {gs : List Section} (h : HoldsGroups d file st x (s ∷ gs)) (k : List ℕ) (z : place k (keyNames (s .group)) ≡ 0 → ⊥) (p : Slot) where
   abbrev here : ℕ
   here = baseAt (rowAfter s gs) + place k (keyNames (s .group))
 
@@ -49,15 +49,15 @@ module _ {d : Dialect} {file : List ℕ} {st : State} {x : List ℕ} {s : Sectio
   named : (i : ℕ) → i < st .services → slot (nameBase + i) (stored here p x) ≡ slot (nameBase + i) x
   named i j = there (nameBase + i) (omega (arith, h .spans .few)) (λ t. omega (arith, t, small))
 
-  module _ {e : Entry} (q : e .key ≡ k) (f : Stands d (kindOf (s .group) k) file p e) (u : given k (s .entries) ≡ false) where
-    row-of : (r : ℕ) → Own d r → (b : Bool) → eqb r (rowAfter s gs) ≡ b → Row d file x (baseAt r) (groupAt r) (cond b (s .entries) (latest r gs)) → Row d file (stored here p x) (baseAt r) (groupAt r) (cond b (s .entries ++ (e ∷ [])) (latest r gs))
+  module _ {e : Entry} (q : e .key ≡ k) (f : SlotSays d (kindOf (s .group) k) file p e) (u : given k (s .entries) ≡ false) where
+    row-of : (r : ℕ) → OwnRow d r → (b : Bool) → eqb r (rowAfter s gs) ≡ b → RowKeeps d file x (baseAt r) (groupAt r) (cond b (s .entries) (latest r gs)) → RowKeeps d file (stored here p x) (baseAt r) (groupAt r) (cond b (s .entries ++ (e ∷ [])) (latest r gs))
     row-of r l true v row =
-        subst (λ (t : ℕ). Row d file (stored here p x) (baseAt t) (groupAt t) (s .entries ++ (e ∷ []))) (sym (eqb-true r (rowAfter s gs) v))
-        (subst (λ (g : Group). Row d file (stored here p x) (baseAt (rowAfter s gs)) g (s .entries ++ (e ∷ []))) (sym (group-after s gs))
+        subst (λ (t : ℕ). RowKeeps d file (stored here p x) (baseAt t) (groupAt t) (s .entries ++ (e ∷ []))) (sym (eqb-true r (rowAfter s gs) v))
+        (subst (λ (g : Group). RowKeeps d file (stored here p x) (baseAt (rowAfter s gs)) g (s .entries ++ (e ∷ []))) (sym (group-after s gs))
         (row-put (row-here s gs (h .table .rows)) (h .table .long) k (let o = low in omega arith) u q f))
     row-of r l false v row = row-kept row (λ m y. there (baseAt r + place m (keyNames (groupAt r))) (let o = lies d r l in omega (arith, keys-few (groupAt r) m)) (λ t. eqb-false r (rowAfter s gs) v (let o = lies d r l in let q = low in omega (arith, t, keys-few (groupAt r) m, keys-few (s .group) k))))
 
-    pub holds-setting : {r : State} → r ≡ record { current = st .current; services = st .services; settings = st .settings + 1 } → Holds d file r (stored here p x) (withEntry e (s ∷ gs))
+    pub holds-setting : {r : State} → r ≡ record { current = st .current; services = st .services; settings = st .settings + 1 } → HoldsGroups d file r (stored here p x) (withEntry e (s ∷ gs))
     holds-setting v =
         rw v
         (record {

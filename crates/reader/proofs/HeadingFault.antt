@@ -21,8 +21,8 @@ use Rattle.tables.specs.declared.Named.the-variants as N
 use Rattle.rules.specs.declared.Refusal.{Refusal}
 use Rattle.rules.specs.declared.Refusal.the-variants.{RepeatedGroup, ManyServices}
 use Rattle.reader.specs.Store.{Slot, slot}
-use Rattle.reader.specs.History.{rowOf, baseAt, headSlot}
-use Rattle.reader.specs.Holds.{among, Holds}
+use Rattle.reader.specs.History.{rowNumber, baseAt, headSlot}
+use Rattle.reader.specs.Holds.{among, HoldsGroups}
 use Rattle.reader.specs.Headings.{slotsHeading}
 use Rattle.reader.specs.declared.State.{State}
 use Rattle.reader.specs.declared.Heading.{Heading}
@@ -49,14 +49,14 @@ abbrev pub headingFault : Heading → Option Refusal
 headingFault (Opens g) = none
 headingFault (Refused r) = some r
 
-module _ {d : Dialect} {file : List ℕ} {st : State} {x : List ℕ} {gs : List Section} (h : Holds d file st x gs) (n : List ℕ) where
-  plain-named : {g : Group} → groupOf d n ≡ some g → serves g ≡ false → (b : Bool) → eqb (headSlot (rowOf g 0) gs .line) 0 ≡ b → not b ≡ nameGiven n gs
-  plain-named {g} q v true e = sym (unnamed d n g q v gs (h .table .rows .well) (eqb-true (headSlot (rowOf g 0) gs .line) 0 e) .name)
-  plain-named {g} q v false e = sym (renamed d n g q v gs (h .table .rows .well) (eqb-false (headSlot (rowOf g 0) gs .line) 0 e))
+module _ {d : Dialect} {file : List ℕ} {st : State} {x : List ℕ} {gs : List Section} (h : HoldsGroups d file st x gs) (n : List ℕ) where
+  plain-named : {g : Group} → groupOf d n ≡ some g → serves g ≡ false → (b : Bool) → eqb (headSlot (rowNumber g 0) gs .line) 0 ≡ b → not b ≡ nameGiven n gs
+  plain-named {g} q v true e = sym (unnamed d n g q v gs (h .table .rows .well) (eqb-true (headSlot (rowNumber g 0) gs .line) 0 e) .name)
+  plain-named {g} q v false e = sym (renamed d n g q v gs (h .table .rows .well) (eqb-false (headSlot (rowNumber g 0) gs .line) 0 e))
 
-  named-is : {g : Group} → groupOf d n ≡ some g → (b : Bool) → serves g ≡ b → cond b (among file x (st .services) n) (not (eqb (slot (baseAt (rowOf g 0)) x .line) 0)) ≡ nameGiven n gs
+  named-is : {g : Group} → groupOf d n ≡ some g → (b : Bool) → serves g ≡ b → cond b (among file x (st .services) n) (not (eqb (slot (baseAt (rowNumber g 0)) x .line) 0)) ≡ nameGiven n gs
   named-is {g} q true v = h .names n (q ∙ ap some (serves-service g v))
-  named-is {g} q false v = rw (ap (λ (s : Slot). s .line) (h .table .heads (rowOf g 0) (own-row d n q 0 (omega arith)))) (plain-named q v (eqb (headSlot (rowOf g 0) gs .line) 0) refl)
+  named-is {g} q false v = rw (ap (λ (s : Slot). s .line) (h .table .heads (rowNumber g 0) (own-row d n q 0 (omega arith)))) (plain-named q v (eqb (headSlot (rowNumber g 0) gs .line) 0) refl)
 
   opened : (g : Group) (a b : Bool) → headingFault (cond a (Refused RepeatedGroup) (cond b (Refused ManyServices) (Opens g))) ≡ cond a (some RepeatedGroup) (cond b (some ManyServices) none)
   opened g true b = refl

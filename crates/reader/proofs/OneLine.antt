@@ -31,11 +31,11 @@ use Rattle.tables.specs.KeyPlaces.{keyNames}
 use Rattle.rules.specs.declared.Group.{Group}
 use Rattle.rules.specs.declared.Refusal.{Refusal}
 use Rattle.rules.specs.declared.Refusal.the-variants.{RepeatedKey}
-use Rattle.reader.specs.Store.{fileLimit, lastRow, Slot, stored, Fits}
+use Rattle.reader.specs.Store.{fileLimit, lastRow, Slot, stored, FitsSlot}
 use Rattle.reader.specs.History.{nameBase, baseAt, rowAfter, currentOf}
-use Rattle.reader.specs.Holds.{codeOf, isText, OfText, Coded, Stands, Rows, Holds}
+use Rattle.reader.specs.Holds.{codeOf, isText, OfText, Coded, SlotSays, RowsKeep, HoldsGroups}
 use Rattle.reader.specs.Says.{valueCode, textPlace, NewSetting, CurrentRow}
-use Rattle.reader.specs.Steps.{GoodSetting, LineIs, LineSays, Known, StepIs, Steps}
+use Rattle.reader.specs.Steps.{GoodSetting, LineIs, LineSays, Known, StepIs, StepSays}
 use Rattle.reader.specs.declared.State.{State}
 use Rattle.reader.specs.declared.Line.{Line}
 use Rattle.reader.specs.declared.Line.the-variants as L
@@ -48,10 +48,10 @@ use Rattle.reader.proofs.RowRule.{good-typed}
 use Rattle.reader.proofs.Growing.{holds-setting}
 
 -- a place in a file of allowed size fits the table
-pub fits-within : {n a e l : ℕ} → a ≤ e → e ≤ n → n ≤ fileLimit → l ≤ fileLimit → Fits a e l
+pub fits-within : {n a e l : ℕ} → a ≤ e → e ≤ n → n ≤ fileLimit → l ≤ fileLimit → FitsSlot a e l
 fits-within p q r s = record { low = omega (arith, p, q, r); high = omega (arith, q, r); counted = omega (arith, s) }
 
-rows-base : {d : Dialect} {file x : List ℕ} (s : Section) (gs : List Section) {b : ℕ} → baseAt (rowAfter s gs) ≡ b → Rows d file x (s ∷ gs) → b ≤ lastRow
+rows-base : {d : Dialect} {file x : List ℕ} (s : Section) (gs : List Section) {b : ℕ} → baseAt (rowAfter s gs) ≡ b → RowsKeep d file x (s ∷ gs) → b ≤ lastRow
 rows-base {d} s gs e h = let o = lies d (rowAfter s gs) (own-row d (s .name) (h .well .0) (services (s ∷ gs)) (h .few)) in omega (arith, e)
 
 -- the row of the group in force lies in the table
@@ -59,7 +59,7 @@ pub current-row : {d : Dialect} {file : List ℕ} {st : State} {x : List ℕ} �
 current-row {d} {file} {st} {x} k =
     record {
       long = k .holds .table .long;
-      row = λ g b e. let t = head (k .groups) (k .holds .current) e in rows-base (t .section) (t .rest) (t .row) (subst (λ (gs : List Section). Rows d file x gs) (t .is) (k .holds .table .rows));
+      row = λ g b e. let t = head (k .groups) (k .holds .current) e in rows-base (t .section) (t .rest) (t .row) (subst (λ (gs : List Section). RowsKeep d file x gs) (t .is) (k .holds .table .rows));
     }
 
 -- a key that may stand is not given yet
@@ -132,7 +132,7 @@ place-inside {d} {file} u = let t = reads-typed (u .place) (judged d (u .new .ki
     go (T.bytes b) = u .inside
 
 module _ {d : Dialect} {file : List ℕ} {st : State} {x : List ℕ} {s : ℕ} {l : List ℕ} {f : Line} (says : LineSays d file x (st .current) s l f) where
-  line-is : {gs : List Section} → Holds d file st x gs → LineIs d file gs s l f
+  line-is : {gs : List Section} → HoldsGroups d file st x gs → LineIs d file gs s l f
   line-is {gs} h = says .says gs (h .current) (h .table .rows)
 
   -- ---- a header
@@ -141,7 +141,7 @@ module _ {d : Dialect} {file : List ℕ} {st : State} {x : List ℕ} {s : ℕ} {
     pub header-place : Known d file st x → Inside (length file) p
     header-place k = subst (LineIs d file (k .groups) s l) q (line-is (k .holds)) .1
 
-    pub step-header : {n : ℕ} {y : List ℕ} {r : Stepped} → Steps d file st x n s 0 (Lines.header (partAt file p)) y r → Steps d file st x n s (valueStart d l) (lineOf d l) y r
+    pub step-header : {n : ℕ} {y : List ℕ} {r : Stepped} → StepSays d file st x n s 0 (Lines.header (partAt file p)) y r → StepSays d file st x n s (valueStart d l) (lineOf d l) y r
     unfolding withLine
     step-header {n} {y} {r} t = record { says = λ gs h. rw (subst (LineIs d file gs s l) q (line-is h) .0) (go gs r (t .says gs h)) }
       where
@@ -151,16 +151,16 @@ module _ {d : Dialect} {file : List ℕ} {st : State} {x : List ℕ} {s : ℕ} {
 
   -- ---- a refused line
 
-  pub step-refused : {n : ℕ} {r : Refusal} → f ≡ L.Refused r → {y : List ℕ} → Steps d file st x n s (valueStart d l) (lineOf d l) y (Stops r)
+  pub step-refused : {n : ℕ} {r : Refusal} → f ≡ L.Refused r → {y : List ℕ} → StepSays d file st x n s (valueStart d l) (lineOf d l) y (Stops r)
   step-refused q = record { says = λ gs h. subst (LineIs d file gs s l) q (line-is h) }
 
   -- ---- a line that is passed over: what `if let` and `let .. else` leave, as the tags of the variants
 
-  pub step-passed : {n : ℕ} → OneOf (0 ∷ 1 ∷ 3 ∷ 4 ∷ []) (tagOf the-type f) → OneOf (0 ∷ 1 ∷ 2 ∷ 3 ∷ []) (tagOf the-type f) → OneOf (0 ∷ 1 ∷ 2 ∷ 4 ∷ []) (tagOf the-type f) → Steps d file st x n s (valueStart d l) (lineOf d l) x (Goes st)
+  pub step-passed : {n : ℕ} → OneOf (0 ∷ 1 ∷ 3 ∷ 4 ∷ []) (tagOf the-type f) → OneOf (0 ∷ 1 ∷ 2 ∷ 3 ∷ []) (tagOf the-type f) → OneOf (0 ∷ 1 ∷ 2 ∷ 4 ∷ []) (tagOf the-type f) → StepSays d file st x n s (valueStart d l) (lineOf d l) x (Goes st)
   unfolding fault withLine
   step-passed {n} a b c = record { says = λ gs h. go f a b c gs h (line-is h) }
     where
-      go : (f : Line) → OneOf (0 ∷ 1 ∷ 3 ∷ 4 ∷ []) (tagOf the-type f) → OneOf (0 ∷ 1 ∷ 2 ∷ 3 ∷ []) (tagOf the-type f) → OneOf (0 ∷ 1 ∷ 2 ∷ 4 ∷ []) (tagOf the-type f) → (gs : List Section) → Holds d file st x gs → LineIs d file gs s l f → StepIs d file gs n s (valueStart d l) (lineOf d l) x (Goes st)
+      go : (f : Line) → OneOf (0 ∷ 1 ∷ 3 ∷ 4 ∷ []) (tagOf the-type f) → OneOf (0 ∷ 1 ∷ 2 ∷ 3 ∷ []) (tagOf the-type f) → OneOf (0 ∷ 1 ∷ 2 ∷ 4 ∷ []) (tagOf the-type f) → (gs : List Section) → HoldsGroups d file st x gs → LineIs d file gs s l f → StepIs d file gs n s (valueStart d l) (lineOf d l) x (Goes st)
       go L.Blank a b c gs h u = rw u (refl, h)
       go L.Comment a b c gs h u = rw u (refl, h)
       go (L.Header p) a b c gs h u = absurd (miss (0 ∷ 1 ∷ 3 ∷ 4 ∷ []) 2 tt a)
@@ -170,7 +170,7 @@ module _ {d : Dialect} {file : List ℕ} {st : State} {x : List ℕ} {s : ℕ} {
   -- ---- a setting
 
   module _ {i : ℕ} {v : Value} (q : f ≡ L.Setting i v) where
-    good : {gs : List Section} → Holds d file st x gs → GoodSetting d file gs s l i v
+    good : {gs : List Section} → HoldsGroups d file st x gs → GoodSetting d file gs s l i v
     good {gs} h = subst (LineIs d file gs s l) q (line-is h)
 
     pub value-inside : Known d file st x → Inside (length file) (textPlace v)
@@ -180,14 +180,14 @@ module _ {d : Dialect} {file : List ℕ} {st : State} {x : List ℕ} {s : ℕ} {
     slot-few k = let u = good (k .holds) .new in omega (arith, u .is, current-row k .row (u .group) (u .row) (k .holds .current ∙ u .in-force), keys-few (u .group) (good (k .holds) .key))
 
     module _ {n : ℕ} (first : 0 < n) {r : State} (e : r ≡ record { current = st .current; services = st .services; settings = st .settings + 1 }) where
-      module _ {gs : List Section} (h : Holds d file st x gs) (u : GoodSetting d file gs s l i v) where
+      module _ {gs : List Section} (h : HoldsGroups d file st x gs) (u : GoodSetting d file gs s l i v) where
         abbrev entry : Entry
         entry = record { key = u .key; value = partAt file (u .place); line = n; start = s + valueStart d l }
 
         abbrev here : Slot
         here = record { start = textPlace v .start; end = textPlace v .end; line = n; code = valueCode v }
 
-        stands : (g : Group) → kindOf g (u .key) ≡ some (u .new .kind) → Stands d (kindOf g (u .key)) file here entry
+        stands : (g : Group) → kindOf g (u .key) ≡ some (u .new .kind) → SlotSays d (kindOf g (u .key)) file here entry
         stands g q =
             let i = place-inside u in
             let t = reads-typed (u .place) (judged d (u .new .kind) (partAt file (u .place))) refl (u .new .reads) in
@@ -202,17 +202,17 @@ module _ {d : Dialect} {file : List ℕ} {st : State} {x : List ℕ} {s : ℕ} {
               code = record { kind = u .new .kind; of-kind = q; typed = t .typed; good = t .good; is = subst (λ (w : Value). valueCode w ≡ codeOf (t .typed)) (t .is) (value-code (u .place) (t .typed)) };
             }
 
-        held : (t : Head gs (u .new .group) (u .new .row)) → Holds d file r (stored i here x) (withEntry entry gs)
+        held : (t : Head gs (u .new .group) (u .new .row)) → HoldsGroups d file r (stored i here x) (withEntry entry gs)
         unfolding fault
         held t =
             let a = t .section in
             let kind : kindOf (a .group) (u .key) ≡ some (u .new .kind) = ap (λ (g : Group). kindOf g (u .key)) (t .group) ∙ u .new .of-kind in
             let free : given (u .key) (a .entries) ≡ false = not-given d (u .key) (partAt file (u .place)) (kindOf (a .group) (u .key)) (a .entries) kind (sym (ap (λ (t : List Section). fault d t (setting (u .key) (partAt file (u .place)))) (t .is)) ∙ ap (fault d gs) (sym (u .is)) ∙ u .good) in
             let at : i ≡ baseAt (rowAfter a (t .rest)) + place (u .key) (keyNames (a .group)) = u .new .is ∙ ap₂ (λ (b : ℕ) (g : Group). b + place (u .key) (keyNames g)) (sym (t .row)) (sym (t .group)) in
-            subst (λ (t : List Section). Holds d file r (stored i here x) (withEntry entry t)) (sym (t .is))
-            (subst (λ (j : ℕ). Holds d file r (stored j here x) (withEntry entry (a ∷ t .rest))) (sym at)
-            (holds-setting (subst (λ (t : List Section). Holds d file st x t) (t .is) h) (u .key) (λ z. u .new .listed (ap (λ (g : Group). place (u .key) (keyNames g)) (sym (t .group)) ∙ z)) here refl (stands (a .group) kind) free e))
+            subst (λ (t : List Section). HoldsGroups d file r (stored i here x) (withEntry entry t)) (sym (t .is))
+            (subst (λ (j : ℕ). HoldsGroups d file r (stored j here x) (withEntry entry (a ∷ t .rest))) (sym at)
+            (holds-setting (subst (λ (t : List Section). HoldsGroups d file st x t) (t .is) h) (u .key) (λ z. u .new .listed (ap (λ (g : Group). place (u .key) (keyNames g)) (sym (t .group)) ∙ z)) here refl (stands (a .group) kind) free e))
 
-      pub step-setting : {y : List ℕ} → y ≡ stored i (record { start = textPlace v .start; end = textPlace v .end; line = n; code = valueCode v }) x → Steps d file st x n s (valueStart d l) (lineOf d l) y (Goes r)
+      pub step-setting : {y : List ℕ} → y ≡ stored i (record { start = textPlace v .start; end = textPlace v .end; line = n; code = valueCode v }) x → StepSays d file st x n s (valueStart d l) (lineOf d l) y (Goes r)
       unfolding withLine
       step-setting z = record { says = λ gs h. let u = good h in (u .good, rw (z, u .is) (held h u (head gs (h .current) (h .current ∙ u .new .in-force)))) }

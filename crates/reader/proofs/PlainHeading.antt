@@ -21,9 +21,9 @@ use Rattle.tables.specs.KeyPlaces.{keyNames}
 use Rattle.rules.specs.declared.Group.{Group}
 use Rattle.rules.specs.declared.Group.the-variants.{Settings, Security, Ipv4, Ipv6, Global, Service}
 use Rattle.reader.specs.Store.{slotCount, Slot, slot, stored}
-use Rattle.reader.specs.History.{nameBase, rowOf, baseAt, Own, groupAt, rowAfter, latest, headSlot}
-use Rattle.reader.specs.Holds.{Row, WellNamed, Table, Holds}
-use Rattle.reader.specs.Steps.{header}
+use Rattle.reader.specs.History.{nameBase, rowNumber, baseAt, OwnRow, groupAt, rowAfter, latest, headSlot}
+use Rattle.reader.specs.Holds.{RowKeeps, WellNamed, TableKeeps, HoldsGroups}
+use Rattle.reader.specs.Steps.{headerSlot}
 use Rattle.reader.specs.declared.State.{State}
 use Rattle.reader.specs.declared.Current.the-variants.{In}
 use Rattle.reader.proofs.Slots.{stored-long, stored-here, stored-there}
@@ -57,7 +57,7 @@ one-name ConnMan n e s = connman-named n e s
 
 -- ---- whether such a group was named, by its header's slot
 
-pub row-plain : (g : Group) → serves g ≡ false → (n : ℕ) → rowOf g n ≡ rowOf g 0
+pub row-plain : (g : Group) → serves g ≡ false → (n : ℕ) → rowNumber g n ≡ rowNumber g 0
 row-plain Settings v n = refl
 row-plain Security v n = refl
 row-plain Ipv4 v n = refl
@@ -66,11 +66,11 @@ row-plain Global v n = refl
 row-plain Service v n = absurd (true≢false v)
 
 module _ (d : Dialect) (n : List ℕ) (g : Group) (q : groupOf d n ≡ some g) (v : serves g ≡ false) where
-  same-row : (s : Section) (gs : List Section) → eqb (rowOf g 0) (rowAfter s gs) ≡ true → s .group ≡ g
-  same-row s gs e = sym (group-after s gs) ∙ ap groupAt (sym (eqb-true (rowOf g 0) (rowAfter s gs) e)) ∙ group-at g 0 (λ t. absurd (true≢false (sym t ∙ v)))
+  same-row : (s : Section) (gs : List Section) → eqb (rowNumber g 0) (rowAfter s gs) ≡ true → s .group ≡ g
+  same-row s gs e = sym (group-after s gs) ∙ ap groupAt (sym (eqb-true (rowNumber g 0) (rowAfter s gs) e)) ∙ group-at g 0 (λ t. absurd (true≢false (sym t ∙ v)))
 
-  other-row : (s : Section) (gs : List Section) → eqb (rowOf g 0) (rowAfter s gs) ≡ false → s .group ≡ g → ⊥
-  other-row s gs e t = eqb-false (rowOf g 0) (rowAfter s gs) e (sym (row-plain g v (services (s ∷ gs))) ∙ ap (λ (h : Group). rowOf h (services (s ∷ gs))) (sym t))
+  other-row : (s : Section) (gs : List Section) → eqb (rowNumber g 0) (rowAfter s gs) ≡ false → s .group ≡ g → ⊥
+  other-row s gs e t = eqb-false (rowNumber g 0) (rowAfter s gs) e (sym (row-plain g v (services (s ∷ gs))) ∙ ap (λ (h : Group). rowNumber h (services (s ∷ gs))) (sym t))
 
   pub other-name : (m : List ℕ) {h : Group} → groupOf d m ≡ some h → (h ≡ g → ⊥) → same n m ≡ false
   other-name m {h} e k = go (same n m) refl
@@ -82,21 +82,21 @@ module _ (d : Dialect) (n : List ℕ) (g : Group) (q : groupOf d n ≡ some g) (
   -- a group that was not named has no settings, and a group that was named has a line
   pub record Unnamed (gs : List Section) : Type 0 where
     pub name : nameGiven n gs ≡ false
-    pub none : latest (rowOf g 0) gs ≡ []
+    pub none : latest (rowNumber g 0) gs ≡ []
 
-  pub unnamed : (gs : List Section) → WellNamed d gs → headSlot (rowOf g 0) gs .line ≡ 0 → Unnamed gs
+  pub unnamed : (gs : List Section) → WellNamed d gs → headSlot (rowNumber g 0) gs .line ≡ 0 → Unnamed gs
   unnamed [] w e = record { name = refl; none = refl }
-  unnamed (s ∷ gs) w e = go (eqb (rowOf g 0) (rowAfter s gs)) refl (λ k. unnamed gs (w .3) k) e
+  unnamed (s ∷ gs) w e = go (eqb (rowNumber g 0) (rowAfter s gs)) refl (λ k. unnamed gs (w .3) k) e
     where
-      go : (b : Bool) → eqb (rowOf g 0) (rowAfter s gs) ≡ b → (headSlot (rowOf g 0) gs .line ≡ 0 → Unnamed gs) → cond b (record { start = s .start; end = s .start; line = s .line; code = 0 }) (headSlot (rowOf g 0) gs) .line ≡ 0 → Unnamed (s ∷ gs)
+      go : (b : Bool) → eqb (rowNumber g 0) (rowAfter s gs) ≡ b → (headSlot (rowNumber g 0) gs .line ≡ 0 → Unnamed gs) → cond b (record { start = s .start; end = s .start; line = s .line; code = 0 }) (headSlot (rowNumber g 0) gs) .line ≡ 0 → Unnamed (s ∷ gs)
       go true p f k = absurd (omega (arith, k, w .1))
       go false p f k = let u = f k in record { name = rw (other-name (s .name) (w .0) (other-row s gs p)) (u .name); none = rw p (u .none) }
 
-  pub renamed : (gs : List Section) → WellNamed d gs → (headSlot (rowOf g 0) gs .line ≡ 0 → ⊥) → nameGiven n gs ≡ true
+  pub renamed : (gs : List Section) → WellNamed d gs → (headSlot (rowNumber g 0) gs .line ≡ 0 → ⊥) → nameGiven n gs ≡ true
   renamed [] w e = absurd (e refl)
-  renamed (s ∷ gs) w e = go (eqb (rowOf g 0) (rowAfter s gs)) refl (λ k. renamed gs (w .3) k) e
+  renamed (s ∷ gs) w e = go (eqb (rowNumber g 0) (rowAfter s gs)) refl (λ k. renamed gs (w .3) k) e
     where
-      go : (b : Bool) → eqb (rowOf g 0) (rowAfter s gs) ≡ b → ((headSlot (rowOf g 0) gs .line ≡ 0 → ⊥) → nameGiven n gs ≡ true) → (cond b (record { start = s .start; end = s .start; line = s .line; code = 0 }) (headSlot (rowOf g 0) gs) .line ≡ 0 → ⊥) → (same n (s .name) || nameGiven n gs) ≡ true
+      go : (b : Bool) → eqb (rowNumber g 0) (rowAfter s gs) ≡ b → ((headSlot (rowNumber g 0) gs .line ≡ 0 → ⊥) → nameGiven n gs ≡ true) → (cond b (record { start = s .start; end = s .start; line = s .line; code = 0 }) (headSlot (rowNumber g 0) gs) .line ≡ 0 → ⊥) → (same n (s .name) || nameGiven n gs) ≡ true
       go true p f k =
           let t : groupOf d (s .name) ≡ some g = w .0 ∙ ap some (same-row s gs p) in
           let m : n ≡ s .name = one-name d n q v ∙ sym (one-name d (s .name) t v) in
@@ -108,11 +108,11 @@ module _ (d : Dialect) (n : List ℕ) (g : Group) (q : groupOf d n ≡ some g) (
           or-right false e = e
 
   -- the settings of the group with a name are those of its row
-  pub entries-latest : (gs : List Section) → WellNamed d gs → n ≡ groupName g → entriesIn n gs ≡ latest (rowOf g 0) gs
+  pub entries-latest : (gs : List Section) → WellNamed d gs → n ≡ groupName g → entriesIn n gs ≡ latest (rowNumber g 0) gs
   entries-latest [] w t = refl
-  entries-latest (s ∷ gs) w t = go (eqb (rowOf g 0) (rowAfter s gs)) refl (entries-latest gs (w .3) t)
+  entries-latest (s ∷ gs) w t = go (eqb (rowNumber g 0) (rowAfter s gs)) refl (entries-latest gs (w .3) t)
     where
-      go : (b : Bool) → eqb (rowOf g 0) (rowAfter s gs) ≡ b → entriesIn n gs ≡ latest (rowOf g 0) gs → cond (same n (s .name)) (s .entries) (entriesIn n gs) ≡ cond b (s .entries) (latest (rowOf g 0) gs)
+      go : (b : Bool) → eqb (rowNumber g 0) (rowAfter s gs) ≡ b → entriesIn n gs ≡ latest (rowNumber g 0) gs → cond (same n (s .name)) (s .entries) (entriesIn n gs) ≡ cond b (s .entries) (latest (rowNumber g 0) gs)
       go true p h = rw (one-name d (s .name) (w .0 ∙ ap some (same-row s gs p)) v, t, same-refl (groupName g))
       go false p h = rw (other-name (s .name) (w .0) (other-row s gs p)) h
 
@@ -122,7 +122,7 @@ pub latest-new : (gs : List Section) (r : ℕ) → 4 + services gs < r → lates
 latest-new [] r h = refl
 latest-new (s ∷ gs) r h = rw (ne-eqb r (rowAfter s gs) (λ e. omega (arith, e, h, row-most (s .group) (services (s ∷ gs))))) (latest-new gs r (omega (arith, h, services-more s gs)))
   where
-    row-most : (g : Group) (n : ℕ) → rowOf g n ≤ 4 + n
+    row-most : (g : Group) (n : ℕ) → rowNumber g n ≤ 4 + n
     row-most Settings n = omega arith
     row-most Security n = omega arith
     row-most Ipv4 n = omega arith
@@ -137,9 +137,9 @@ latest-new (s ∷ gs) r h = rw (ne-eqb r (rowAfter s gs) (λ e. omega (arith, e,
         go true = omega arith
         go false = omega arith
 
-module _ {d : Dialect} {file x : List ℕ} {gs : List Section} (t : Table d file x gs) where
+module _ {d : Dialect} {file x : List ℕ} {gs : List Section} (t : TableKeeps d file x gs) where
   -- a slot behind the rows
-  pub table-named : (i : ℕ) (p : Slot) → nameBase ≤ i → i < slotCount → Table d file (stored i p x) gs
+  pub table-named : (i : ℕ) (p : Slot) → nameBase ≤ i → i < slotCount → TableKeeps d file (stored i p x) gs
   table-named i p low high =
       record {
         long = stored-long x i p (t .long) high;
@@ -158,38 +158,38 @@ module _ {d : Dialect} {file x : List ℕ} {gs : List Section} (t : Table d file
       low : Lies d (rowAfter this gs)
       low = lies d (rowAfter this gs) (own-row d n q (services (this ∷ gs)) few)
 
-      pub there : (j : ℕ) → j < slotCount → (j ≡ baseAt (rowAfter this gs) → ⊥) → slot j (stored (baseAt (rowAfter this gs)) (header s l) x) ≡ slot j x
-      there j k e = stored-there x (baseAt (rowAfter this gs)) (header s l) (t .long) (let o = low in omega arith) j k e
+      pub there : (j : ℕ) → j < slotCount → (j ≡ baseAt (rowAfter this gs) → ⊥) → slot j (stored (baseAt (rowAfter this gs)) (headerSlot s l) x) ≡ slot j x
+      there j k e = stored-there x (baseAt (rowAfter this gs)) (headerSlot s l) (t .long) (let o = low in omega arith) j k e
 
-      row-of : latest (rowAfter this gs) gs ≡ [] → (r : ℕ) → Own d r → (b : Bool) → eqb r (rowAfter this gs) ≡ b → Row d file (stored (baseAt (rowAfter this gs)) (header s l) x) (baseAt r) (groupAt r) (cond b [] (latest r gs))
-      row-of fresh r k true e = subst (λ (es : List Entry). Row d file (stored (baseAt (rowAfter this gs)) (header s l) x) (baseAt r) (groupAt r) es) (ap (λ (i : ℕ). latest i gs) (eqb-true r (rowAfter this gs) e) ∙ fresh) (kept r k)
+      row-of : latest (rowAfter this gs) gs ≡ [] → (r : ℕ) → OwnRow d r → (b : Bool) → eqb r (rowAfter this gs) ≡ b → RowKeeps d file (stored (baseAt (rowAfter this gs)) (headerSlot s l) x) (baseAt r) (groupAt r) (cond b [] (latest r gs))
+      row-of fresh r k true e = subst (λ (es : List Entry). RowKeeps d file (stored (baseAt (rowAfter this gs)) (headerSlot s l) x) (baseAt r) (groupAt r) es) (ap (λ (i : ℕ). latest i gs) (eqb-true r (rowAfter this gs) e) ∙ fresh) (kept r k)
         where
-          kept : (r : ℕ) → Own d r → Row d file (stored (baseAt (rowAfter this gs)) (header s l) x) (baseAt r) (groupAt r) (latest r gs)
+          kept : (r : ℕ) → OwnRow d r → RowKeeps d file (stored (baseAt (rowAfter this gs)) (headerSlot s l) x) (baseAt r) (groupAt r) (latest r gs)
           kept r k = row-kept (t .rows .each r k) (λ m y. there (baseAt r + place m (keyNames (groupAt r))) (let o = lies d r k in omega (arith, keys-few (groupAt r) m)) (λ e. y (let o = lies d r k in let w = low in omega (arith, e, keys-few (groupAt r) m))))
       row-of fresh r k false e = row-kept (t .rows .each r k) (λ m y. there (baseAt r + place m (keyNames (groupAt r))) (let o = lies d r k in omega (arith, keys-few (groupAt r) m)) (λ e. y (let o = lies d r k in let w = low in omega (arith, e, keys-few (groupAt r) m))))
 
-      head-of : (r : ℕ) → Own d r → (b : Bool) → eqb r (rowAfter this gs) ≡ b → slot (baseAt r) (stored (baseAt (rowAfter this gs)) (header s l) x) ≡ cond b (header s l) (headSlot r gs)
-      head-of r k true e = rw (eqb-true r (rowAfter this gs) e) (stored-here x (baseAt (rowAfter this gs)) (header s l) (t .long) (let o = low in omega arith))
+      head-of : (r : ℕ) → OwnRow d r → (b : Bool) → eqb r (rowAfter this gs) ≡ b → slot (baseAt r) (stored (baseAt (rowAfter this gs)) (headerSlot s l) x) ≡ cond b (headerSlot s l) (headSlot r gs)
+      head-of r k true e = rw (eqb-true r (rowAfter this gs) e) (stored-here x (baseAt (rowAfter this gs)) (headerSlot s l) (t .long) (let o = low in omega arith))
       head-of r k false e = there (baseAt r) (let o = lies d r k in omega arith) (λ p. eqb-false r (rowAfter this gs) e (let o = lies d r k in let w = low in omega (arith, p))) ∙ t .heads r k
 
-      pub table-headed : latest (rowAfter this gs) gs ≡ [] → 0 < l → nameGiven n gs ≡ false → Table d file (stored (baseAt (rowAfter this gs)) (header s l) x) (this ∷ gs)
+      pub table-headed : latest (rowAfter this gs) gs ≡ [] → 0 < l → nameGiven n gs ≡ false → TableKeeps d file (stored (baseAt (rowAfter this gs)) (headerSlot s l) x) (this ∷ gs)
       table-headed fresh k new =
           record {
-            long = stored-long x (baseAt (rowAfter this gs)) (header s l) (t .long) (let o = low in omega arith);
+            long = stored-long x (baseAt (rowAfter this gs)) (headerSlot s l) (t .long) (let o = low in omega arith);
             rows = record { few = few; well = (q, k, new, t .rows .well); each = λ r m. row-of fresh r m (eqb r (rowAfter this gs)) refl };
             heads = λ r m. head-of r m (eqb r (rowAfter this gs)) refl;
           }
 
 -- ---- what is held after a header
 
-module _ {d : Dialect} {file : List ℕ} {st : State} {x : List ℕ} {gs : List Section} (h : Holds d file st x gs) (n : List ℕ) (g : Group) (q : groupOf d n ≡ some g) (new : nameGiven n gs ≡ false) (s l : ℕ) (k : 0 < l) where
+module _ {d : Dialect} {file : List ℕ} {st : State} {x : List ℕ} {gs : List Section} (h : HoldsGroups d file st x gs) (n : List ℕ) (g : Group) (q : groupOf d n ≡ some g) (new : nameGiven n gs ≡ false) (s l : ℕ) (k : 0 < l) where
   abbrev header-section : Section
   header-section = record { name = n; group = g; line = l; start = s; entries = [] }
 
   module _ (v : serves g ≡ false) where
-    plain-free : (b : Bool) → eqb (headSlot (rowOf g 0) gs .line) 0 ≡ b → latest (rowOf g 0) gs ≡ []
-    plain-free true e = unnamed d n g q v gs (h .table .rows .well) (eqb-true (headSlot (rowOf g 0) gs .line) 0 e) .none
-    plain-free false e = absurd (true≢false (sym (renamed d n g q v gs (h .table .rows .well) (eqb-false (headSlot (rowOf g 0) gs .line) 0 e)) ∙ new))
+    plain-free : (b : Bool) → eqb (headSlot (rowNumber g 0) gs .line) 0 ≡ b → latest (rowNumber g 0) gs ≡ []
+    plain-free true e = unnamed d n g q v gs (h .table .rows .well) (eqb-true (headSlot (rowNumber g 0) gs .line) 0 e) .none
+    plain-free false e = absurd (true≢false (sym (renamed d n g q v gs (h .table .rows .well) (eqb-false (headSlot (rowNumber g 0) gs .line) 0 e)) ∙ new))
 
     next : services (header-section ∷ gs) ≡ st .services
     next = rw v (sym (h .services))
@@ -204,18 +204,18 @@ module _ {d : Dialect} {file : List ℕ} {st : State} {x : List ℕ} {gs : List 
         go true p = absurd (true≢false (ap serves (Option·some-injective Service g (sym e ∙ ap (groupOf d) (same-eq m n p) ∙ q)) ∙ v))
         go false p = refl
 
-    named : (i : ℕ) → i < st .services → slot (nameBase + i) (stored (baseAt (rowAfter header-section gs)) (header s l) x) ≡ slot (nameBase + i) x
+    named : (i : ℕ) → i < st .services → slot (nameBase + i) (stored (baseAt (rowAfter header-section gs)) (headerSlot s l) x) ≡ slot (nameBase + i) x
     named i j = there (h .table) n g s l q few (nameBase + i) (omega (arith, h .spans .few)) (λ e. let o = lies d (rowAfter header-section gs) (own-row d n q (services (header-section ∷ gs)) few) in omega (arith, e))
 
-    pub holds-plain : {r : State} → r ≡ record { current = In g (baseAt (rowOf g (st .services))); services = st .services; settings = st .settings } → Holds d file r (stored (baseAt (rowOf g (st .services))) (header s l) x) (record { name = n; group = g; line = l; start = s; entries = [] } ∷ gs)
+    pub holds-plain : {r : State} → r ≡ record { current = In g (baseAt (rowNumber g (st .services))); services = st .services; settings = st .settings } → HoldsGroups d file r (stored (baseAt (rowNumber g (st .services))) (headerSlot s l) x) (record { name = n; group = g; line = l; start = s; entries = [] } ∷ gs)
     holds-plain {r} e =
-        subst (λ (i : ℕ). Holds d file r (stored (baseAt (rowOf g i)) (header s l) x) (header-section ∷ gs)) next
+        subst (λ (i : ℕ). HoldsGroups d file r (stored (baseAt (rowNumber g i)) (headerSlot s l) x) (header-section ∷ gs)) next
         (rw e
         (record {
-          table = table-headed (h .table) n g s l q few (ap (λ (i : ℕ). latest i gs) (row-plain g v (services (header-section ∷ gs))) ∙ plain-free (eqb (headSlot (rowOf g 0) gs .line) 0) refl) k new;
-          current = ap (λ (i : ℕ). In g (baseAt (rowOf g i))) (sym next);
+          table = table-headed (h .table) n g s l q few (ap (λ (i : ℕ). latest i gs) (row-plain g v (services (header-section ∷ gs))) ∙ plain-free (eqb (headSlot (rowNumber g 0) gs .line) 0) refl) k new;
+          current = ap (λ (i : ℕ). In g (baseAt (rowNumber g i))) (sym next);
           services = sym next;
           settings = omega (arith, h .settings);
           spans = spans-kept (h .spans) named;
-          names = λ m y. among-kept file x (stored (baseAt (rowAfter header-section gs)) (header s l) x) (st .services) named m ∙ h .names m y ∙ rw (service-other m y);
+          names = λ m y. among-kept file x (stored (baseAt (rowAfter header-section gs)) (headerSlot s l) x) (st .services) named m ∙ h .names m y ∙ rw (service-other m y);
         }))

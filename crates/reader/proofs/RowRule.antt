@@ -27,28 +27,29 @@ use Rattle.rules.specs.Sections.{Entry, given, entryOf}
 use Rattle.rules.specs.WordNumbers.{isWord, wordNumber}
 use Rattle.tables.specs.KeyPlaces.{keyNames}
 use Rattle.reader.specs.Store.{Slot, slot}
-use Rattle.reader.specs.Keys.{placeOf, groupOf, wordOf as nameOf, kindOf, key-placed, key-kind, key-few}
-use Rattle.reader.specs.Holds.{flagCode, codeOf, Coded, Kept, Row}
-use Rattle.reader.specs.Closing.{InTable, KeyIn, keySlot, isTaken, slotIs, slotsRule}
+use Rattle.reader.specs.Keys.{keyPlace, keyGroup, keyWord as nameOf, keyKind}
+use Rattle.reader.specs.KeyLaws.{listed-kind, listed-placed, listed-few}
+use Rattle.reader.specs.Holds.{flagCode, codeOf, Coded, SlotKeeps, RowKeeps}
+use Rattle.reader.specs.Closing.{RowInTable, ValueInFile, keySlot, isTaken, slotIs, slotsRule}
 use Rattle.reader.specs.declared.KeyName.{KeyName}
 use Rattle.reader.specs.declared.KeyName.the-variants as N
 use Rattle.reader.proofs.Rows.{given-entry, kept-given}
 
 -- ---- what a row keeps of a key
 
-module _ {d : Dialect} {file x : List ℕ} {b : ℕ} (k : KeyName) {es : List Entry} (h : Row d file x b (groupOf k) es) where
-  pub row-key : Kept d (some (kindOf k)) file (slot (b + placeOf k) x) (entryOf (nameOf k) es)
-  row-key = rw (← key-placed k, ← key-kind k) (h .each (nameOf k) (λ z. let p = key-few k .0 in omega (arith, z, p, key-placed k)))
+module _ {d : Dialect} {file x : List ℕ} {b : ℕ} (k : KeyName) {es : List Entry} (h : RowKeeps d file x b (keyGroup k) es) where
+  pub row-key : SlotKeeps d (some (keyKind k)) file (slot (b + keyPlace k) x) (entryOf (nameOf k) es)
+  row-key = rw (← listed-placed k, ← listed-kind k) (h .each (nameOf k) (λ z. let p = listed-few k .0 in omega (arith, z, p, listed-placed k)))
 
   -- a slot of a row is taken where its key is given
   pub taken-given : isTaken x b k ≡ given (nameOf k) es
-  taken-given = sym (kept-given d (some (kindOf k)) file (slot (b + placeOf k) x) (entryOf (nameOf k) es) row-key refl) ∙ sym (given-entry (nameOf k) es)
+  taken-given = sym (kept-given d (some (keyKind k)) file (slot (b + keyPlace k) x) (entryOf (nameOf k) es) row-key refl) ∙ sym (given-entry (nameOf k) es)
 
   -- what a row keeps of a key lies in the file
-  pub row-in : InTable x b → KeyIn file x b k
+  pub row-in : RowInTable x b → ValueInFile file x b k
   row-in t = go (entryOf (nameOf k) es) row-key
     where
-      go : (o : Option Entry) → Kept d (some (kindOf k)) file (keySlot x b k) o → KeyIn file x b k
+      go : (o : Option Entry) → SlotKeeps d (some (keyKind k)) file (keySlot x b k) o → ValueInFile file x b k
       go none q = record { table = t; low = rw (ap (λ (s : Slot). s .start) q, ap (λ (s : Slot). s .end) q) (le-refl 0); high = rw (ap (λ (s : Slot). s .end) q) (omega arith) }
       go (some e) q = record { table = t; low = q .low; high = q .high }
 
@@ -94,7 +95,7 @@ coded-mask d v h = coded-by netmask T.maskLength d Netmask v refl h
 
 -- ---- the row of a service
 
-pub kept-word : (d : Dialect) (l : WordList) (file : List ℕ) (s : Slot) (o : Option Entry) → Kept d (some (Named l)) file s o → (w : Word) → eqb (s .code) (wordNumber w) ≡ isWord w (andThen o (λ e. wordOf l (e .value)))
+pub kept-word : (d : Dialect) (l : WordList) (file : List ℕ) (s : Slot) (o : Option Entry) → SlotKeeps d (some (Named l)) file s o → (w : Word) → eqb (s .code) (wordNumber w) ≡ isWord w (andThen o (λ e. wordOf l (e .value)))
 kept-word d l file s none q w = rw (ap (λ (t : Slot). t .code) q) (ne-eqb 0 (wordNumber w) (λ e. word-some w e))
   where
     word-some : (w : Word) → 0 ≡ wordNumber w → ⊥
@@ -111,7 +112,7 @@ kept-word d l file s none q w = rw (ap (λ (t : Slot). t .code) q) (ne-eqb 0 (wo
     word-some Wep e = omega (arith, e)
 kept-word d l file s (some x) h w = let c = coded-word d l (x .value) (h .code) in ap (λ (n : ℕ). eqb n (wordNumber w)) (c .code) ∙ sym (ap (isWord w) (c .is))
 
-module _ {d : Dialect} {file x : List ℕ} {b : ℕ} {es : List Entry} (h : Row d file x b (groupOf N.Type) es) where
+module _ {d : Dialect} {file x : List ℕ} {b : ℕ} {es : List Entry} (h : RowKeeps d file x b (keyGroup N.Type) es) where
   pub row-rule : slotsRule x b ≡ serviceFault es
   unfolding slotsRule serviceFault
   row-rule =
@@ -122,8 +123,8 @@ module _ {d : Dialect} {file x : List ℕ} {b : ℕ} {es : List Entry} (h : Row 
         taken-given N.Passphrase h,
         taken-given N.Security h,
         taken-given N.Hidden h,
-        kept-word d W.ServiceType file (slot (b + placeOf N.Type) x) (entryOf (word "Type") es) (row-key N.Type h) Wifi,
-        kept-word d W.ServiceType file (slot (b + placeOf N.Type) x) (entryOf (word "Type") es) (row-key N.Type h) Ethernet,
-        kept-word d W.Security file (slot (b + placeOf N.Security) x) (entryOf (word "Security") es) (row-key N.Security h) Psk,
-        kept-word d W.Security file (slot (b + placeOf N.Security) x) (entryOf (word "Security") es) (row-key N.Security h) None,
+        kept-word d W.ServiceType file (slot (b + keyPlace N.Type) x) (entryOf (word "Type") es) (row-key N.Type h) Wifi,
+        kept-word d W.ServiceType file (slot (b + keyPlace N.Type) x) (entryOf (word "Type") es) (row-key N.Type h) Ethernet,
+        kept-word d W.Security file (slot (b + keyPlace N.Security) x) (entryOf (word "Security") es) (row-key N.Security h) Psk,
+        kept-word d W.Security file (slot (b + keyPlace N.Security) x) (entryOf (word "Security") es) (row-key N.Security h) None,
       )

@@ -21,8 +21,8 @@ use Rattle.tables.specs.KeyPlaces.{keyNames}
 use Rattle.rules.specs.declared.Group.{Group}
 use Rattle.rules.specs.declared.Group.the-variants.{Settings, Security, Ipv4, Ipv6, Global, Service}
 use Rattle.reader.specs.Store.{lastRow, rowLength, tableLength, Slot, slot, emptySlot, stored}
-use Rattle.reader.specs.History.{rowOf, baseAt, Own, groupAt, rowAfter, latest}
-use Rattle.reader.specs.Holds.{Stands, Kept, Row, Rows}
+use Rattle.reader.specs.History.{rowNumber, baseAt, OwnRow, groupAt, rowAfter, latest}
+use Rattle.reader.specs.Holds.{SlotSays, SlotKeeps, RowKeeps, RowsKeep}
 use Rattle.reader.proofs.Slots.{stored-here, stored-there}
 
 -- ---- places in a table of words
@@ -92,7 +92,7 @@ entry-new k x (y ∷ es) h g = go (same k (y .key)) refl (λ q. entry-new k x es
     go false q f = f (rw q at g)
 
 -- whether a slot is taken says whether its key is given
-pub kept-given : (d : Dialect) (k : Option Kind) (file : List ℕ) (s : Slot) (o : Option Entry) → Kept d k file s o → {b : Bool} → eqb (s .line) 0 ≡ b → isSome o ≡ not b
+pub kept-given : (d : Dialect) (k : Option Kind) (file : List ℕ) (s : Slot) (o : Option Entry) → SlotKeeps d k file s o → {b : Bool} → eqb (s .line) 0 ≡ b → isSome o ≡ not b
 kept-given d k file s none h {b} e = go b (sym (ap (λ (t : Slot). eqb (t .line) 0) h) ∙ e)
   where
     go : (b : Bool) → true ≡ b → false ≡ not b
@@ -106,16 +106,16 @@ kept-given d k file s (some x) h {b} e = go b (sym (ne-eqb (s .line) 0 (λ q. om
 
 -- ---- a store
 
-module _ {d : Dialect} {file x : List ℕ} {b : ℕ} {g : Group} {es : List Entry} (h : Row d file x b g es) where
+module _ {d : Dialect} {file x : List ℕ} {b : ℕ} {g : Group} {es : List Entry} (h : RowKeeps d file x b g es) where
   -- slots that a change leaves as they were
-  pub row-kept : {y : List ℕ} → ((k : List ℕ) → (place k (keyNames g) ≡ 0 → ⊥) → slot (b + place k (keyNames g)) y ≡ slot (b + place k (keyNames g)) x) → Row d file y b g es
+  pub row-kept : {y : List ℕ} → ((k : List ℕ) → (place k (keyNames g) ≡ 0 → ⊥) → slot (b + place k (keyNames g)) y ≡ slot (b + place k (keyNames g)) x) → RowKeeps d file y b g es
   row-kept {y} kept = record { each = λ k z. rw (kept k z) (h .each k z) }
 
   module _ (long : length x ≡ tableLength) (k : List ℕ) (r : b ≤ lastRow) (free : given k es ≡ false) where
-    pub row-put : {e : Entry} {s : Slot} → e .key ≡ k → Stands d (kindOf g k) file s e → Row d file (stored (b + place k (keyNames g)) s x) b g (es ++ (e ∷ []))
+    pub row-put : {e : Entry} {s : Slot} → e .key ≡ k → SlotSays d (kindOf g k) file s e → RowKeeps d file (stored (b + place k (keyNames g)) s x) b g (es ++ (e ∷ []))
     row-put {e} {s} q w = record { each = λ m y. go m y (same m k) refl }
       where
-        go : (m : List ℕ) → (place m (keyNames g) ≡ 0 → ⊥) → (a : Bool) → same m k ≡ a → Kept d (kindOf g m) file (slot (b + place m (keyNames g)) (stored (b + place k (keyNames g)) s x)) (entryOf m (es ++ (e ∷ [])))
+        go : (m : List ℕ) → (place m (keyNames g) ≡ 0 → ⊥) → (a : Bool) → same m k ≡ a → SlotKeeps d (kindOf g m) file (slot (b + place m (keyNames g)) (stored (b + place k (keyNames g)) s x)) (entryOf m (es ++ (e ∷ [])))
         go m y true p =
             let n : m ≡ k = same-eq m k p in
             rw (n, entry-new k e es (rw q (same-refl k)) free, stored-here x (b + place k (keyNames g)) s long (omega (arith, r, keys-few g k))) w
@@ -125,7 +125,7 @@ module _ {d : Dialect} {file x : List ℕ} {b : ℕ} {g : Group} {es : List Entr
 
 -- ---- the rows of groups
 
-pub group-at : (g : Group) (n : ℕ) → (serves g ≡ true → 0 < n) → groupAt (rowOf g n) ≡ g
+pub group-at : (g : Group) (n : ℕ) → (serves g ≡ true → 0 < n) → groupAt (rowNumber g n) ≡ g
 unfolding groupAt
 group-at Settings n h = refl
 group-at Security n h = refl
@@ -137,34 +137,34 @@ group-at Service n h =
     rw (ne-eqb (4 + n) 0 (λ e. omega (arith, e, p)), ne-eqb (4 + n) 1 (λ e. omega (arith, e, p)), ne-eqb (4 + n) 2 (λ e. omega (arith, e, p)), ne-eqb (4 + n) 3 (λ e. omega (arith, e, p)), ne-eqb (4 + n) 4 (λ e. omega (arith, e, p)))
 
 -- where a row of a dialect lies
-abbrev pub shift : Dialect → ℕ
-shift Iwd = 0
-shift ConnMan = 4
+abbrev pub firstRow : Dialect → ℕ
+firstRow Iwd = 0
+firstRow ConnMan = 4
 
 pub record Lies (d : Dialect) (r : ℕ) : Type 0 where
-  pub is : baseAt r ≡ rowLength * (r - shift d)
-  pub low : shift d ≤ r
-  pub high : r < shift d + 9
+  pub is : baseAt r ≡ rowLength * (r - firstRow d)
+  pub low : firstRow d ≤ r
+  pub high : r < firstRow d + 9
 
-pub lies : (d : Dialect) (r : ℕ) → Own d r → Lies d r
+pub lies : (d : Dialect) (r : ℕ) → OwnRow d r → Lies d r
 lies Iwd r h = record { is = rw (lt-leb 4 r h) (omega arith); low = omega arith; high = omega (arith, h) }
 lies ConnMan r h = record { is = rw (le-leb 4 r (h .0)); low = h .0; high = omega (arith, h .1) }
 
-pub own-row : (d : Dialect) (n : List ℕ) {g : Group} → groupOf d n ≡ some g → (m : ℕ) → m ≤ 8 → Own d (rowOf g m)
+pub own-row : (d : Dialect) (n : List ℕ) {g : Group} → groupOf d n ≡ some g → (m : ℕ) → m ≤ 8 → OwnRow d (rowNumber g m)
 unfolding groupOf
 own-row Iwd n {g} e m l = go (same n (word "Settings")) (same n (word "Security")) (same n (word "IPv4")) (same n (word "IPv6")) e
   where
-    go : (a b c f : Bool) → cond a (some Settings) (cond b (some Security) (cond c (some Ipv4) (cond f (some Ipv6) none))) ≡ some g → rowOf g m < 4
-    go true b c f k = subst (λ (h : Group). rowOf h m < 4) (Option·some-injective Settings g k) (omega arith)
-    go false true c f k = subst (λ (h : Group). rowOf h m < 4) (Option·some-injective Security g k) (omega arith)
-    go false false true f k = subst (λ (h : Group). rowOf h m < 4) (Option·some-injective Ipv4 g k) (omega arith)
-    go false false false true k = subst (λ (h : Group). rowOf h m < 4) (Option·some-injective Ipv6 g k) (omega arith)
+    go : (a b c f : Bool) → cond a (some Settings) (cond b (some Security) (cond c (some Ipv4) (cond f (some Ipv6) none))) ≡ some g → rowNumber g m < 4
+    go true b c f k = subst (λ (h : Group). rowNumber h m < 4) (Option·some-injective Settings g k) (omega arith)
+    go false true c f k = subst (λ (h : Group). rowNumber h m < 4) (Option·some-injective Security g k) (omega arith)
+    go false false true f k = subst (λ (h : Group). rowNumber h m < 4) (Option·some-injective Ipv4 g k) (omega arith)
+    go false false false true k = subst (λ (h : Group). rowNumber h m < 4) (Option·some-injective Ipv6 g k) (omega arith)
     go false false false false k = absurd (Option·none-ne-some g k)
 own-row ConnMan n {g} e m l = go (same n (word "global")) (isService n) e
   where
-    go : (a b : Bool) → cond a (some Global) (only b (some Service)) ≡ some g → (4 ≤ rowOf g m) × (rowOf g m < 13)
-    go true b k = subst (λ (h : Group). (4 ≤ rowOf h m) × (rowOf h m < 13)) (Option·some-injective Global g k) (omega arith, omega arith)
-    go false true k = subst (λ (h : Group). (4 ≤ rowOf h m) × (rowOf h m < 13)) (Option·some-injective Service g k) (omega arith, omega arith)
+    go : (a b : Bool) → cond a (some Global) (only b (some Service)) ≡ some g → (4 ≤ rowNumber g m) × (rowNumber g m < 13)
+    go true b k = subst (λ (h : Group). (4 ≤ rowNumber h m) × (rowNumber h m < 13)) (Option·some-injective Global g k) (omega arith, omega arith)
+    go false true k = subst (λ (h : Group). (4 ≤ rowNumber h m) × (rowNumber h m < 13)) (Option·some-injective Service g k) (omega arith, omega arith)
     go false false k = absurd (Option·none-ne-some g k)
 
 module _ (s : Section) (gs : List Section) where
@@ -175,8 +175,8 @@ module _ (s : Section) (gs : List Section) where
   latest-here = rw (eq-eqb (rowAfter s gs) (rowAfter s gs) refl)
 
   -- the row of the group in force
-  pub row-here : {d : Dialect} {file x : List ℕ} → Rows d file x (s ∷ gs) → Row d file x (baseAt (rowAfter s gs)) (s .group) (s .entries)
+  pub row-here : {d : Dialect} {file x : List ℕ} → RowsKeep d file x (s ∷ gs) → RowKeeps d file x (baseAt (rowAfter s gs)) (s .group) (s .entries)
   row-here {d} {file} {x} h =
-      subst (λ (g : Group). Row d file x (baseAt (rowAfter s gs)) g (s .entries)) group-after
-      (subst (λ (es : List Entry). Row d file x (baseAt (rowAfter s gs)) (groupAt (rowAfter s gs)) es) latest-here
+      subst (λ (g : Group). RowKeeps d file x (baseAt (rowAfter s gs)) g (s .entries)) group-after
+      (subst (λ (es : List Entry). RowKeeps d file x (baseAt (rowAfter s gs)) (groupAt (rowAfter s gs)) es) latest-here
       (h .each (rowAfter s gs) (own-row d (s .name) (h .well .0) (services (s ∷ gs)) (h .few))))

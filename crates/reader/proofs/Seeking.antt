@@ -10,11 +10,11 @@ use Rattle.reader.specs.Store.{slot}
 use Rattle.reader.specs.Holds.{among}
 use Rattle.reader.specs.History.{nameBase}
 
-pub record Seeking (file x : List ℕ) (n i : ℕ) (w : List ℕ) : Type 0 where
+pub record SeekingName (file x : List ℕ) (n i : ℕ) (w : List ℕ) : Type 0 where
   pub few : i ≤ n
   pub rest : among file x i w ≡ among file x n w
 
-module _ {file x : List ℕ} {n i : ℕ} {w : List ℕ} (h : Seeking file x n i w) where
+module _ {file x : List ℕ} {n i : ℕ} {w : List ℕ} (h : SeekingName file x n i w) where
   pub seeking-end : i ≤ 0 → false ≡ among file x n w
   seeking-end l = let z : i ≡ 0 = omega arith in sym (ap (λ (m : ℕ). among file x m w) z) ∙ h .rest
 
@@ -25,5 +25,5 @@ module _ {file x : List ℕ} {n i : ℕ} {w : List ℕ} (h : Seeking file x n i 
     pub seeking-found : b ≡ true → true ≡ among file x n w
     seeking-found e = sym (step ∙ rw e)
 
-    pub seeking-turn : b ≡ false → Seeking file x n (i - 1) w
+    pub seeking-turn : b ≡ false → SeekingName file x n (i - 1) w
     seeking-turn e = record { few = omega (arith, h .few); rest = sym (step ∙ rw e) }

@@ -17,9 +17,9 @@ use Rattle.tables.specs.KeyPlaces.{keyNames}
 use Rattle.rules.specs.Sections.{Entry, Section, nameGiven, serves, services}
 use Rattle.rules.specs.declared.Group.the-variants.{Service}
 use Rattle.reader.specs.Store.{Slot, slot, stored}
-use Rattle.reader.specs.History.{nameBase, rowOf, baseAt}
-use Rattle.reader.specs.Holds.{Spans, among, Table, Holds}
-use Rattle.reader.specs.Steps.{header, named}
+use Rattle.reader.specs.History.{nameBase, rowNumber, baseAt}
+use Rattle.reader.specs.Holds.{Spans, among, TableKeeps, HoldsGroups}
+use Rattle.reader.specs.Steps.{headerSlot, nameSlot}
 use Rattle.reader.specs.declared.State.{State}
 use Rattle.reader.specs.declared.Current.the-variants.{In}
 use Rattle.reader.proofs.Slots.{stored-here, stored-there}
@@ -27,12 +27,12 @@ use Rattle.reader.proofs.Rows.{lies, own-row}
 use Rattle.reader.proofs.Growing.{among-kept}
 use Rattle.reader.proofs.PlainHeading.{latest-new, there, table-headed, table-named}
 
-module _ {d : Dialect} {file : List ℕ} {st : State} {x : List ℕ} {gs : List Section} (h : Holds d file st x gs) (p : Place) (q : groupOf d (partAt file p) ≡ some Service) (new : nameGiven (partAt file p) gs ≡ false) (s l : ℕ) (k : 0 < l) (few : st .services < 8) (inside : Inside (length file) p) where
+module _ {d : Dialect} {file : List ℕ} {st : State} {x : List ℕ} {gs : List Section} (h : HoldsGroups d file st x gs) (p : Place) (q : groupOf d (partAt file p) ≡ some Service) (new : nameGiven (partAt file p) gs ≡ false) (s l : ℕ) (k : 0 < l) (few : st .services < 8) (inside : Inside (length file) p) where
   abbrev one : List ℕ
-  one = stored (baseAt (rowOf Service (suc (services gs)))) (header s l) x
+  one = stored (baseAt (rowNumber Service (suc (services gs)))) (headerSlot s l) x
 
   abbrev two : List ℕ
-  two = stored (nameBase + st .services) (named p l) one
+  two = stored (nameBase + st .services) (nameSlot p l) one
 
   abbrev this : Section
   this = record { name = partAt file p; group = Service; line = l; start = s; entries = [] }
@@ -40,14 +40,14 @@ module _ {d : Dialect} {file : List ℕ} {st : State} {x : List ℕ} {gs : List 
   less : suc (services gs) ≤ 8
   less = omega (arith, h .services)
 
-  headed : Table d file one (this ∷ gs)
+  headed : TableKeeps d file one (this ∷ gs)
   headed = table-headed (h .table) (partAt file p) Service s l q less (latest-new gs (4 + suc (services gs)) (omega arith)) k new
 
   name-kept : (i : ℕ) → i < st .services → slot (nameBase + i) two ≡ slot (nameBase + i) x
-  name-kept i j = stored-there one (nameBase + st .services) (named p l) (headed .long) (omega (arith, few)) (nameBase + i) (omega (arith, j, few)) (λ e. omega (arith, e, j)) ∙ there (h .table) (partAt file p) Service s l q less (nameBase + i) (omega (arith, j, few)) (λ e. let o = lies d (4 + suc (services gs)) (own-row d (partAt file p) q (suc (services gs)) less) in omega (arith, e, less))
+  name-kept i j = stored-there one (nameBase + st .services) (nameSlot p l) (headed .long) (omega (arith, few)) (nameBase + i) (omega (arith, j, few)) (λ e. omega (arith, e, j)) ∙ there (h .table) (partAt file p) Service s l q less (nameBase + i) (omega (arith, j, few)) (λ e. let o = lies d (4 + suc (services gs)) (own-row d (partAt file p) q (suc (services gs)) less) in omega (arith, e, less))
 
-  name-here : slot (nameBase + st .services) two ≡ named p l
-  name-here = stored-here one (nameBase + st .services) (named p l) (headed .long) (omega (arith, few))
+  name-here : slot (nameBase + st .services) two ≡ nameSlot p l
+  name-here = stored-here one (nameBase + st .services) (nameSlot p l) (headed .long) (omega (arith, few))
 
   spans-of : Spans file two (st .services + 1)
   spans-of = record { few = omega (arith, few); each = λ i j. go i (eqb i (st .services)) refl j }
@@ -66,14 +66,14 @@ module _ {d : Dialect} {file : List ℕ} {st : State} {x : List ℕ} {gs : List 
       (ap (λ (t : Slot). same m (part (t .start) (t .end) file)) name-here)
       (among-kept file x two (st .services) name-kept m ∙ h .names m v)
 
-  pub holds-service : {r : State} → r ≡ record { current = In Service (baseAt (rowOf Service (st .services + 1))); services = st .services + 1; settings = st .settings } → Holds d file r (stored (nameBase + st .services) (named p l) (stored (baseAt (rowOf Service (st .services + 1))) (header s l) x)) (this ∷ gs)
+  pub holds-service : {r : State} → r ≡ record { current = In Service (baseAt (rowNumber Service (st .services + 1))); services = st .services + 1; settings = st .settings } → HoldsGroups d file r (stored (nameBase + st .services) (nameSlot p l) (stored (baseAt (rowNumber Service (st .services + 1))) (headerSlot s l) x)) (this ∷ gs)
   holds-service {r} v =
       let next : st .services + 1 ≡ suc (services gs) = omega (arith, h .services) in
-      subst (λ (i : ℕ). Holds d file r (stored (nameBase + st .services) (named p l) (stored (baseAt (rowOf Service i)) (header s l) x)) (this ∷ gs)) (sym next)
+      subst (λ (i : ℕ). HoldsGroups d file r (stored (nameBase + st .services) (nameSlot p l) (stored (baseAt (rowNumber Service i)) (headerSlot s l) x)) (this ∷ gs)) (sym next)
       (rw v
       (record {
-        table = table-named headed (nameBase + st .services) (named p l) (omega arith) (omega (arith, few));
-        current = ap (λ (i : ℕ). In Service (baseAt (rowOf Service i))) next;
+        table = table-named headed (nameBase + st .services) (nameSlot p l) (omega arith) (omega (arith, few));
+        current = ap (λ (i : ℕ). In Service (baseAt (rowNumber Service i))) next;
         services = next;
         settings = omega (arith, h .settings);
         spans = spans-of;

@@ -19,8 +19,8 @@ use Rattle.rules.specs.declared.Group.{Group}
 use Rattle.rules.specs.declared.Group.the-variants.{Settings, Security, Ipv4, Ipv6, Global, Service}
 use Rattle.rules.specs.declared.Refusal.{Refusal}
 use Rattle.reader.specs.Store.{rowLength, Slot, slot}
-use Rattle.reader.specs.History.{rowOf, baseAt, groupAt, rowAfter, latest, headSlot, allFault}
-use Rattle.reader.specs.Holds.{Row, Table}
+use Rattle.reader.specs.History.{rowNumber, baseAt, groupAt, rowAfter, latest, headSlot}
+use Rattle.reader.specs.Holds.{RowKeeps, TableKeeps}
 use Rattle.reader.specs.Closing.{slotsRule, slotsFaultAt, slotsFault, ruleAnswer, pendingOf}
 use Rattle.reader.specs.declared.Rule.{Rule}
 use Rattle.reader.specs.declared.Rule.the-variants as R
@@ -38,18 +38,23 @@ abbrev rowsFault : List Section → ℕ → Option Fault
 rowsFault gs zero = none
 rowsFault gs (suc n) = orElse (rowsFault gs n) (rowFault (4 + suc n) gs)
 
-module _ {file x : List ℕ} {gs : List Section} (t : Table ConnMan file x gs) where
+module _ {file x : List ℕ} {gs : List Section} (t : TableKeeps ConnMan file x gs) where
   row-fault : (n : ℕ) → n < 8 → slotsFaultAt x (rowLength + rowLength * n) ≡ rowFault (4 + suc n) gs
   row-fault n l =
       let own : (4 ≤ 4 + suc n) × (4 + suc n < 13) = (omega arith, omega (arith, l)) in
       let at : rowLength + rowLength * n ≡ baseAt (4 + suc n) = (let o = lies ConnMan (4 + suc n) own in omega arith) in
-      rw (at, ap (λ (s : Slot). s .line) (t .heads (4 + suc n) own), row-rule (subst (λ (g : Group). Row ConnMan file x (baseAt (4 + suc n)) g (latest (4 + suc n) gs)) (group-at Service (suc n) (λ e. omega arith)) (t .rows .each (4 + suc n) own)))
+      rw (at, ap (λ (s : Slot). s .line) (t .heads (4 + suc n) own), row-rule (subst (λ (g : Group). RowKeeps ConnMan file x (baseAt (4 + suc n)) g (latest (4 + suc n) gs)) (group-at Service (suc n) (λ e. omega arith)) (t .rows .each (4 + suc n) own)))
 
   rows-fault : (n : ℕ) → n ≤ 8 → slotsFault x n ≡ rowsFault gs n
   rows-fault zero l = refl
   rows-fault (suc n) l = ap₂ orElse (rows-fault n (omega (arith, l))) (row-fault n (omega (arith, l)))
 
 -- ---- by the groups
+
+-- the first fault of all services
+abbrev pub allFault : List Section → Option Fault
+allFault [] = none
+allFault (s ∷ gs) = orElse (allFault gs) (sectionFault s)
 
 pub or-none : (o : Option Fault) → orElse o none ≡ o
 or-none none = refl
@@ -58,7 +63,7 @@ or-none (some f) = refl
 row-other : (s : Section) (gs : List Section) (m : ℕ) → m < services gs → eqb (4 + suc m) (rowAfter s gs) ≡ false
 row-other s gs m l = ne-eqb (4 + suc m) (rowAfter s gs) (λ e. go (s .group) e)
   where
-    go : (g : Group) → 4 + suc m ≡ rowOf g (cond (serves g) (suc (services gs)) (services gs)) → ⊥
+    go : (g : Group) → 4 + suc m ≡ rowNumber g (cond (serves g) (suc (services gs)) (services gs)) → ⊥
     go Settings e = omega (arith, e)
     go Security e = omega (arith, e)
     go Ipv4 e = omega (arith, e)
@@ -84,7 +89,7 @@ all-rows (s ∷ gs) = go (serves (s .group)) refl (rows-older s gs (services gs)
         let same : services (s ∷ gs) ≡ services gs = rw v in
         ap (rowsFault (s ∷ gs)) same ∙ h ∙ sym (or-none (allFault gs)) ∙ ap (orElse (allFault gs)) (rw v)
 
-pub services-fault : {file x : List ℕ} {gs : List Section} → Table ConnMan file x gs → {n : ℕ} → n ≡ services gs → slotsFault x n ≡ allFault gs
+pub services-fault : {file x : List ℕ} {gs : List Section} → TableKeeps ConnMan file x gs → {n : ℕ} → n ≡ services gs → slotsFault x n ≡ allFault gs
 services-fault {x = x} {gs = gs} t {n} e = ap (slotsFault x) e ∙ rows-fault t (services gs) (t .rows .few) ∙ all-rows gs
 
 -- ---- the loop

@@ -31,7 +31,7 @@ use Rattle.tables.specs.declared.Listed.the-variants as L
 use Rattle.rules.specs.declared.Refusal.the-variants.{NoGroup, UnknownKey, RepeatedKey, ValueText, ValueKind}
 use Rattle.reader.specs.Store.{linesFrom, slot}
 use Rattle.reader.specs.History.{nameBase, baseAt, rowAfter, currentOf}
-use Rattle.reader.specs.Holds.{Row, Rows}
+use Rattle.reader.specs.Holds.{RowKeeps, RowsKeep}
 use Rattle.reader.specs.Says.{NewSetting, SettingIs, CurrentRow, SettingSays}
 use Rattle.reader.specs.declared.Current.{Current}
 use Rattle.reader.specs.declared.Current.the-variants.{Outside, In}
@@ -55,12 +55,12 @@ abbrev inForce : List Section → List Entry
 inForce [] = []
 inForce (s ∷ gs) = s .entries
 
-row-in-force : {d : Dialect} {file x : List ℕ} (gs : List Section) {g : Group} {b : ℕ} → Head gs g b → Rows d file x gs → Row d file x b g (inForce gs)
+row-in-force : {d : Dialect} {file x : List ℕ} (gs : List Section) {g : Group} {b : ℕ} → Head gs g b → RowsKeep d file x gs → RowKeeps d file x b g (inForce gs)
 row-in-force {d} {file} {x} gs {g} {b} h rows =
-    subst (λ (t : List Section). Row d file x b g (inForce t)) (sym (h .is))
-    (subst (λ (t : Group). Row d file x b t (h .section .entries)) (h .group)
-    (subst (λ (t : ℕ). Row d file x t (h .section .group) (h .section .entries)) (h .row)
-    (row-here (h .section) (h .rest) (subst (λ (t : List Section). Rows d file x t) (h .is) rows))))
+    subst (λ (t : List Section). RowKeeps d file x b g (inForce t)) (sym (h .is))
+    (subst (λ (t : Group). RowKeeps d file x b t (h .section .entries)) (h .group)
+    (subst (λ (t : ℕ). RowKeeps d file x t (h .section .group) (h .section .entries)) (h .row)
+    (row-here (h .section) (h .rest) (subst (λ (t : List Section). RowsKeep d file x t) (h .is) rows))))
 
 listed-key : (m : ℕ) (o : Option Kind) {n : ℕ} {x : Kind} → listedAnswer m o ≡ L.Is n x → (m ≡ n) × (o ≡ some x)
 listed-key m none e = let z : _≡_ {A = ℕ} 0 1 = cc in absurd (omega arith)
@@ -115,7 +115,7 @@ module _ (d : Dialect) (file x : List ℕ) (c : Current) (key value : Place) whe
       placed : place (partAt file key) (keyNames g) ≡ 0 → ⊥
       placed = kind-placed g (partAt file key) (known .1)
 
-      whether : (gs : List Section) → Row d file x b g (inForce gs) → {t : Bool} → eqb (getD x (linesFrom + (b + n)) 0) 0 ≡ t → given (partAt file key) (inForce gs) ≡ not t
+      whether : (gs : List Section) → RowKeeps d file x b g (inForce gs) → {t : Bool} → eqb (getD x (linesFrom + (b + n)) 0) 0 ≡ t → given (partAt file key) (inForce gs) ≡ not t
       whether gs row {t} l =
           let at : eqb (getD x (linesFrom + (b + place (partAt file key) (keyNames g))) 0) 0 ≡ t = rw (known .0) l in
           given-entry (partAt file key) (inForce gs) ∙ kept-given d (kindOf g (partAt file key)) file (slot (b + place (partAt file key) (keyNames g)) x) (entryOf (partAt file key) (inForce gs)) (row .each (partAt file key) placed) at
@@ -127,7 +127,7 @@ module _ (d : Dialect) (file x : List ℕ) (c : Current) (key value : Place) whe
       setting-repeated l = record { says = λ gs e rows. faulty gs e ∙ rw (known .1, whether gs (row-in-force gs (head gs e q) rows) (ne-eqb _ 0 l)) }
 
       module _ (l : getD x (linesFrom + (b + n)) 0 ≡ 0) {j : Judgement} (s : j ≡ judgementAt value (judged d kind (partAt file value))) where
-        judging : (gs : List Section) → c ≡ currentOf gs → Rows d file x gs → fault d gs (setting (partAt file key) (partAt file value)) ≡ valueFault (judged d kind (partAt file value))
+        judging : (gs : List Section) → c ≡ currentOf gs → RowsKeep d file x gs → fault d gs (setting (partAt file key) (partAt file value)) ≡ valueFault (judged d kind (partAt file value))
         judging gs e rows = faulty gs e ∙ rw (known .1, whether gs (row-in-force gs (head gs e q) rows) (eq-eqb _ 0 l))
 
         pub setting-text : j ≡ J.BrokenText → SettingSays d file x c key value (Refused ValueText)

@@ -15,8 +15,8 @@ use Rattle.text.specs.declared.Dialect.the-variants.{ConnMan}
 use Rattle.kinds.specs.declared.Kind.{Kind}
 use Rattle.rules.specs.Asking.{firstOr, serviceAt, readAs, entryLine, entryStart}
 use Rattle.reader.specs.Store.{lastRow, rowLength, Slot}
-use Rattle.reader.specs.History.{rowOf, base, rowAfter, latest, numbered}
-use Rattle.reader.specs.Holds.{OfText, Kept, Row, Table}
+use Rattle.reader.specs.History.{rowNumber, base, rowAfter, latest}
+use Rattle.reader.specs.Holds.{OfText, SlotKeeps, RowKeeps, TableKeeps}
 use Rattle.rules.specs.GoodEntries.{serves-service}
 use Rattle.rules.specs.declared.Group.{Group}
 use Rattle.rules.specs.declared.Group.the-variants.{Settings, Security, Ipv4, Ipv6, Global, Service}
@@ -26,19 +26,24 @@ use Rattle.reader.proofs.Backwards.{services-reverse}
 
 module _ (d : Dialect) (k : Option Kind) (file : List ℕ) (s : Slot) where
   -- a kind that reads nothing from no bytes
-  pub kept-read : {A : Type 0} (f : List ℕ → Option A) → f [] ≡ none → OfText k → (o : Option Entry) → Kept d k file s o → f (part (s .start) (s .end) file) ≡ readAs f o
+  pub kept-read : {A : Type 0} (f : List ℕ → Option A) → f [] ≡ none → OfText k → (o : Option Entry) → SlotKeeps d k file s o → f (part (s .start) (s .end) file) ≡ readAs f o
   kept-read f e t none q = rw (ap (λ (u : Slot). u .start) q, ap (λ (u : Slot). u .end) q, part-none file 0) e
   kept-read f e t (some x) h = ap f (h .value t)
 
-  pub kept-line : (o : Option Entry) → Kept d k file s o → s .line ≡ entryLine o
+  pub kept-line : (o : Option Entry) → SlotKeeps d k file s o → s .line ≡ entryLine o
   kept-line none q = ap (λ (t : Slot). t .line) q
   kept-line (some x) h = h .line
 
-  pub kept-start : OfText k → (o : Option Entry) → Kept d k file s o → s .start ≡ entryStart o
+  pub kept-start : OfText k → (o : Option Entry) → SlotKeeps d k file s o → s .start ≡ entryStart o
   kept-start t none q = ap (λ (u : Slot). u .start) q
   kept-start t (some x) h = h .start t
 
 -- ---- a service by its number, the groups in file order and the latest first
+
+-- the settings of service w, the groups the latest first
+abbrev pub serviceEntries : ℕ → List Section → List Entry
+serviceEntries w [] = []
+serviceEntries w (s ∷ gs) = cond (serves (s .group) && eqb w (suc (services gs))) (s .entries) (serviceEntries w gs)
 
 -- a number at the end of a list of services, or one of those before
 abbrev lastOr : Section → Bool → List Entry → List Entry
@@ -81,17 +86,17 @@ none-last : (w : ℕ) → [] ≡ serviceAt w []
 none-last zero = refl
 none-last (suc w) = refl
 
-pub numbered-service : (w : ℕ) (gs : List Section) → numbered w gs ≡ serviceAt w (reverse gs)
+pub numbered-service : (w : ℕ) (gs : List Section) → serviceEntries w gs ≡ serviceAt w (reverse gs)
 numbered-service w [] = none-last w
 numbered-service w (g ∷ gs) = rw (reverse-cons g gs, service-last (reverse gs) w g, services-reverse gs) (ap (lastOr g (eqb w (suc (services gs)))) (numbered-service w gs))
 
 -- ---- the row of a service by its number
 
-numbered-latest : (w : ℕ) → 1 ≤ w → (gs : List Section) → latest (4 + w) gs ≡ numbered w gs
+numbered-latest : (w : ℕ) → 1 ≤ w → (gs : List Section) → latest (4 + w) gs ≡ serviceEntries w gs
 numbered-latest w l [] = refl
 numbered-latest w l (s ∷ gs) = go (serves (s .group)) refl (numbered-latest w l gs)
   where
-    plain : (g : Group) (n : ℕ) → serves g ≡ false → rowOf g n ≤ 4
+    plain : (g : Group) (n : ℕ) → serves g ≡ false → rowNumber g n ≤ 4
     plain Settings n v = omega arith
     plain Security n v = omega arith
     plain Ipv4 n v = omega arith
@@ -106,14 +111,14 @@ numbered-latest w l (s ∷ gs) = go (serves (s .group)) refl (numbered-latest w 
         same true e = eq-eqb (4 + w) (4 + n) (ap (λ (i : ℕ). 4 + i) (eqb-true w n e))
         same false e = ne-eqb (4 + w) (4 + n) (λ q. eqb-false w n e (omega (arith, q)))
 
-    go : (b : Bool) → serves (s .group) ≡ b → latest (4 + w) gs ≡ numbered w gs → latest (4 + w) (s ∷ gs) ≡ numbered w (s ∷ gs)
+    go : (b : Bool) → serves (s .group) ≡ b → latest (4 + w) gs ≡ serviceEntries w gs → latest (4 + w) (s ∷ gs) ≡ serviceEntries w (s ∷ gs)
     go true v h = let g : s .group ≡ Service = serves-service (s .group) v in rw (g, shifted (suc (services gs)), h)
     go false v h = rw (ne-eqb (4 + w) (rowAfter s gs) (λ q. let p = plain (s .group) (services (s ∷ gs)) v in omega (arith, q, p, l)), v) h
 
-pub numbered-row : {file x : List ℕ} {gs : List Section} → Table ConnMan file x gs → (w : ℕ) → (1 ≤ w) × (w ≤ 8) → Row ConnMan file x (base Service w) Service (numbered w gs)
+pub numbered-row : {file x : List ℕ} {gs : List Section} → TableKeeps ConnMan file x gs → (w : ℕ) → (1 ≤ w) × (w ≤ 8) → RowKeeps ConnMan file x (base Service w) Service (serviceEntries w gs)
 numbered-row {file} {x} {gs} t w l =
-    subst (λ (es : List Entry). Row ConnMan file x (base Service w) Service es) (numbered-latest w (l .0) gs)
-    (subst (λ (g : Group). Row ConnMan file x (base Service w) g (latest (4 + w) gs)) (group-at Service w (λ e. l .0)) (t .rows .each (4 + w) (omega arith, omega (arith, l .1))))
+    subst (λ (es : List Entry). RowKeeps ConnMan file x (base Service w) Service es) (numbered-latest w (l .0) gs)
+    (subst (λ (g : Group). RowKeeps ConnMan file x (base Service w) g (latest (4 + w) gs)) (group-at Service w (λ e. l .0)) (t .rows .each (4 + w) (omega arith, omega (arith, l .1))))
 
 pub service-base : (n : ℕ) → base Service n ≡ rowLength * n
 service-base n = rw (le-leb 4 (4 + n) (omega arith)) (omega arith)

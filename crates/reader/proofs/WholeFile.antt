@@ -10,9 +10,9 @@ use Rattle.rules.specs.Faults.{Fault}
 use Rattle.tables.specs.KeyPlaces.{keyNames}
 use Rattle.rules.specs.declared.Reading.{Reading}
 use Rattle.rules.specs.declared.Reading.the-variants.{Accepted}
-use Rattle.reader.specs.Holds.{Holds}
+use Rattle.reader.specs.Holds.{HoldsGroups}
 use Rattle.reader.specs.Closing.{pendingOf}
-use Rattle.reader.specs.Ending.{kindOfName, dialectOf, slotsGroups, answered, Ends}
+use Rattle.reader.specs.Ending.{kindOfName, nameDialect, slotsGroups, endAnswer, EndSays}
 use Rattle.reader.specs.declared.FileKind.{FileKind}
 use Rattle.reader.specs.declared.State.{State}
 use Rattle.reader.specs.declared.Pending.{Pending}
@@ -22,24 +22,24 @@ use Rattle.reader.proofs.Backwards.{services-reverse, settings-reverse,
 use Rattle.reader.proofs.FileFault.{file-fault}
 
 module _ {file : List ℕ} {st : State} {x : List ℕ} {gs : List Section} where
-  groups-fault : (n : Name) → Holds (dialectOf n) file st x gs → slotsGroups (kindOfName (some n)) x (st .services) ≡ pendingOf (groupsFault n (reverse gs))
+  groups-fault : (n : Name) → HoldsGroups (nameDialect n) file st x gs → slotsGroups (kindOfName (some n)) x (st .services) ≡ pendingOf (groupsFault n (reverse gs))
   groups-fault (iwdName s) h = ap pendingOf (file-fault (h .table) s)
   groups-fault connmanFile h = ap pendingOf (services-fault (h .table) (h .services) ∙ sym (fault-reverse gs))
 
-answered-verdict : (o : Option Fault) (gs : List Section) {n m : ℕ} → n ≡ settings gs → m ≡ services gs → answered (pendingOf o) n m ≡ verdict o gs
+answered-verdict : (o : Option Fault) (gs : List Section) {n m : ℕ} → n ≡ settings gs → m ≡ services gs → endAnswer (pendingOf o) n m ≡ verdict o gs
 answered-verdict none gs p q = rw (p, q)
 answered-verdict (some f) gs p q = refl
 
-answered-count : (p : Pending) (s v : ℕ) {n m : ℕ} → answered p s v ≡ Accepted n m → m ≡ v
+answered-count : (p : Pending) (s v : ℕ) {n m : ℕ} → endAnswer p s v ≡ Accepted n m → m ≡ v
 answered-count P.Nothing s v e = cc
 answered-count (P.At r l) s v e = let z : _≡_ {A = ℕ} 0 1 = cc in absurd (omega arith)
 
-pub ends : (k : FileKind) {st : State} {x : List ℕ} {p : Pending} → p ≡ slotsGroups k x (st .services) → {r : Reading} → r ≡ answered p (st .settings) (st .services) → Ends k st x r
+pub ends : (k : FileKind) {st : State} {x : List ℕ} {p : Pending} → p ≡ slotsGroups k x (st .services) → {r : Reading} → r ≡ endAnswer p (st .settings) (st .services) → EndSays k st x r
 ends k {st} {x} {p} f e =
     record {
       reading = λ n q gs h.
           e
-          ∙ ap (λ (t : Pending). answered t (st .settings) (st .services)) (f ∙ ap (λ (t : FileKind). slotsGroups t x (st .services)) q ∙ groups-fault n h)
+          ∙ ap (λ (t : Pending). endAnswer t (st .settings) (st .services)) (f ∙ ap (λ (t : FileKind). slotsGroups t x (st .services)) q ∙ groups-fault n h)
           ∙ answered-verdict (groupsFault n (reverse gs)) (reverse gs) (h .settings ∙ sym (settings-reverse gs)) (h .services ∙ sym (services-reverse gs));
       counted = λ q. answered-count p (st .settings) (st .services) (sym e ∙ q);
     }

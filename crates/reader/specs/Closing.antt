@@ -15,7 +15,7 @@ use Rattle.rules.specs.Faults.{Fault, faultAt}
 use Rattle.rules.specs.WordNumbers.{wordNumber}
 use Rattle.rules.specs.declared.Refusal.{Refusal}
 use Rattle.reader.specs.Store.{tableLength, rowLength, lastRow, Slot, slot}
-use Rattle.reader.specs.Keys.{placeOf}
+use Rattle.reader.specs.Keys.{keyPlace}
 use Rattle.reader.specs.declared.KeyName.{KeyName}
 use Rattle.reader.specs.declared.KeyName.the-variants as N
 use Rattle.reader.specs.declared.Rule.{Rule}
@@ -24,28 +24,28 @@ use Rattle.reader.specs.declared.Pending.{Pending}
 use Rattle.reader.specs.declared.Pending.the-variants as P
 
 -- a row from b on lies in the table
-pub record InTable (x : List ℕ) (b : ℕ) : Type 0 where
+pub record RowInTable (x : List ℕ) (b : ℕ) : Type 0 where
   pub long : length x ≡ tableLength
   pub row : b ≤ lastRow
 
 -- what the row from b on keeps of a key
 abbrev pub keySlot : List ℕ → ℕ → KeyName → Slot
-keySlot x b k = slot (b + placeOf k) x
+keySlot x b k = slot (b + keyPlace k) x
 
 abbrev pub bytesOf : List ℕ → List ℕ → ℕ → KeyName → List ℕ
 bytesOf file x b k = part (keySlot x b k .start) (keySlot x b k .end) file
 
 -- its place lies in the file
-pub record KeyIn (file x : List ℕ) (b : ℕ) (k : KeyName) : Type 0 where
-  pub table : InTable x b
+pub record ValueInFile (file x : List ℕ) (b : ℕ) (k : KeyName) : Type 0 where
+  pub table : RowInTable x b
   pub low : keySlot x b k .start ≤ keySlot x b k .end
   pub high : keySlot x b k .end ≤ length file
 
 abbrev pub isTaken : List ℕ → ℕ → KeyName → Bool
-isTaken x b k = not (eqb (slot (b + placeOf k) x .line) 0)
+isTaken x b k = not (eqb (slot (b + keyPlace k) x .line) 0)
 
 abbrev pub slotIs : List ℕ → ℕ → KeyName → Word → Bool
-slotIs x b k w = eqb (slot (b + placeOf k) x .code) (wordNumber w)
+slotIs x b k w = eqb (slot (b + keyPlace k) x .code) (wordNumber w)
 
 abbrev pub ruleAnswer : Option Refusal → Rule
 ruleAnswer none = R.Obeyed

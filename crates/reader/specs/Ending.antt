@@ -14,7 +14,7 @@ use Rattle.rules.specs.declared.Group.{Group}
 use Rattle.rules.specs.declared.Group.the-variants.{Service}
 use Rattle.rules.specs.declared.Reading.{Reading}
 use Rattle.rules.specs.declared.Reading.the-variants.{Accepted, Refused}
-use Rattle.reader.specs.Holds.{Holds}
+use Rattle.reader.specs.Holds.{HoldsGroups}
 use Rattle.reader.specs.Closing.{pendingOf, slotsFault}
 use Rattle.reader.specs.FileRule.{slotsFile}
 use Rattle.reader.specs.declared.FileKind.{FileKind}
@@ -29,9 +29,9 @@ kindOfName none = K.Misnamed
 kindOfName (some (iwdName s)) = K.Iwd s
 kindOfName (some connmanFile) = K.ConnMan
 
-abbrev pub dialectOf : Name → Dialect
-dialectOf (iwdName s) = D.Iwd
-dialectOf connmanFile = D.ConnMan
+abbrev pub nameDialect : Name → Dialect
+nameDialect (iwdName s) = D.Iwd
+nameDialect connmanFile = D.ConnMan
 
 -- the first fault of the groups, by the table of places
 abbrev pub slotsGroups : FileKind → List ℕ → ℕ → Pending
@@ -39,10 +39,10 @@ slotsGroups K.Misnamed x n = P.Nothing
 slotsGroups (K.Iwd s) x n = pendingOf (faultAt 0 (slotsFile s x))
 slotsGroups K.ConnMan x n = pendingOf (slotsFault x n)
 
-abbrev pub answered : Pending → ℕ → ℕ → Reading
-answered P.Nothing n m = Accepted n m
-answered (P.At r l) n m = Refused r l
+abbrev pub endAnswer : Pending → ℕ → ℕ → Reading
+endAnswer P.Nothing n m = Accepted n m
+endAnswer (P.At r l) n m = Refused r l
 
-pub record Ends (k : FileKind) (st : State) (x : List ℕ) (r : Reading) : Type 0 where
-  pub reading : (n : Name) → k ≡ kindOfName (some n) → {file : List ℕ} (gs : List Section) → Holds (dialectOf n) file st x gs → r ≡ verdict (groupsFault n (reverse gs)) (reverse gs)
+pub record EndSays (k : FileKind) (st : State) (x : List ℕ) (r : Reading) : Type 0 where
+  pub reading : (n : Name) → k ≡ kindOfName (some n) → {file : List ℕ} (gs : List Section) → HoldsGroups (nameDialect n) file st x gs → r ≡ verdict (groupsFault n (reverse gs)) (reverse gs)
   pub counted : {n m : ℕ} → r ≡ Accepted n m → m ≡ st .services

@@ -1,13 +1,10 @@
 -- What the pass must know of the groups before a line; they stand the latest first.
-use Prim.Native.Nat.{ℕ, zero, suc, _+_, _-_, _*_, _≤_, _<_}
-use mathlib.Core.Bool.{Bool, true, false, cond, _&&_}
+use Prim.Native.Nat.{ℕ, _+_, _-_, _*_, _≤_, _<_}
+use mathlib.Core.Bool.{cond}
 use mathlib.Core.List.{List, [], _∷_}
-use mathlib.Core.Option.{Option, none, some}
 use lib.Dec.{eqb, leb}
 use Rattle.text.specs.declared.Dialect.{Dialect}
 use Rattle.text.specs.declared.Dialect.the-variants.{Iwd, ConnMan}
-use Rattle.text.specs.Options.{orElse}
-use Rattle.rules.specs.Groups.{sectionFault}
 use Rattle.rules.specs.Sections.{Entry, Section, services, serves}
 use Rattle.rules.specs.Faults.{Fault, faultAt}
 use Rattle.rules.specs.declared.Group.{Group}
@@ -18,25 +15,25 @@ use Rattle.reader.specs.declared.Current.the-variants.{Outside, In}
 
 -- the row of a group in the table of places, n services counted; the first slot of a row is for its
 -- header, the others are by the keys' places
-abbrev pub rowOf : Group → ℕ → ℕ
-rowOf Settings n = 0
-rowOf Security n = 1
-rowOf Ipv4 n = 2
-rowOf Ipv6 n = 3
-rowOf Global n = 4
-rowOf Service n = 4 + n
+abbrev pub rowNumber : Group → ℕ → ℕ
+rowNumber Settings n = 0
+rowNumber Security n = 1
+rowNumber Ipv4 n = 2
+rowNumber Ipv6 n = 3
+rowNumber Global n = 4
+rowNumber Service n = 4 + n
 
 -- where a row starts; the rows of the two dialects lie over each other, since a file has one
 abbrev pub baseAt : ℕ → ℕ
 baseAt r = cond (leb 4 r) (rowLength * (r - 4)) (rowLength * r)
 
 abbrev pub base : Group → ℕ → ℕ
-base g n = baseAt (rowOf g n)
+base g n = baseAt (rowNumber g n)
 
 -- whether a row is of a dialect
-abbrev pub Own : Dialect → ℕ → Type 0
-Own Iwd r = r < 4
-Own ConnMan r = (4 ≤ r) × (r < 13)
+abbrev pub OwnRow : Dialect → ℕ → Type 0
+OwnRow Iwd r = r < 4
+OwnRow ConnMan r = (4 ≤ r) × (r < 13)
 
 abbrev pub nameBase : ℕ
 nameBase = lastRow + rowLength
@@ -46,7 +43,7 @@ groupAt r = cond (eqb r 0) Settings (cond (eqb r 1) Security (cond (eqb r 2) Ipv
 
 -- the row of a group that stands after others
 abbrev pub rowAfter : Section → List Section → ℕ
-rowAfter s gs = rowOf (s .group) (services (s ∷ gs))
+rowAfter s gs = rowNumber (s .group) (services (s ∷ gs))
 
 -- the group in force, and where its row starts
 abbrev pub currentOf : List Section → Current
@@ -61,13 +58,3 @@ latest r (s ∷ gs) = cond (eqb r (rowAfter s gs)) (s .entries) (latest r gs)
 abbrev pub headSlot : ℕ → List Section → Slot
 headSlot r [] = emptySlot
 headSlot r (s ∷ gs) = cond (eqb r (rowAfter s gs)) (record { start = s .start; end = s .start; line = s .line; code = 0 }) (headSlot r gs)
-
--- the first fault of all services
-abbrev pub allFault : List Section → Option Fault
-allFault [] = none
-allFault (s ∷ gs) = orElse (allFault gs) (sectionFault s)
-
--- the settings of service w
-abbrev pub numbered : ℕ → List Section → List Entry
-numbered w [] = []
-numbered w (s ∷ gs) = cond (serves (s .group) && eqb w (suc (services gs))) (s .entries) (numbered w gs)

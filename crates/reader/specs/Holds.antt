@@ -20,7 +20,7 @@ use Rattle.tables.specs.KeyPlaces.{keyNames}
 use Rattle.rules.specs.declared.Group.{Group}
 use Rattle.rules.specs.declared.Group.the-variants.{Service}
 use Rattle.reader.specs.Store.{tableLength, Slot, slot, emptySlot}
-use Rattle.reader.specs.History.{baseAt, Own, nameBase, groupAt, currentOf, latest, headSlot}
+use Rattle.reader.specs.History.{baseAt, OwnRow, nameBase, groupAt, currentOf, latest, headSlot}
 use Rattle.reader.specs.declared.State.{State}
 
 -- ---- the code of a value: what it is, where it is a yes or no, a mask or a word
@@ -67,7 +67,7 @@ OfText none = ⊥
 OfText (some k) = isText k ≡ true
 
 -- a slot says where a setting's value stands, if it is a text, and what it is
-pub record Stands (d : Dialect) (k : Option Kind) (file : List ℕ) (s : Slot) (x : Entry) : Type 0 where
+pub record SlotSays (d : Dialect) (k : Option Kind) (file : List ℕ) (s : Slot) (x : Entry) : Type 0 where
   pub low : s .start ≤ s .end
   pub high : s .end ≤ length file
   pub value : OfText k → part (s .start) (s .end) file ≡ x .value
@@ -76,13 +76,13 @@ pub record Stands (d : Dialect) (k : Option Kind) (file : List ℕ) (s : Slot) (
   pub some : 0 < s .line
   pub code : Coded d k (x .value) (s .code)
 
-abbrev pub Kept : Dialect → Option Kind → List ℕ → Slot → Option Entry → Type 0
-Kept d k file s none = s ≡ emptySlot
-Kept d k file s (some x) = Stands d k file s x
+abbrev pub SlotKeeps : Dialect → Option Kind → List ℕ → Slot → Option Entry → Type 0
+SlotKeeps d k file s none = s ≡ emptySlot
+SlotKeeps d k file s (some x) = SlotSays d k file s x
 
 -- a row from b on: of each key of the group g, by its place there, the setting among es
-pub record Row (d : Dialect) (file x : List ℕ) (b : ℕ) (g : Group) (es : List Entry) : Type 0 where
-  pub each : (k : List ℕ) → (place k (keyNames g) ≡ 0 → ⊥) → Kept d (kindOf g k) file (slot (b + place k (keyNames g)) x) (entryOf k es)
+pub record RowKeeps (d : Dialect) (file x : List ℕ) (b : ℕ) (g : Group) (es : List Entry) : Type 0 where
+  pub each : (k : List ℕ) → (place k (keyNames g) ≡ 0 → ⊥) → SlotKeeps d (kindOf g k) file (slot (b + place k (keyNames g)) x) (entryOf k es)
 
 -- each group is the one that its name names, has a line, and was not named before
 abbrev pub WellNamed : Dialect → List Section → Type 0
@@ -90,10 +90,10 @@ WellNamed d [] = Unit
 WellNamed d (s ∷ gs) = (groupOf d (s .name) ≡ some (s .group)) × (0 < s .line) × (nameGiven (s .name) gs ≡ false) × WellNamed d gs
 
 -- all rows
-pub record Rows (d : Dialect) (file x : List ℕ) (gs : List Section) : Type 0 where
+pub record RowsKeep (d : Dialect) (file x : List ℕ) (gs : List Section) : Type 0 where
   pub few : services gs ≤ 8
   pub well : WellNamed d gs
-  pub each : (r : ℕ) → Own d r → Row d file x (baseAt r) (groupAt r) (latest r gs)
+  pub each : (r : ℕ) → OwnRow d r → RowKeeps d file x (baseAt r) (groupAt r) (latest r gs)
 
 -- the names of the first n services: that they lie in the file, and whether w is one of them
 pub record Spans (file x : List ℕ) (n : ℕ) : Type 0 where
@@ -105,13 +105,13 @@ among file x zero w = false
 among file x (suc i) w = same w (part (slot (nameBase + i) x .start) (slot (nameBase + i) x .end) file) || among file x i w
 
 -- where the settings and the header of each group stand
-pub record Table (d : Dialect) (file x : List ℕ) (gs : List Section) : Type 0 where
+pub record TableKeeps (d : Dialect) (file x : List ℕ) (gs : List Section) : Type 0 where
   pub long : length x ≡ tableLength
-  pub rows : Rows d file x gs
-  pub heads : (r : ℕ) → Own d r → slot (baseAt r) x ≡ headSlot r gs
+  pub rows : RowsKeep d file x gs
+  pub heads : (r : ℕ) → OwnRow d r → slot (baseAt r) x ≡ headSlot r gs
 
-pub record Holds (d : Dialect) (file : List ℕ) (st : State) (x : List ℕ) (gs : List Section) : Type 0 where
-  pub table : Table d file x gs
+pub record HoldsGroups (d : Dialect) (file : List ℕ) (st : State) (x : List ℕ) (gs : List Section) : Type 0 where
+  pub table : TableKeeps d file x gs
   pub current : st .current ≡ currentOf gs
   pub services : st .services ≡ services gs
   pub settings : st .settings ≡ settings gs

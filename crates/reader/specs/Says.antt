@@ -22,7 +22,7 @@ use Rattle.rules.specs.Sections.{Section, given}
 use Rattle.tables.specs.KeyPlaces.{keyNames}
 use Rattle.rules.specs.declared.Group.{Group}
 use Rattle.reader.specs.History.{currentOf}
-use Rattle.reader.specs.Holds.{Rows, flagCode}
+use Rattle.reader.specs.Holds.{RowsKeep, flagCode}
 use Rattle.reader.specs.declared.Current.{Current}
 use Rattle.reader.specs.declared.Current.the-variants.{Outside, In}
 use Rattle.reader.specs.declared.Line.{Line}
@@ -67,4 +67,4 @@ pub record CurrentRow (x : List ℕ) (c : Current) : Type 0 where
   pub row : (g : Group) (b : ℕ) → c ≡ In g b → b ≤ lastRow
 
 pub record SettingSays (d : Dialect) (file x : List ℕ) (c : Current) (key value : Place) (r : Line) : Type 0 where
-  pub says : (gs : List Section) → c ≡ currentOf gs → Rows d file x gs → SettingIs d file gs key value r
+  pub says : (gs : List Section) → c ≡ currentOf gs → RowsKeep d file x gs → SettingIs d file gs key value r

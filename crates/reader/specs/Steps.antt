@@ -17,7 +17,7 @@ use Rattle.rules.specs.Faults.{fault}
 use Rattle.rules.specs.declared.Group.{Group}
 use Rattle.reader.specs.Store.{Slot, stored}
 use Rattle.reader.specs.History.{base, nameBase, currentOf}
-use Rattle.reader.specs.Holds.{Rows, Holds}
+use Rattle.reader.specs.Holds.{RowsKeep, HoldsGroups}
 use Rattle.reader.specs.Says.{NewSetting}
 use Rattle.reader.specs.declared.Current.{Current}
 use Rattle.reader.specs.declared.Current.the-variants.{In}
@@ -47,30 +47,30 @@ LineIs d file gs s l (Setting i v) = GoodSetting d file gs s l i v
 LineIs d file gs s l (Refused r) = fault d gs (lineOf d l) ≡ some r
 
 pub record LineSays (d : Dialect) (file x : List ℕ) (c : Current) (s : ℕ) (l : List ℕ) (r : Line) : Type 0 where
-  pub says : (gs : List Section) → c ≡ currentOf gs → Rows d file x gs → LineIs d file gs s l r
+  pub says : (gs : List Section) → c ≡ currentOf gs → RowsKeep d file x gs → LineIs d file gs s l r
 
 -- ---- a good header, at s in the file, with its name at p, on line l
 
-abbrev pub header : ℕ → ℕ → Slot
-header s l = record { start = s; end = s; line = l; code = 0 }
+abbrev pub headerSlot : ℕ → ℕ → Slot
+headerSlot s l = record { start = s; end = s; line = l; code = 0 }
 
-abbrev pub named : Place → ℕ → Slot
-named p l = record { start = p .start; end = p .end; line = l; code = 0 }
+abbrev pub nameSlot : Place → ℕ → Slot
+nameSlot p l = record { start = p .start; end = p .end; line = l; code = 0 }
 
 pub record Opened (st : State) (x : List ℕ) (g : Group) (s : ℕ) (p : Place) (l : ℕ) (r : State) (y : List ℕ) : Type 0 where
-  pub plain : serves g ≡ false → (y ≡ stored (base g (st .services)) (header s l) x) × (r ≡ record { current = In g (base g (st .services)); services = st .services; settings = st .settings })
-  pub service : serves g ≡ true → (y ≡ stored (nameBase + st .services) (named p l) (stored (base g (st .services + 1)) (header s l) x)) × (r ≡ record { current = In g (base g (st .services + 1)); services = st .services + 1; settings = st .settings })
+  pub plain : serves g ≡ false → (y ≡ stored (base g (st .services)) (headerSlot s l) x) × (r ≡ record { current = In g (base g (st .services)); services = st .services; settings = st .settings })
+  pub service : serves g ≡ true → (y ≡ stored (nameBase + st .services) (nameSlot p l) (stored (base g (st .services + 1)) (headerSlot s l) x)) × (r ≡ record { current = In g (base g (st .services + 1)); services = st .services + 1; settings = st .settings })
 
 -- ---- a line p, whose number is n, which starts at s and in which a value starts at v
 
 -- groups for which the state and the table hold
 pub record Known (d : Dialect) (file : List ℕ) (st : State) (x : List ℕ) : Type 0 where
   pub groups : List Section
-  pub holds : Holds d file st x groups
+  pub holds : HoldsGroups d file st x groups
 
 abbrev pub StepIs : Dialect → List ℕ → List Section → ℕ → ℕ → ℕ → Lines.Line → List ℕ → Stepped → Type 0
-StepIs d file gs n s v p y (Goes st) = (fault d gs p ≡ none) × Holds d file st y (withLine d n s v p gs)
+StepIs d file gs n s v p y (Goes st) = (fault d gs p ≡ none) × HoldsGroups d file st y (withLine d n s v p gs)
 StepIs d file gs n s v p y (Stops r) = fault d gs p ≡ some r
 
-pub record Steps (d : Dialect) (file : List ℕ) (st : State) (x : List ℕ) (n s v : ℕ) (p : Lines.Line) (y : List ℕ) (r : Stepped) : Type 0 where
-  pub says : (gs : List Section) → Holds d file st x gs → StepIs d file gs n s v p y r
+pub record StepSays (d : Dialect) (file : List ℕ) (st : State) (x : List ℕ) (n s v : ℕ) (p : Lines.Line) (y : List ℕ) (r : Stepped) : Type 0 where
+  pub says : (gs : List Section) → HoldsGroups d file st x gs → StepIs d file gs n s v p y r

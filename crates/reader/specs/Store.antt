@@ -46,7 +46,7 @@ unfoldable pub stored : ℕ → Slot → List ℕ → List ℕ
 stored i s x = set (set (set (set x i (s .start)) (slotCount + i) (s .end)) (linesFrom + i) (s .line)) (codesFrom + i) (s .code)
 
 -- a place and its line fit the table
-pub record Fits (start end line : ℕ) : Type 0 where
+pub record FitsSlot (start end line : ℕ) : Type 0 where
   pub low : start < 65536
   pub high : end < 65536
   pub counted : line < 65536

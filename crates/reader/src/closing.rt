@@ -2,7 +2,7 @@
 ghost use mathlib.Core.Path.{_≡_};
 ghost use Prim.Native.Nat.{_≤_};
 ghost use lib.ListN.{length};
-ghost use Rattle.reader.specs.Closing.{InTable, slotsUnnamed, slotsKeyless, slotsLack, slotsWireless, slotsClash, slotsRule, ruleAnswer, pendingOf, slotsFault};
+ghost use Rattle.reader.specs.Closing.{RowInTable, slotsUnnamed, slotsKeyless, slotsLack, slotsWireless, slotsClash, slotsRule, ruleAnswer, pendingOf, slotsFault};
 ghost use Rattle.reader.specs.Store.{tableLength};
 use crate::KeyName;
 use crate::LINES;
@@ -20,7 +20,7 @@ use rules::Refusal;
 
 // Whether a wireless service has neither a name nor an SSID.
 fn unnamed(x: &Places, row: usize) -> bool
-    requires { ⌜ InTable (now x) row ⌝ }
+    requires { ⌜ RowInTable (now x) row ⌝ }
     ensures { λ r. ⌜ r ≡ slotsUnnamed (now (x .entry)) row ⌝ }
 {
     let wifi = is_word(x, row, KeyName::Type, Word::Wifi);
@@ -32,7 +32,7 @@ fn unnamed(x: &Places, row: usize) -> bool
 
 // Whether a service needs a passphrase and has none.
 fn keyless(x: &Places, row: usize) -> bool
-    requires { ⌜ InTable (now x) row ⌝ }
+    requires { ⌜ RowInTable (now x) row ⌝ }
     ensures { λ r. ⌜ r ≡ slotsKeyless (now (x .entry)) row ⌝ }
 {
     let psk = is_word(x, row, KeyName::Security, Word::Psk);
@@ -41,7 +41,7 @@ fn keyless(x: &Places, row: usize) -> bool
 
 // Whether something needed is missing in a service.
 fn lacks(x: &Places, row: usize) -> bool
-    requires { ⌜ InTable (now x) row ⌝ }
+    requires { ⌜ RowInTable (now x) row ⌝ }
     ensures { λ r. ⌜ r ≡ slotsLack (now (x .entry)) row ⌝ }
 {
     either(
@@ -52,7 +52,7 @@ fn lacks(x: &Places, row: usize) -> bool
 
 // Whether a service holds anything that only a wireless one may.
 fn is_wireless(x: &Places, row: usize) -> bool
-    requires { ⌜ InTable (now x) row ⌝ }
+    requires { ⌜ RowInTable (now x) row ⌝ }
     ensures { λ r. ⌜ r ≡ slotsWireless (now (x .entry)) row ⌝ }
 {
     let hidden = either(
@@ -68,7 +68,7 @@ fn is_wireless(x: &Places, row: usize) -> bool
 
 // Whether the settings of a service contradict each other.
 fn clashes(x: &Places, row: usize) -> bool
-    requires { ⌜ InTable (now x) row ⌝ }
+    requires { ⌜ RowInTable (now x) row ⌝ }
     ensures { λ r. ⌜ r ≡ slotsClash (now (x .entry)) row ⌝ }
 {
     let ethernet = is_word(x, row, KeyName::Type, Word::Ethernet);
@@ -79,7 +79,7 @@ fn clashes(x: &Places, row: usize) -> bool
 
 // The rules over a service: what is missing before what contradicts.
 fn service_rule(x: &Places, row: usize) -> Rule
-    requires { ⌜ InTable (now x) row ⌝ }
+    requires { ⌜ RowInTable (now x) row ⌝ }
     ensures { λ r. ⌜ r ≡ ruleAnswer (slotsRule (now (x .entry)) row) ⌝ }
 {
     if lacks(x, row) {

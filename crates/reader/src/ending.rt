@@ -2,7 +2,7 @@
 ghost use mathlib.Core.Path.{_≡_};
 ghost use Prim.Native.Nat.{_≤_};
 ghost use lib.ListN.{length};
-ghost use Rattle.reader.specs.Ending.{slotsGroups, answered, Ends};
+ghost use Rattle.reader.specs.Ending.{slotsGroups, endAnswer, EndSays};
 ghost use Rattle.reader.specs.Store.{tableLength};
 use crate::FileKind;
 use crate::Pending;
@@ -25,7 +25,7 @@ fn groups_fault(kind: FileKind, x: &Places, services: usize) -> Pending
 }
 
 fn answer(fault: Pending, settings: usize, services: usize) -> Reading
-    ensures { λ r. ⌜ r ≡ answered fault settings services ⌝ }
+    ensures { λ r. ⌜ r ≡ endAnswer fault settings services ⌝ }
 {
     match fault {
         Pending::Nothing => Reading::Accepted(settings, services),
@@ -36,7 +36,7 @@ fn answer(fault: Pending, settings: usize, services: usize) -> Reading
 // The reading of a file of this kind whose lines are all good.
 pub fn ending(kind: FileKind, x: &Places, st: State) -> Reading
     requires { ⌜ (length (now x) ≡ tableLength) × (st .services ≤ 8) ⌝ }
-    ensures { λ r. ⌜ Ends kind st (now (x .entry)) r ⌝ }
+    ensures { λ r. ⌜ EndSays kind st (now (x .entry)) r ⌝ }
 {
     let fault = groups_fault(kind, x, st.services);
     answer(fault, st.settings, st.services)

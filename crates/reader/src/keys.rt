@@ -1,11 +1,11 @@
 // Where a key stands in its group's row of the table of places: the one place that has the numbers.
 ghost use mathlib.Core.Path.{_≡_};
-ghost use Rattle.reader.specs.Keys.{placeOf};
+ghost use Rattle.reader.specs.Keys.{keyPlace};
 use crate::KeyName;
 
 // The slot of a key in its group's row, counted from the row's header.
-pub fn place_of(k: KeyName) -> usize
-    ensures { λ r. ⌜ r ≡ placeOf k ⌝ }
+pub fn key_place(k: KeyName) -> usize
+    ensures { λ r. ⌜ r ≡ keyPlace k ⌝ }
 {
     match k {
         KeyName::AutoConnect => 1,

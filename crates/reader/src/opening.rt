@@ -7,8 +7,8 @@ ghost use lib.ListN.{length};
 ghost use Rattle.text.specs.Parts.{Inside, partAt};
 ghost use Rattle.lines.specs.Lines.{header};
 ghost use Rattle.rules.specs.Sections.{serves};
-ghost use Rattle.reader.specs.Store.{tableLength, Fits};
-ghost use Rattle.reader.specs.Steps.{Opened, Known, Steps};
+ghost use Rattle.reader.specs.Store.{tableLength, FitsSlot};
+ghost use Rattle.reader.specs.Steps.{Opened, Known, StepSays};
 use crate::Current;
 use crate::Heading;
 use crate::NAMES;
@@ -28,8 +28,8 @@ fn opened(x: &mut Places, st: State, g: Group, start: usize, name: Place, line: 
     requires long { ⌜ length (now x) ≡ tableLength ⌝ }
     requires few { ⌜ st .services ≤ 8 ⌝ }
     requires room { ⌜ (serves g && leb 8 (st .services)) ≡ false ⌝ }
-    requires header { ⌜ Fits start start line ⌝ }
-    requires named { ⌜ Fits (name .start) (name .end) line ⌝ }
+    requires header { ⌜ FitsSlot start start line ⌝ }
+    requires named { ⌜ FitsSlot (name .start) (name .end) line ⌝ }
     ensures { λ r. ⌜ Opened st (now (x .entry)) g start name line r (now (x .exit)) ⌝ }
 {
     let n = st.services;
@@ -65,9 +65,9 @@ pub fn header_step(
     requires known { ⌜ Known d (now file) st (now x) ⌝ }
     requires inside { ⌜ Inside (length (now file)) name ⌝ }
     requires counted { ⌜ 0 < line ⌝ }
-    requires header { ⌜ Fits start start line ⌝ }
-    requires named { ⌜ Fits (name .start) (name .end) line ⌝ }
-    ensures { λ r. ⌜ Steps d (now (file .entry)) st (now (x .entry)) line start 0 (header (partAt (now (file .entry)) name)) (now (x .exit)) r ⌝ }
+    requires header { ⌜ FitsSlot start start line ⌝ }
+    requires named { ⌜ FitsSlot (name .start) (name .end) line ⌝ }
+    ensures { λ r. ⌜ StepSays d (now (file .entry)) st (now (x .entry)) line start 0 (header (partAt (now (file .entry)) name)) (now (x .exit)) r ⌝ }
 {
     let a = name.start;
     let e = name.end;

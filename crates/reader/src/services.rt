@@ -4,14 +4,14 @@ ghost use mathlib.Core.Bool.{_||_, _&&_};
 ghost use lib.ListN.{length};
 ghost use Rattle.rules.specs.WordNumbers.{wordNumber};
 ghost use Rattle.reader.specs.Holds.{Spans, among};
-ghost use Rattle.reader.specs.Closing.{InTable, KeyIn, keySlot, bytesOf, isTaken, slotIs};
+ghost use Rattle.reader.specs.Closing.{RowInTable, ValueInFile, keySlot, bytesOf, isTaken, slotIs};
 ghost use Rattle.reader.specs.Store.{tableLength};
 use crate::CODES;
 use crate::KeyName;
 use crate::LINES;
 use crate::NAMES;
 use crate::Places;
-use crate::keys::place_of;
+use crate::keys::key_place;
 use crate::store::value_at;
 use crate::store::wide;
 use kinds::Word;
@@ -65,54 +65,54 @@ pub fn both(a: bool, b: bool) -> bool
 
 // Whether a key is given, in the row that starts at a slot.
 pub fn taken(x: &Places, row: usize, k: KeyName) -> bool
-    requires { ⌜ InTable (now x) row ⌝ }
+    requires { ⌜ RowInTable (now x) row ⌝ }
     ensures { λ r. ⌜ r ≡ isTaken (now (x .entry)) row k ⌝ }
 {
-    let i = row + place_of(k);
+    let i = row + key_place(k);
     x[LINES + i] != 0
 }
 
 // Whether a key is given and is a word.
 pub fn is_word(x: &Places, row: usize, k: KeyName, w: Word) -> bool
-    requires { ⌜ InTable (now x) row ⌝ }
+    requires { ⌜ RowInTable (now x) row ⌝ }
     ensures { λ r. ⌜ r ≡ slotIs (now (x .entry)) row k w ⌝ }
 {
-    let i = row + place_of(k);
+    let i = row + key_place(k);
     x[CODES + i] == word_number(w)
 }
 
 // The value of a key, a part of the file; empty where it is not given.
 pub fn value_of<'a, 'b>(file: &'a [u8], x: &'b Places, row: usize, k: KeyName) -> &'a [u8]
-    requires { ⌜ KeyIn (now file) (now x) row k ⌝ }
+    requires { ⌜ ValueInFile (now file) (now x) row k ⌝ }
     ensures { λ r. ⌜ now r ≡ bytesOf (now (file .entry)) (now (x .entry)) row k ⌝ }
 {
-    let i = row + place_of(k);
+    let i = row + key_place(k);
     value_at(file, x, i)
 }
 
 // The line of a key, 0 where it is not given.
 pub fn line_of(x: &Places, row: usize, k: KeyName) -> usize
-    requires { ⌜ InTable (now x) row ⌝ }
+    requires { ⌜ RowInTable (now x) row ⌝ }
     ensures { λ r. ⌜ r ≡ keySlot (now (x .entry)) row k .line ⌝ }
 {
-    let i = row + place_of(k);
+    let i = row + key_place(k);
     wide(x[LINES + i])
 }
 
 // The code of a key's value, 0 where it is not given.
 pub fn code_of(x: &Places, row: usize, k: KeyName) -> u16
-    requires { ⌜ InTable (now x) row ⌝ }
+    requires { ⌜ RowInTable (now x) row ⌝ }
     ensures { λ r. ⌜ r ≡ keySlot (now (x .entry)) row k .code ⌝ }
 {
-    let i = row + place_of(k);
+    let i = row + key_place(k);
     x[CODES + i]
 }
 
 // Where the value of a key starts, 0 where it is not given.
 pub fn start_of(x: &Places, row: usize, k: KeyName) -> usize
-    requires { ⌜ InTable (now x) row ⌝ }
+    requires { ⌜ RowInTable (now x) row ⌝ }
     ensures { λ r. ⌜ r ≡ keySlot (now (x .entry)) row k .start ⌝ }
 {
-    let i = row + place_of(k);
+    let i = row + key_place(k);
     wide(x[i])
 }

@@ -7,7 +7,7 @@ ghost use Rattle.lines.specs.Lines.{lineOf, valueStart};
 ghost use Rattle.reader.specs.Store.{fileLimit};
 ghost use Rattle.reader.specs.Holds.{flagCode};
 ghost use Rattle.reader.specs.Says.{valueCode, textPlace};
-ghost use Rattle.reader.specs.Steps.{Known, Steps};
+ghost use Rattle.reader.specs.Steps.{Known, StepSays};
 use crate::Line;
 use crate::Places;
 use crate::State;
@@ -70,7 +70,7 @@ pub fn step(
     requires within { ⌜ end ≤ length (now file) ⌝ }
     requires counted { ⌜ st .settings < line ⌝ }
     requires small { ⌜ (length (now file) ≤ fileLimit) × (line ≤ fileLimit) ⌝ }
-    ensures { λ r. ⌜ Steps d (now (file .entry)) st (now (x .entry)) line start (valueStart d (part start end (now (file .entry)))) (lineOf d (part start end (now (file .entry)))) (now (x .exit)) r ⌝ }
+    ensures { λ r. ⌜ StepSays d (now (file .entry)) st (now (x .entry)) line start (valueStart d (part start end (now (file .entry)))) (lineOf d (part start end (now (file .entry)))) (now (x .exit)) r ⌝ }
 {
     let current = st.current;
     let l = line_at(d, file, x, current, start, end);

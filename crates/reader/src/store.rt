@@ -7,7 +7,7 @@ ghost use mathlib.Core.Path.{_≡_};
 ghost use Prim.Native.Nat.{_+_, _≤_, _<_};
 ghost use lib.ListN.{length};
 ghost use Rattle.text.specs.Parts.{part};
-ghost use Rattle.reader.specs.Store.{slotCount, tableLength, slot, stored, Fits, SlotIn};
+ghost use Rattle.reader.specs.Store.{slotCount, tableLength, slot, stored, FitsSlot, SlotIn};
 use crate::CODES;
 use crate::ENDS;
 use crate::LINES;
@@ -22,7 +22,7 @@ pub fn wide(n: u16) -> usize
 
 // Puts a place, its line and a code into a slot.
 pub fn put_slot(x: &mut Places, i: usize, start: usize, end: usize, line: usize, code: u16)
-    requires { ⌜ (length (now x) ≡ tableLength) × (i < slotCount) × Fits start end line ⌝ }
+    requires { ⌜ (length (now x) ≡ tableLength) × (i < slotCount) × FitsSlot start end line ⌝ }
     ensures { λ _. ⌜ now (x .exit) ≡ stored i (record { start = start; end = end; line = line; code = code }) (now (x .entry)) ⌝ }
 {
     x[i] = start as u16;

@@ -19,17 +19,17 @@ use Rattle.rules.specs.declared.Answer.the-variants.{Good, Refused}
 use Rattle.rules.specs.declared.Reading.{Reading}
 use Rattle.rules.specs.declared.Reading.the-variants as R
 use Rattle.rules.specs.declared.Refusal.{Refusal}
-use Rattle.reader.specs.Holds.{Row}
-use Rattle.reader.specs.Closing.{keySlot, bytesOf, KeyIn}
+use Rattle.reader.specs.Closing.{keySlot, bytesOf, ValueInFile}
+use Rattle.reader.specs.Holds.{RowKeeps}
 use Rattle.reader.specs.declared.KeyName.the-variants as N
 use Rattle.reader.proofs.RowRule.{row-key}
-use Rattle.pass.specs.Pass.{Found, Reads}
+use Rattle.pass.specs.Pass.{Found, ReadsFile}
 use Rattle.pass.proofs.Walking.{empty-row}
 use Rattle.pass.proofs.Asking.{found-group}
-use Rattle.settings.specs.Values.{choiceBy}
-use Rattle.settings.specs.Settings.{generalOf, securityOf, ipv4Of}
-use Rattle.settings.specs.Rows.{RowOf, Typed}
-use Rattle.settings.specs.Asked.{FourRows, IwdRows, IwdTyped, iwdAnswered, iwdServersAfter}
+use Rattle.settings.specs.Rows.{RowOf, RowGives, FourRows, IwdRows, IwdRowsGive}
+use Rattle.settings.specs.Asked.{iwdAnswered, iwdServersAfter}
+use Rattle.settings.specs.Codes.{choiceBy}
+use Rattle.settings.specs.Settings.{generalSettingsOf, securitySettingsOf, ipv4SettingsOf}
 use Rattle.settings.specs.declared.Choice.{Choice}
 use Rattle.settings.specs.declared.GeneralSettings.{GeneralSettings}
 use Rattle.settings.specs.declared.SecuritySettings.{SecuritySettings}
@@ -41,7 +41,7 @@ use Rattle.reader.specs.Store.{lastRow, tableLength}
 -- ---- the rows
 
 module _ {file x : List ℕ} where
-  pub iwd-typed : {a : GeneralSettings} {b : SecuritySettings} {c : Ipv4Settings} {e : Choice} → Typed Iwd file x (base G.Settings 0) G.Settings generalOf a → Typed Iwd file x (base G.Security 0) G.Security securityOf b → Typed Iwd file x (base G.Ipv4 0) G.Ipv4 ipv4Of c → e ≡ choiceBy (keySlot x (base G.Ipv6 0) N.Enabled .code) → IwdTyped file x (record { general = a; security = b; ipv4 = c; enabled = e })
+  pub iwd-typed : {a : GeneralSettings} {b : SecuritySettings} {c : Ipv4Settings} {e : Choice} → RowGives Iwd file x (base G.Settings 0) G.Settings generalSettingsOf a → RowGives Iwd file x (base G.Security 0) G.Security securitySettingsOf b → RowGives Iwd file x (base G.Ipv4 0) G.Ipv4 ipv4SettingsOf c → e ≡ choiceBy (keySlot x (base G.Ipv6 0) N.Enabled .code) → IwdRowsGive file x (record { general = a; security = b; ipv4 = c; enabled = e })
   unfolding keysOf
   iwd-typed p q r s =
       record {
@@ -62,23 +62,23 @@ none-rows file =
     }
 
 -- the row of one group
-pub row-of : {file x : List ℕ} (h : IwdRows file x) {b : ℕ} → b ≤ lastRow → (g : Group) {es : List Entry} → Row Iwd file x b g es → RowOf Iwd file x b g
+pub row-of : {file x : List ℕ} (h : IwdRows file x) {b : ℕ} → b ≤ lastRow → (g : Group) {es : List Entry} → RowKeeps Iwd file x b g es → RowOf Iwd file x b g
 row-of h l g {es} r = record { table = record { long = h .long; row = l }; settings = es; row = r }
 
 -- ---- the answers
 
-module _ {name file : List ℕ} {y : List ℕ} {q : Reading} (h : Reads Iwd name file y q) where
+module _ {name file : List ℕ} {y : List ℕ} {q : Reading} (h : ReadsFile Iwd name file y q) where
   module _ {n m : ℕ} (e : q ≡ R.Accepted n m) where
     pub found-kept : IwdRows file y
     found-kept = let f = h .found e in record { long = f .kept .long; settings = λ n. entriesIn n (sectionsOf Iwd file); rows = found-rows f }
 
-    pub dns-in : KeyIn file y (base G.Ipv4 0) N.Dns
+    pub dns-in : ValueInFile file y (base G.Ipv4 0) N.Dns
     dns-in = key-in N.Dns (row-of found-kept (omega arith) G.Ipv4 (found-kept .rows .ipv4))
 
     good : asked (reading Iwd name file) ≡ Good
     good = ap asked (sym (h .is) ∙ e)
 
-    pub iwd-good : {s : IwdSettings} → IwdTyped file y s → record { answer = Good; settings = s } ≡ iwdAnswered name file
+    pub iwd-good : {s : IwdSettings} → IwdRowsGive file y s → record { answer = Good; settings = s } ≡ iwdAnswered name file
     iwd-good t = rw (good, t .is (λ n. entriesIn n (sectionsOf Iwd file)) (found-rows (h .found e)))
 
     pub servers-good : (old : List (List ℕ)) {t z : List (List ℕ)} → t ≡ rows (addresses Spaces (bytesOf file y (base G.Ipv4 0) N.Dns)) → z ≡ t → z ≡ iwdServersAfter name file old
@@ -92,7 +92,7 @@ module _ {name file : List ℕ} {y : List ℕ} {q : Reading} (h : Reads Iwd name
     pub refused-kept : IwdRows file y
     refused-kept = rw (h .left e) (record { long = length-replicate {A = ℕ} tableLength 0; settings = λ n. []; rows = none-rows file })
 
-    pub iwd-refused : {s : IwdSettings} → IwdTyped file y s → record { answer = Refused r l; settings = s } ≡ iwdAnswered name file
+    pub iwd-refused : {s : IwdSettings} → IwdRowsGive file y s → record { answer = Refused r l; settings = s } ≡ iwdAnswered name file
     iwd-refused t = rw (bad, t .is (λ n. []) (rw (h .left e) (none-rows file)))
 
     pub servers-refused : (old : List (List ℕ)) → old ≡ iwdServersAfter name file old

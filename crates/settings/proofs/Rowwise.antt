@@ -35,16 +35,17 @@ use Rattle.tables.specs.KeyPlaces.{keyNames}
 use Rattle.rules.specs.declared.Group.the-variants as G
 use Rattle.reader.specs.Store.{Slot}
 use Rattle.reader.specs.History.{base}
-use Rattle.reader.specs.Keys.{groupOf, wordOf as nameOf, kindOf}
-use Rattle.reader.specs.Holds.{flagCode, isText, Coded, Kept, Row}
-use Rattle.reader.specs.Closing.{keySlot, bytesOf, KeyIn, slotIs}
+use Rattle.reader.specs.Holds.{flagCode, isText, Coded, SlotKeeps, RowKeeps}
+use Rattle.reader.specs.Closing.{keySlot, bytesOf, slotIs, RowInTable, ValueInFile}
+use Rattle.reader.specs.Keys.{keyGroup, keyWord as nameOf, keyKind}
 use Rattle.reader.specs.declared.KeyName.{KeyName}
 use Rattle.reader.specs.declared.KeyName.the-variants as N
 use Rattle.reader.proofs.RowRule.{row-key, row-in, CodedBy, coded-word, coded-flag, coded-mask, kept-word}
 use Rattle.reader.proofs.Values.{kept-read, kept-line, kept-start}
-use Rattle.settings.specs.Values.{choice, chosen, choiceBy, chosenBy, lengthOr0}
-use Rattle.settings.specs.Settings.{generalOf, securityOf, ipv4Of, networkSettingsOf, addressSettingsOf}
-use Rattle.settings.specs.Rows.{RowOf, MaskIn, Typed}
+use Rattle.settings.specs.Values.{choice, chosen, lengthOr0}
+use Rattle.settings.specs.Codes.{choiceBy, chosenBy}
+use Rattle.settings.specs.Settings.{generalSettingsOf, securitySettingsOf, ipv4SettingsOf, networkSettingsOf, addressSettingsOf}
+use Rattle.settings.specs.Rows.{RowOf, MaskIn, RowGives}
 use Rattle.settings.specs.declared.Choice.{Choice}
 use Rattle.settings.specs.declared.Chosen.{Chosen}
 
@@ -81,7 +82,7 @@ ssid-none = refl
 
 -- ---- a key of a row
 
-pub key-in : {d : Dialect} {file x : List ℕ} {b : ℕ} (k : KeyName) → RowOf d file x b (groupOf k) → KeyIn file x b k
+pub key-in : {d : Dialect} {file x : List ℕ} {b : ℕ} (k : KeyName) → RowOf d file x b (keyGroup k) → ValueInFile file x b k
 key-in k h = row-in k (h .row) (h .table)
 
 -- of a key whose values are texts; once the key is named, this comes to the statement itself
@@ -94,17 +95,17 @@ when true f = f refl
 when false f = tt
 
 abbrev pub IfText : KeyName → Type 0 → Type 0
-IfText k A = When (isText (kindOf k)) A
+IfText k A = When (isText (keyKind k)) A
 
-module _ {d : Dialect} {file x : List ℕ} {b : ℕ} (k : KeyName) {es : List Entry} (h : Row d file x b (groupOf k) es) where
+module _ {d : Dialect} {file x : List ℕ} {b : ℕ} (k : KeyName) {es : List Entry} (h : RowKeeps d file x b (keyGroup k) es) where
   pub row-read : {A : Type 0} (f : List ℕ → Option A) → f [] ≡ none → IfText k (f (bytesOf file x b k) ≡ readAs f (entryOf (nameOf k) es))
-  row-read f q = when (isText (kindOf k)) (λ t. kept-read d (some (kindOf k)) file (keySlot x b k) f q t (entryOf (nameOf k) es) (row-key k h))
+  row-read f q = when (isText (keyKind k)) (λ t. kept-read d (some (keyKind k)) file (keySlot x b k) f q t (entryOf (nameOf k) es) (row-key k h))
 
   pub row-line : keySlot x b k .line ≡ entryLine (entryOf (nameOf k) es)
-  row-line = kept-line d (some (kindOf k)) file (keySlot x b k) (entryOf (nameOf k) es) (row-key k h)
+  row-line = kept-line d (some (keyKind k)) file (keySlot x b k) (entryOf (nameOf k) es) (row-key k h)
 
   pub row-start : IfText k (keySlot x b k .start ≡ entryStart (entryOf (nameOf k) es))
-  row-start = when (isText (kindOf k)) (λ t. kept-start d (some (kindOf k)) file (keySlot x b k) t (entryOf (nameOf k) es) (row-key k h))
+  row-start = when (isText (keyKind k)) (λ t. kept-start d (some (keyKind k)) file (keySlot x b k) t (entryOf (nameOf k) es) (row-key k h))
 
 -- ---- a yes/no and a word by their codes
 
@@ -127,21 +128,21 @@ flag-back false = refl
 flag-back true = refl
 
 -- what a slot's code gives, where the code of no setting gives what is absent and that of a value what it is
-by-code : {A B : Type 0} (back : ℕ → B) (give : Option A → B) (f : List ℕ → Option A) (code : A → ℕ) → back 0 ≡ give none → ((a : A) → back (code a) ≡ give (some a)) → (d : Dialect) (k : Kind) (file : List ℕ) (s : Slot) (o : Option Entry) → ((v : List ℕ) → Coded d (some k) v (s .code) → CodedBy f code v (s .code)) → Kept d (some k) file s o → back (s .code) ≡ give (readAs f o)
+by-code : {A B : Type 0} (back : ℕ → B) (give : Option A → B) (f : List ℕ → Option A) (code : A → ℕ) → back 0 ≡ give none → ((a : A) → back (code a) ≡ give (some a)) → (d : Dialect) (k : Kind) (file : List ℕ) (s : Slot) (o : Option Entry) → ((v : List ℕ) → Coded d (some k) v (s .code) → CodedBy f code v (s .code)) → SlotKeeps d (some k) file s o → back (s .code) ≡ give (readAs f o)
 by-code back give f code z b d k file s none c q = ap (λ (t : Slot). back (t .code)) q ∙ z
 by-code back give f code z b d k file s (some e) c h = let w = c (e .value) (h .code) in ap back (w .code) ∙ b (w .value) ∙ sym (ap give (w .is))
 
-pub word-by : (d : Dialect) (l : WordList) (file : List ℕ) (s : Slot) (o : Option Entry) → Kept d (some (Named l)) file s o → chosenBy (s .code) ≡ chosen (readAs (wordOf l) o)
+pub word-by : (d : Dialect) (l : WordList) (file : List ℕ) (s : Slot) (o : Option Entry) → SlotKeeps d (some (Named l)) file s o → chosenBy (s .code) ≡ chosen (readAs (wordOf l) o)
 unfolding chosenBy
 word-by d l file s o h = by-code chosenBy chosen (wordOf l) wordNumber refl word-back d (Named l) file s o (λ v c. coded-word d l v c) h
 
-pub flag-by : (d : Dialect) (file : List ℕ) (s : Slot) (o : Option Entry) → Kept d (some Flag) file s o → choiceBy (s .code) ≡ choice (readAs (flag d) o)
+pub flag-by : (d : Dialect) (file : List ℕ) (s : Slot) (o : Option Entry) → SlotKeeps d (some Flag) file s o → choiceBy (s .code) ≡ choice (readAs (flag d) o)
 flag-by d file s o h = by-code choiceBy choice (flag d) flagCode refl flag-back d Flag file s o (λ v c. coded-flag d v c) h
 
-pub mask-by : (d : Dialect) (file : List ℕ) (s : Slot) (o : Option Entry) → Kept d (some Netmask) file s o → s .code ≡ lengthOr0 (readAs netmask o)
+pub mask-by : (d : Dialect) (file : List ℕ) (s : Slot) (o : Option Entry) → SlotKeeps d (some Netmask) file s o → s .code ≡ lengthOr0 (readAs netmask o)
 mask-by d file s o h = by-code (λ n. n) lengthOr0 netmask (λ m. m) refl (λ m. refl) d Netmask file s o (λ v c. coded-mask d v c) h
 
-mask-few : (d : Dialect) (file : List ℕ) (s : Slot) (o : Option Entry) → Kept d (some Netmask) file s o → s .code ≤ 32
+mask-few : (d : Dialect) (file : List ℕ) (s : Slot) (o : Option Entry) → SlotKeeps d (some Netmask) file s o → s .code ≤ 32
 mask-few d file s none q = rw (ap (λ (t : Slot). t .code) q) (omega arith)
 mask-few d file s (some e) h = let w = coded-mask d (e .value) (h .code) in omega (arith, w .code, netmask-good (e .value) (w .is) .1)
 
@@ -163,7 +164,7 @@ module _ {d : Dialect} {file x : List ℕ} {b : ℕ} (k : KeyName) {es : List En
 -- ---- the functions
 
 module _ {file x : List ℕ} where
-  pub general-typed : {a b c : Choice} {m : Mac} → a ≡ choiceBy (keySlot x (base G.Settings 0) N.AutoConnect .code) → b ≡ choiceBy (keySlot x (base G.Settings 0) N.IwdHidden .code) → c ≡ choiceBy (keySlot x (base G.Settings 0) N.AlwaysRandomizeAddress .code) → m ≡ macAnswer (mac (bytesOf file x (base G.Settings 0) N.AddressOverride)) → Typed Iwd file x (base G.Settings 0) G.Settings generalOf (record { «auto_connect» = a; hidden = b; «always_randomize_address» = c; «address_override» = m })
+  pub general-typed : {a b c : Choice} {m : Mac} → a ≡ choiceBy (keySlot x (base G.Settings 0) N.AutoConnect .code) → b ≡ choiceBy (keySlot x (base G.Settings 0) N.IwdHidden .code) → c ≡ choiceBy (keySlot x (base G.Settings 0) N.AlwaysRandomizeAddress .code) → m ≡ macAnswer (mac (bytesOf file x (base G.Settings 0) N.AddressOverride)) → RowGives Iwd file x (base G.Settings 0) G.Settings generalSettingsOf (record { «auto_connect» = a; hidden = b; «always_randomize_address» = c; «address_override» = m })
   unfolding keysOf
   general-typed p q r s =
       record {
@@ -176,11 +177,11 @@ module _ {file x : List ℕ} where
             );
       }
 
-  pub security-typed : {l : ℕ} {k : PreSharedKey} → l ≡ keySlot x (base G.Security 0) N.IwdPassphrase .line → k ≡ preSharedKeyAnswer (preSharedKey (bytesOf file x (base G.Security 0) N.PreSharedKey)) → Typed Iwd file x (base G.Security 0) G.Security securityOf (record { passphrase = l; «pre_shared_key» = k })
+  pub security-typed : {l : ℕ} {k : PreSharedKey} → l ≡ keySlot x (base G.Security 0) N.IwdPassphrase .line → k ≡ preSharedKeyAnswer (preSharedKey (bytesOf file x (base G.Security 0) N.PreSharedKey)) → RowGives Iwd file x (base G.Security 0) G.Security securitySettingsOf (record { passphrase = l; «pre_shared_key» = k })
   unfolding keysOf
   security-typed p q = record { is = λ es h. rw (p ∙ row-line N.IwdPassphrase h, q ∙ ap keyAnswer (row-read N.PreSharedKey h key key-none)) }
 
-  pub ipv4-typed : {a b c : Address} {m n l : ℕ} {s : Choice} → a ≡ addressAnswer (address (bytesOf file x (base G.Ipv4 0) N.Address)) → b ≡ addressAnswer (address (bytesOf file x (base G.Ipv4 0) N.Gateway)) → c ≡ addressAnswer (address (bytesOf file x (base G.Ipv4 0) N.Broadcast)) → m ≡ keySlot x (base G.Ipv4 0) N.Netmask .code → n ≡ length (orEmpty (addresses Spaces (bytesOf file x (base G.Ipv4 0) N.Dns))) → l ≡ keySlot x (base G.Ipv4 0) N.DomainName .line → s ≡ choiceBy (keySlot x (base G.Ipv4 0) N.SendHostname .code) → Typed Iwd file x (base G.Ipv4 0) G.Ipv4 ipv4Of (record { address = a; gateway = b; broadcast = c; netmask = m; dns = n; «domain_name» = l; «send_hostname» = s })
+  pub ipv4-typed : {a b c : Address} {m n l : ℕ} {s : Choice} → a ≡ addressAnswer (address (bytesOf file x (base G.Ipv4 0) N.Address)) → b ≡ addressAnswer (address (bytesOf file x (base G.Ipv4 0) N.Gateway)) → c ≡ addressAnswer (address (bytesOf file x (base G.Ipv4 0) N.Broadcast)) → m ≡ keySlot x (base G.Ipv4 0) N.Netmask .code → n ≡ length (orEmpty (addresses Spaces (bytesOf file x (base G.Ipv4 0) N.Dns))) → l ≡ keySlot x (base G.Ipv4 0) N.DomainName .line → s ≡ choiceBy (keySlot x (base G.Ipv4 0) N.SendHostname .code) → RowGives Iwd file x (base G.Ipv4 0) G.Ipv4 ipv4SettingsOf (record { address = a; gateway = b; broadcast = c; netmask = m; dns = n; «domain_name» = l; «send_hostname» = s })
   unfolding keysOf
   ipv4-typed p q r s t u v =
       record {
@@ -197,7 +198,7 @@ module _ {file x : List ℕ} where
       }
 
 module _ {file x : List ℕ} {b : ℕ} where
-  pub network-typed : {t : Chosen} {n : ℕ} {s : Ssid} {p : ℕ} {c : Chosen} {d : Choice} → t ≡ chosenBy (keySlot x b N.Type .code) → n ≡ keySlot x b N.Name .line → s ≡ ssidAnswer (ssid (bytesOf file x b N.Ssid)) → p ≡ keySlot x b N.Passphrase .line → c ≡ chosenBy (keySlot x b N.Security .code) → d ≡ choiceBy (keySlot x b N.Hidden .code) → Typed ConnMan file x b G.Service networkSettingsOf (record { «service_type» = t; name = n; ssid = s; passphrase = p; security = c; hidden = d })
+  pub network-typed : {t : Chosen} {n : ℕ} {s : Ssid} {p : ℕ} {c : Chosen} {d : Choice} → t ≡ chosenBy (keySlot x b N.Type .code) → n ≡ keySlot x b N.Name .line → s ≡ ssidAnswer (ssid (bytesOf file x b N.Ssid)) → p ≡ keySlot x b N.Passphrase .line → c ≡ chosenBy (keySlot x b N.Security .code) → d ≡ choiceBy (keySlot x b N.Hidden .code) → RowGives ConnMan file x b G.Service networkSettingsOf (record { «service_type» = t; name = n; ssid = s; passphrase = p; security = c; hidden = d })
   unfolding keysOf
   network-typed p q r s t u =
       record {
@@ -212,7 +213,7 @@ module _ {file x : List ℕ} {b : ℕ} where
             );
       }
 
-  pub address-typed : {a : Ipv4} {c e : Chosen} {m : Mac} {n : ℕ} {s t : Entries} {l : ℕ} → a ≡ ipv4Answer (ipv4 (bytesOf file x b N.Ipv4)) → c ≡ chosenBy (keySlot x b N.Ipv6 .code) → e ≡ chosenBy (keySlot x b N.Privacy .code) → m ≡ macAnswer (mac (bytesOf file x b N.Mac)) → n ≡ length (orEmpty (addresses Comma (bytesOf file x b N.Nameservers))) → s ≡ entriesAnswer (keySlot x b N.SearchDomains .start) (entries (bytesOf file x b N.SearchDomains)) → t ≡ entriesAnswer (keySlot x b N.Timeservers .start) (entries (bytesOf file x b N.Timeservers)) → l ≡ keySlot x b N.Domain .line → Typed ConnMan file x b G.Service addressSettingsOf (record { ipv4 = a; ipv6 = c; privacy = e; mac = m; nameservers = n; «search_domains» = s; timeservers = t; domain = l })
+  pub address-typed : {a : Ipv4} {c e : Chosen} {m : Mac} {n : ℕ} {s t : Entries} {l : ℕ} → a ≡ ipv4Answer (ipv4 (bytesOf file x b N.Ipv4)) → c ≡ chosenBy (keySlot x b N.Ipv6 .code) → e ≡ chosenBy (keySlot x b N.Privacy .code) → m ≡ macAnswer (mac (bytesOf file x b N.Mac)) → n ≡ length (orEmpty (addresses Comma (bytesOf file x b N.Nameservers))) → s ≡ entriesAnswer (keySlot x b N.SearchDomains .start) (entries (bytesOf file x b N.SearchDomains)) → t ≡ entriesAnswer (keySlot x b N.Timeservers .start) (entries (bytesOf file x b N.Timeservers)) → l ≡ keySlot x b N.Domain .line → RowGives ConnMan file x b G.Service addressSettingsOf (record { ipv4 = a; ipv6 = c; privacy = e; mac = m; nameservers = n; «search_domains» = s; timeservers = t; domain = l })
   unfolding keysOf
   address-typed p q r s t u v w =
       record {

@@ -2,7 +2,7 @@
 use Prim.Native.Nat.{ℕ}
 use mathlib.Core.Path.{_≡_}
 use borrow.Author.Tests.{ne-eqb}
-use Rattle.settings.specs.Values.{choiceBy, chosenBy}
+use Rattle.settings.specs.Codes.{choiceBy, chosenBy}
 use Rattle.settings.specs.declared.Choice.the-variants as C
 use Rattle.settings.specs.declared.Chosen.the-variants as W
 

@@ -15,14 +15,14 @@ use Rattle.settings.specs.declared.Chosen.the-variants as Chosen
 use Rattle.settings.specs.declared.IwdSettings.{IwdSettings}
 use Rattle.settings.specs.declared.ServiceSettings.{ServiceSettings}
 
-abbrev zeroAddress : Address
-zeroAddress = record { ok = false; bytes = noAddress }
+abbrev absentAddress : Address
+absentAddress = record { ok = false; bytes = noAddress }
 
-abbrev zeroMac : Mac
-zeroMac = record { ok = false; bytes = replicate 6 0 }
+abbrev absentMac : Mac
+absentMac = record { ok = false; bytes = replicate 6 0 }
 
-abbrev zeroEntries : Entries
-zeroEntries = record { count = 0; starts = replicate 4 0; ends = replicate 4 0 }
+abbrev absentEntries : Entries
+absentEntries = record { count = 0; starts = replicate 4 0; ends = replicate 4 0 }
 
 -- "Every answer but 0 leaves .. all other result fields zero."
 abbrev pub zeroIwdSettings : IwdSettings
@@ -33,14 +33,14 @@ zeroIwdSettings =
             «auto_connect» = Choice.Absent;
             hidden = Choice.Absent;
             «always_randomize_address» = Choice.Absent;
-            «address_override» = zeroMac;
+            «address_override» = absentMac;
           };
       security = record { passphrase = 0; «pre_shared_key» = record { ok = false; bytes = replicate 32 0 } };
       ipv4 =
           record {
-            address = zeroAddress;
-            gateway = zeroAddress;
-            broadcast = zeroAddress;
+            address = absentAddress;
+            gateway = absentAddress;
+            broadcast = absentAddress;
             netmask = 0;
             dns = 0;
             «domain_name» = 0;
@@ -74,10 +74,10 @@ zeroServiceSettings =
                 };
             ipv6 = Chosen.Absent;
             privacy = Chosen.Absent;
-            mac = zeroMac;
+            mac = absentMac;
             nameservers = 0;
-            «search_domains» = zeroEntries;
-            timeservers = zeroEntries;
+            «search_domains» = absentEntries;
+            timeservers = absentEntries;
             domain = 0;
           };
     }

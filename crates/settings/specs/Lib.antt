@@ -1,7 +1,11 @@
+-- ---- to read beside document 01: "Settings and their kinds", and what is answered of them
 pub mod Values
 pub mod Settings
-pub mod Rows
 pub mod Asked
-pub mod Absent
 pub mod Given
+-- ---- the laws
+pub mod Absent
 pub mod GivenHolds
+-- ---- for proofs only: what the rows and the codes of the table of places give
+pub mod Rows
+pub mod Codes

@@ -25,9 +25,9 @@ use Rattle.settings.specs.declared.ServiceSettings.{ServiceSettings}
 -- ---- iwd: at gives the setting with a key, of one group
 
 -- "Settings: AutoConnect, Hidden, AlwaysRandomizeAddress (bool), AddressOverride (MAC)"
-abbrev pub generalOf : (List ℕ → Option Entry) → GeneralSettings
+abbrev pub generalSettingsOf : (List ℕ → Option Entry) → GeneralSettings
 unfolding keysOf
-generalOf at =
+generalSettingsOf at =
     let value = valueOf Settings at in
     record {
       «auto_connect» = choice (value (word "AutoConnect"));
@@ -37,9 +37,9 @@ generalOf at =
     }
 
 -- "Security: Passphrase (string ..), PreSharedKey (64 hex digits)"
-abbrev pub securityOf : (List ℕ → Option Entry) → SecuritySettings
+abbrev pub securitySettingsOf : (List ℕ → Option Entry) → SecuritySettings
 unfolding keysOf
-securityOf at =
+securitySettingsOf at =
     let value = valueOf Security at in
     record {
       passphrase = entryLine (at (word "Passphrase"));
@@ -48,9 +48,9 @@ securityOf at =
 
 -- "IPv4: Address, Gateway, Broadcast (address), Netmask (mask), DNS (1 to 4 addresses ..), DomainName (string ..),
 -- SendHostname (bool)"
-abbrev pub ipv4Of : (List ℕ → Option Entry) → Ipv4Settings
+abbrev pub ipv4SettingsOf : (List ℕ → Option Entry) → Ipv4Settings
 unfolding keysOf
-ipv4Of at =
+ipv4SettingsOf at =
     let value = valueOf Ipv4 at in
     record {
       address = addressAnswer (value (word "Address"));
@@ -67,9 +67,9 @@ abbrev pub iwdSettings : (List ℕ → List ℕ → Option Entry) → IwdSetting
 unfolding keysOf
 iwdSettings at =
     record {
-      general = generalOf (at (word "Settings"));
-      security = securityOf (at (word "Security"));
-      ipv4 = ipv4Of (at (word "IPv4"));
+      general = generalSettingsOf (at (word "Settings"));
+      security = securitySettingsOf (at (word "Security"));
+      ipv4 = ipv4SettingsOf (at (word "IPv4"));
       enabled = choice (groupValue Ipv6 at (word "Enabled"));
     }
 

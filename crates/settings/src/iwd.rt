@@ -1,6 +1,7 @@
 // The settings of an iwd file.
 ghost use mathlib.Core.Path.{_≡_};
-ghost use Rattle.settings.specs.Asked.{IwdRows, IwdTyped, iwdAnswered, iwdServersAfter};
+ghost use Rattle.settings.specs.Asked.{iwdAnswered, iwdServersAfter};
+ghost use Rattle.settings.specs.Rows.{IwdRows, IwdRowsGive};
 use crate::IwdAnswer;
 use crate::IwdSettings;
 use crate::rows;
@@ -18,7 +19,7 @@ use text::Dialect;
 // The settings of an iwd file, by the rows of its four groups.
 fn iwd_rows(file: &[u8], x: &Places) -> IwdSettings
     requires { ⌜ IwdRows (now file) (now x) ⌝ }
-    ensures { λ r. ⌜ IwdTyped (now (file .entry)) (now (x .entry)) r ⌝ }
+    ensures { λ r. ⌜ IwdRowsGive (now (file .entry)) (now (x .entry)) r ⌝ }
 {
     IwdSettings {
         general: rows::general_settings(file, x),

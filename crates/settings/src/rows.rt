@@ -1,7 +1,7 @@
 // The typed settings of a row in the table of places: one function for each group of iwd, two for a ConnMan service.
 ghost use Rattle.reader.specs.History.{base};
-ghost use Rattle.settings.specs.Settings.{generalOf, securityOf, ipv4Of, networkSettingsOf, addressSettingsOf};
-ghost use Rattle.settings.specs.Rows.{RowOf, Typed};
+ghost use Rattle.settings.specs.Settings.{generalSettingsOf, securitySettingsOf, ipv4SettingsOf, networkSettingsOf, addressSettingsOf};
+ghost use Rattle.settings.specs.Rows.{RowOf, RowGives};
 use crate::AddressSettings;
 use crate::GeneralSettings;
 use crate::Ipv4Settings;
@@ -20,7 +20,7 @@ use text::Dialect;
 
 pub fn general_settings(file: &[u8], x: &Places) -> GeneralSettings
     requires { ⌜ RowOf Dialect.Iwd (now file) (now x) (base Group.Settings 0) Group.Settings ⌝ }
-    ensures { λ r. ⌜ Typed Dialect.Iwd (now (file .entry)) (now (x .entry)) (base Group.Settings 0) Group.Settings generalOf r ⌝ }
+    ensures { λ r. ⌜ RowGives Dialect.Iwd (now (file .entry)) (now (x .entry)) (base Group.Settings 0) Group.Settings generalSettingsOf r ⌝ }
 {
     GeneralSettings {
         auto_connect: values::choice_at(x, SETTINGS_ROW, KeyName::AutoConnect),
@@ -36,7 +36,7 @@ pub fn general_settings(file: &[u8], x: &Places) -> GeneralSettings
 
 pub fn security_settings(file: &[u8], x: &Places) -> SecuritySettings
     requires { ⌜ RowOf Dialect.Iwd (now file) (now x) (base Group.Security 0) Group.Security ⌝ }
-    ensures { λ r. ⌜ Typed Dialect.Iwd (now (file .entry)) (now (x .entry)) (base Group.Security 0) Group.Security securityOf r ⌝ }
+    ensures { λ r. ⌜ RowGives Dialect.Iwd (now (file .entry)) (now (x .entry)) (base Group.Security 0) Group.Security securitySettingsOf r ⌝ }
 {
     SecuritySettings {
         passphrase: line_of(x, SECURITY_ROW, KeyName::IwdPassphrase),
@@ -46,7 +46,7 @@ pub fn security_settings(file: &[u8], x: &Places) -> SecuritySettings
 
 pub fn ipv4_settings(file: &[u8], x: &Places) -> Ipv4Settings
     requires { ⌜ RowOf Dialect.Iwd (now file) (now x) (base Group.Ipv4 0) Group.Ipv4 ⌝ }
-    ensures { λ r. ⌜ Typed Dialect.Iwd (now (file .entry)) (now (x .entry)) (base Group.Ipv4 0) Group.Ipv4 ipv4Of r ⌝ }
+    ensures { λ r. ⌜ RowGives Dialect.Iwd (now (file .entry)) (now (x .entry)) (base Group.Ipv4 0) Group.Ipv4 ipv4SettingsOf r ⌝ }
 {
     Ipv4Settings {
         address: values::address_at(file, x, IPV4_ROW, KeyName::Address),
@@ -62,7 +62,7 @@ pub fn ipv4_settings(file: &[u8], x: &Places) -> Ipv4Settings
 // Of a service, by its row: which network it joins, and how.
 pub fn network_settings(file: &[u8], x: &Places, row: usize) -> NetworkSettings
     requires { ⌜ RowOf Dialect.ConnMan (now file) (now x) row Group.Service ⌝ }
-    ensures { λ r. ⌜ Typed Dialect.ConnMan (now (file .entry)) (now (x .entry)) row Group.Service networkSettingsOf r ⌝ }
+    ensures { λ r. ⌜ RowGives Dialect.ConnMan (now (file .entry)) (now (x .entry)) row Group.Service networkSettingsOf r ⌝ }
 {
     NetworkSettings {
         service_type: values::chosen_at(x, row, KeyName::Type),
@@ -77,7 +77,7 @@ pub fn network_settings(file: &[u8], x: &Places, row: usize) -> NetworkSettings
 // Of a service, by its row: its addresses.
 pub fn address_settings(file: &[u8], x: &Places, row: usize) -> AddressSettings
     requires { ⌜ RowOf Dialect.ConnMan (now file) (now x) row Group.Service ⌝ }
-    ensures { λ r. ⌜ Typed Dialect.ConnMan (now (file .entry)) (now (x .entry)) row Group.Service addressSettingsOf r ⌝ }
+    ensures { λ r. ⌜ RowGives Dialect.ConnMan (now (file .entry)) (now (x .entry)) row Group.Service addressSettingsOf r ⌝ }
 {
     AddressSettings {
         ipv4: values::ipv4_at(file, x, row, KeyName::Ipv4),

@@ -2,7 +2,7 @@
 ghost use mathlib.Core.Path.{_≡_};
 ghost use mathlib.Core.List.{[]};
 ghost use Rattle.settings.specs.Settings.{serviceSettings};
-ghost use Rattle.settings.specs.Rows.{RowOf, Typed};
+ghost use Rattle.settings.specs.Rows.{RowOf, RowGives};
 ghost use Rattle.settings.specs.Asked.{serviceAnswerOf, serviceAnswered, serviceServersAfter};
 use crate::ServiceAnswer;
 use crate::ServiceSettings;
@@ -24,7 +24,7 @@ use text::Dialect;
 // The settings of a service, by its row.
 fn service_row(file: &[u8], x: &Places, row: usize) -> ServiceSettings
     requires { ⌜ RowOf Dialect.ConnMan (now file) (now x) row Group.Service ⌝ }
-    ensures { λ r. ⌜ Typed Dialect.ConnMan (now (file .entry)) (now (x .entry)) row Group.Service serviceSettings r ⌝ }
+    ensures { λ r. ⌜ RowGives Dialect.ConnMan (now (file .entry)) (now (x .entry)) row Group.Service serviceSettings r ⌝ }
 {
     ServiceSettings {
         network: rows::network_settings(file, x, row),

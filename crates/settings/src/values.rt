@@ -6,8 +6,8 @@ ghost use lib.ListN.{length};
 ghost use Rattle.addresses.specs.Addresses.{address, addresses, addressAnswer, rows};
 ghost use Rattle.kinds.specs.Kinds.{ipv4, entries, mac, ssid, preSharedKey};
 ghost use Rattle.kinds.specs.Answers.{entriesAnswer, ipv4Answer, macAnswer, ssidAnswer, preSharedKeyAnswer};
-ghost use Rattle.reader.specs.Closing.{InTable, KeyIn, keySlot, bytesOf};
-ghost use Rattle.settings.specs.Values.{choiceBy, chosenBy};
+ghost use Rattle.reader.specs.Closing.{keySlot, bytesOf, RowInTable, ValueInFile};
+ghost use Rattle.settings.specs.Codes.{choiceBy, chosenBy};
 ghost use Rattle.settings.specs.Rows.{MaskIn};
 ghost use Rattle.text.specs.Options.{orEmpty};
 use crate::Choice;
@@ -28,7 +28,7 @@ use reader::services::value_of;
 
 // A yes/no by its code.
 pub fn choice_at(x: &Places, row: usize, k: KeyName) -> Choice
-    requires { ⌜ InTable (now x) row ⌝ }
+    requires { ⌜ RowInTable (now x) row ⌝ }
     ensures { λ r. ⌜ r ≡ choiceBy (keySlot (now (x .entry)) row k .code) ⌝ }
 {
     let n = code_of(x, row, k);
@@ -41,7 +41,7 @@ pub fn choice_at(x: &Places, row: usize, k: KeyName) -> Choice
 
 // A word by its code.
 pub fn chosen_at(x: &Places, row: usize, k: KeyName) -> Chosen
-    requires { ⌜ InTable (now x) row ⌝ }
+    requires { ⌜ RowInTable (now x) row ⌝ }
     ensures { λ r. ⌜ r ≡ chosenBy (keySlot (now (x .entry)) row k .code) ⌝ }
 {
     let n = code_of(x, row, k);
@@ -62,7 +62,7 @@ pub fn chosen_at(x: &Places, row: usize, k: KeyName) -> Chosen
 }
 
 pub fn address_at(file: &[u8], x: &Places, row: usize, k: KeyName) -> Address
-    requires { ⌜ KeyIn (now file) (now x) row k ⌝ }
+    requires { ⌜ ValueInFile (now file) (now x) row k ⌝ }
     ensures { λ r. ⌜ r ≡ addressAnswer (address (bytesOf (now (file .entry)) (now (x .entry)) row k)) ⌝ }
 {
     addresses::numbers::read_address(value_of(file, x, row, k))
@@ -77,28 +77,28 @@ pub fn netmask_at(x: &Places, row: usize, k: KeyName) -> u8
 }
 
 pub fn ipv4_at(file: &[u8], x: &Places, row: usize, k: KeyName) -> Ipv4
-    requires { ⌜ KeyIn (now file) (now x) row k ⌝ }
+    requires { ⌜ ValueInFile (now file) (now x) row k ⌝ }
     ensures { λ r. ⌜ r ≡ ipv4Answer (ipv4 (bytesOf (now (file .entry)) (now (x .entry)) row k)) ⌝ }
 {
     kinds::connman_ipv4::read_ipv4(value_of(file, x, row, k))
 }
 
 pub fn mac_at(file: &[u8], x: &Places, row: usize, k: KeyName) -> Mac
-    requires { ⌜ KeyIn (now file) (now x) row k ⌝ }
+    requires { ⌜ ValueInFile (now file) (now x) row k ⌝ }
     ensures { λ r. ⌜ r ≡ macAnswer (mac (bytesOf (now (file .entry)) (now (x .entry)) row k)) ⌝ }
 {
     kinds::hexes::read_mac(value_of(file, x, row, k))
 }
 
 pub fn key_at(file: &[u8], x: &Places, row: usize, k: KeyName) -> PreSharedKey
-    requires { ⌜ KeyIn (now file) (now x) row k ⌝ }
+    requires { ⌜ ValueInFile (now file) (now x) row k ⌝ }
     ensures { λ r. ⌜ r ≡ preSharedKeyAnswer (preSharedKey (bytesOf (now (file .entry)) (now (x .entry)) row k)) ⌝ }
 {
     kinds::hexes::read_pre_shared_key(value_of(file, x, row, k))
 }
 
 pub fn ssid_at(file: &[u8], x: &Places, row: usize, k: KeyName) -> Ssid
-    requires { ⌜ KeyIn (now file) (now x) row k ⌝ }
+    requires { ⌜ ValueInFile (now file) (now x) row k ⌝ }
     ensures { λ r. ⌜ r ≡ ssidAnswer (ssid (bytesOf (now (file .entry)) (now (x .entry)) row k)) ⌝ }
 {
     kinds::hexes::read_ssid(value_of(file, x, row, k))
@@ -106,7 +106,7 @@ pub fn ssid_at(file: &[u8], x: &Places, row: usize, k: KeyName) -> Ssid
 
 // How many addresses a list has.
 pub fn count_at(sep: Separator, file: &[u8], x: &Places, row: usize, k: KeyName) -> usize
-    requires { ⌜ KeyIn (now file) (now x) row k ⌝ }
+    requires { ⌜ ValueInFile (now file) (now x) row k ⌝ }
     ensures { λ r. ⌜ r ≡ length (orEmpty (addresses sep (bytesOf (now (file .entry)) (now (x .entry)) row k))) ⌝ }
 {
     addresses::lists::count_addresses(value_of(file, x, row, k), sep)
@@ -114,7 +114,7 @@ pub fn count_at(sep: Separator, file: &[u8], x: &Places, row: usize, k: KeyName)
 
 // The addresses of a list, with zeros behind them.
 pub fn servers_at(sep: Separator, file: &[u8], x: &Places, row: usize, k: KeyName) -> [[u8; 4]; 4]
-    requires { ⌜ KeyIn (now file) (now x) row k ⌝ }
+    requires { ⌜ ValueInFile (now file) (now x) row k ⌝ }
     ensures { λ r. ⌜ r ≡ rows (addresses sep (bytesOf (now (file .entry)) (now (x .entry)) row k)) ⌝ }
 {
     addresses::lists::read_addresses(value_of(file, x, row, k), sep)
@@ -129,7 +129,7 @@ pub fn list_at(
     row: usize,
     k: KeyName,
 ) -> usize
-    requires { ⌜ KeyIn (now file) (now x) row k ⌝ }
+    requires { ⌜ ValueInFile (now file) (now x) row k ⌝ }
     ensures { λ r. ⌜ (r ≡ length (orEmpty (addresses sep (bytesOf (now (file .entry)) (now (x .entry)) row k))))
         × (now (out .exit) ≡ rows (addresses sep (bytesOf (now (file .entry)) (now (x .entry)) row k))) ⌝ }
 {
@@ -138,7 +138,7 @@ pub fn list_at(
 
 // The entries of a list, by their places in the file.
 pub fn entries_at(file: &[u8], x: &Places, row: usize, k: KeyName) -> Entries
-    requires { ⌜ KeyIn (now file) (now x) row k ⌝ }
+    requires { ⌜ ValueInFile (now file) (now x) row k ⌝ }
     ensures { λ r. ⌜ r ≡ entriesAnswer (keySlot (now (x .entry)) row k .start) (entries (bytesOf (now (file .entry)) (now (x .entry)) row k)) ⌝ }
 {
     kinds::lists::read_entries(value_of(file, x, row, k), start_of(x, row, k))

@@ -1,7 +1,7 @@
 -- The code at the slot.
 use native.Mathlib.Omega.{arith}
 use mathlib.Core.Path.{refl, sym}
-use Rattle.reader.specs.Keys.{key-few}
+use Rattle.reader.specs.KeyLaws.{listed-few}
 use borrow.Author.Needs.{needs}
 use Rattle.reader.proofs.services.is_word.Statement.{statement}
 use Rattle.reader.proofs.services.is_word.Tie as tie
@@ -11,9 +11,9 @@ is-word-spec =
     tie.close
     (tie.spec
     (λ c κs. search needs)
-    (λ c. omega (arith, c .place-of .ensures, key-few (c .before .args .k) .1, c .before .pre .row))
-    (λ c. omega (arith, c .place-of .ensures, key-few (c .before .args .k) .1, c .before .pre .row))
-    (λ c. omega (arith, c .place-of .ensures, key-few (c .before .args .k) .1, c .before .pre .row))
-    (λ c. omega (arith, c .place-of .ensures, key-few (c .before .args .k) .1, c .before .pre .row, c .before .pre .long))
+    (λ c. omega (arith, c .key-place .ensures, listed-few (c .before .args .k) .1, c .before .pre .row))
+    (λ c. omega (arith, c .key-place .ensures, listed-few (c .before .args .k) .1, c .before .pre .row))
+    (λ c. omega (arith, c .key-place .ensures, listed-few (c .before .args .k) .1, c .before .pre .row))
+    (λ c. omega (arith, c .key-place .ensures, listed-few (c .before .args .k) .1, c .before .pre .row, c .before .pre .long))
     (λ c κs. search needs)
-    (λ c. rw (sym (c .before .before .place-of .ensures), sym (c .word-number .ensures)) refl))
+    (λ c. rw (sym (c .before .before .key-place .ensures), sym (c .word-number .ensures)) refl))

@@ -4,7 +4,7 @@ use mathlib.Core.Path.{refl, ap, _∙_}
 use native.Mathlib.Nat.{le-refl}
 use native.Mathlib.Omega.{arith}
 use Rattle.text.specs.Words.{same}
-use Rattle.reader.proofs.Seeking.{Seeking, seeking-end, seeking-found, seeking-turn}
+use Rattle.reader.proofs.Seeking.{SeekingName, seeking-end, seeking-found, seeking-turn}
 use borrow.Author.Needs.{needs}
 use Rattle.reader.proofs.services.service_named.Statement.{statement}
 use Rattle.reader.proofs.services.service_named.Tie as tie
@@ -13,7 +13,7 @@ pub service-named-spec : {M : Type 1} → statement M
 service-named-spec =
     tie.close
     (tie.spec
-    (λ file x n name i₀ i. Seeking file x n i name)
+    (λ file x n name i₀ i. SeekingName file x n i name)
     (λ file x n name i₀ i. i)
     (λ c. record { few = le-refl _; rest = refl })
     (λ c. search needs)

@@ -1,7 +1,7 @@
 -- What stands at the slot.
 use native.Mathlib.Omega.{arith}
 use mathlib.Core.Path.{refl, sym, _∙_}
-use Rattle.reader.specs.Keys.{key-few}
+use Rattle.reader.specs.KeyLaws.{listed-few}
 use borrow.Author.Needs.{needs}
 use Rattle.reader.proofs.services.start_of.Statement.{statement}
 use Rattle.reader.proofs.services.start_of.Tie as tie
@@ -11,8 +11,8 @@ start-of-spec =
     tie.close
     (tie.spec
     (λ c κs. search needs)
-    (λ c. omega (arith, c .place-of .ensures, key-few (c .before .args .k) .1, c .before .pre .row, c .before .pre .long))
-    (λ c. omega (arith, c .place-of .ensures, key-few (c .before .args .k) .1, c .before .pre .row, c .before .pre .long))
-    (λ c. omega (arith, c .place-of .ensures, key-few (c .before .args .k) .1, c .before .pre .row, c .before .pre .long))
+    (λ c. omega (arith, c .key-place .ensures, listed-few (c .before .args .k) .1, c .before .pre .row, c .before .pre .long))
+    (λ c. omega (arith, c .key-place .ensures, listed-few (c .before .args .k) .1, c .before .pre .row, c .before .pre .long))
+    (λ c. omega (arith, c .key-place .ensures, listed-few (c .before .args .k) .1, c .before .pre .row, c .before .pre .long))
     (λ c κs. search needs)
-    (λ c. c .wide .ensures ∙ rw (c .before .before .place-of .ensures) refl))
+    (λ c. c .wide .ensures ∙ rw (c .before .before .key-place .ensures) refl))

@@ -1,7 +1,7 @@
 -- The line at the slot.
 use native.Mathlib.Omega.{arith}
 use mathlib.Core.Path.{refl, sym}
-use Rattle.reader.specs.Keys.{key-few}
+use Rattle.reader.specs.KeyLaws.{listed-few}
 use borrow.Author.Needs.{needs}
 use Rattle.reader.proofs.services.taken.Statement.{statement}
 use Rattle.reader.proofs.services.taken.Tie as tie
@@ -11,8 +11,8 @@ taken-spec =
     tie.close
     (tie.spec
     (λ c κs. search needs)
-    (λ c. omega (arith, c .place-of .ensures, key-few (c .before .args .k) .1, c .before .pre .row))
-    (λ c. omega (arith, c .place-of .ensures, key-few (c .before .args .k) .1, c .before .pre .row))
-    (λ c. omega (arith, c .place-of .ensures, key-few (c .before .args .k) .1, c .before .pre .row))
-    (λ c. omega (arith, c .place-of .ensures, key-few (c .before .args .k) .1, c .before .pre .row, c .before .pre .long))
-    (λ c. rw (sym (c .before .place-of .ensures)) refl))
+    (λ c. omega (arith, c .key-place .ensures, listed-few (c .before .args .k) .1, c .before .pre .row))
+    (λ c. omega (arith, c .key-place .ensures, listed-few (c .before .args .k) .1, c .before .pre .row))
+    (λ c. omega (arith, c .key-place .ensures, listed-few (c .before .args .k) .1, c .before .pre .row))
+    (λ c. omega (arith, c .key-place .ensures, listed-few (c .before .args .k) .1, c .before .pre .row, c .before .pre .long))
+    (λ c. rw (sym (c .before .key-place .ensures)) refl))

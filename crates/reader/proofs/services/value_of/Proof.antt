@@ -1,7 +1,7 @@
 -- What stands at the slot.
 use native.Mathlib.Omega.{arith}
 use mathlib.Core.Path.{refl, sym, _∙_}
-use Rattle.reader.specs.Keys.{key-few}
+use Rattle.reader.specs.KeyLaws.{listed-few}
 use borrow.Author.Needs.{needs}
 use Rattle.reader.proofs.services.value_of.Statement.{statement}
 use Rattle.reader.proofs.services.value_of.Tie as tie
@@ -11,6 +11,6 @@ value-of-spec =
     tie.close
     (tie.spec
     (λ c κs. search needs)
-    (λ c. omega (arith, c .place-of .ensures, key-few (c .before .before .args .k) .1, c .before .before .pre .table .row, c .before .before .pre .table .long))
-    (λ c κs. record { long = c .before .before .pre .table .long; few = omega (arith, c .place-of .ensures, key-few (c .before .before .args .k) .1, c .before .before .pre .table .row, c .before .before .pre .table .long); low = rw (c .place-of .ensures) (c .before .before .pre .low); high = rw (c .place-of .ensures) (c .before .before .pre .high) })
-    (λ c. c .value-at .ensures ∙ rw (c .before .place-of .ensures) refl))
+    (λ c. omega (arith, c .key-place .ensures, listed-few (c .before .before .args .k) .1, c .before .before .pre .table .row, c .before .before .pre .table .long))
+    (λ c κs. record { long = c .before .before .pre .table .long; few = omega (arith, c .key-place .ensures, listed-few (c .before .before .args .k) .1, c .before .before .pre .table .row, c .before .before .pre .table .long); low = rw (c .key-place .ensures) (c .before .before .pre .low); high = rw (c .key-place .ensures) (c .before .before .pre .high) })
+    (λ c. c .value-at .ensures ∙ rw (c .before .key-place .ensures) refl))

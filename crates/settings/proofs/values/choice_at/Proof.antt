@@ -1,6 +1,6 @@
 -- By the code.
 use mathlib.Core.Path.{ap, sym, _∙_}
-use Rattle.settings.specs.Values.{choiceBy}
+use Rattle.settings.specs.Codes.{choiceBy}
 use Rattle.settings.proofs.Told.{choice-rest}
 use borrow.Author.Needs.{needs}
 use Rattle.settings.proofs.values.choice_at.Statement.{statement}

@@ -1,6 +1,6 @@
 -- By the code.
 use mathlib.Core.Path.{ap, sym, _∙_}
-use Rattle.settings.specs.Values.{chosenBy}
+use Rattle.settings.specs.Codes.{chosenBy}
 use Rattle.settings.proofs.Told.{chosen-rest}
 use borrow.Author.Needs.{needs}
 use Rattle.settings.proofs.values.chosen_at.Statement.{statement}

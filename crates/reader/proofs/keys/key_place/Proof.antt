@@ -1,10 +1,10 @@
 -- The place of each key, by cases.
 use borrow.Author.Needs.{needs}
-use Rattle.reader.proofs.keys.place_of.Statement.{statement}
-use Rattle.reader.proofs.keys.place_of.Tie as tie
+use Rattle.reader.proofs.keys.key_place.Statement.{statement}
+use Rattle.reader.proofs.keys.key_place.Tie as tie
 
-pub place-of-spec : {M : Type 1} → statement M
-place-of-spec =
+pub key-place-spec : {M : Type 1} → statement M
+key-place-spec =
     tie.close
     (tie.spec
     (λ c. search needs)
