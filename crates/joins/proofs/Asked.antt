@@ -28,12 +28,12 @@ use Rattle.rules.specs.declared.Reading.the-variants as R
 use Rattle.rules.specs.declared.Answer.{Answer}
 use Rattle.rules.specs.declared.Answer.the-variants.{Good, Refused}
 use Rattle.reader.specs.History.{base}
-use Rattle.reader.specs.Holds.{Row}
+use Rattle.reader.specs.Holds.{RowKeeps}
 use Rattle.reader.specs.Closing.{bytesOf}
 use Rattle.reader.specs.declared.KeyName.the-variants as N
-use Rattle.pass.specs.Pass.{Found, Reads}
+use Rattle.pass.specs.Pass.{Found, ReadsFile}
 use Rattle.pass.proofs.Asking.{service-answer}
-use Rattle.settings.specs.Rows.{Typed}
+use Rattle.settings.specs.Rows.{RowGives}
 use Rattle.settings.proofs.IwdFile.{found-rows}
 use Rattle.settings.proofs.ServiceFile.{found-row}
 use Rattle.settings.proofs.Rowwise.{addresses-none, row-read, row-line, row-word}
@@ -57,7 +57,7 @@ pub iwd-servers : {file x : List ℕ} {s : List (List ℕ)} (n : List ℕ) → I
 unfolding keysOf
 iwd-servers n h e = e ∙ ap rows (row-read N.Dns (h .rows .ipv4) (addresses Spaces) (addresses-none Spaces))
 
-module _ {name file y : List ℕ} {q : Reading} (h : Reads Iwd name file y q) (old : List (List ℕ)) where
+module _ {name file y : List ℕ} {q : Reading} (h : ReadsFile Iwd name file y q) (old : List (List ℕ)) where
   pub iwd-accepted : {n m : ℕ} → q ≡ R.Accepted n m → {r : RecordAnswer} {new : List (List ℕ)} → (r ≡ record { answer = Good; «record» = laid (iwdJoin (networkName (networkOf name)) (iwdEntry (sectionsOf Iwd file))) }) × (new ≡ laidServers (iwdJoin (networkName (networkOf name)) (iwdEntry (sectionsOf Iwd file)))) → (r ≡ iwdRecord name file) × (new ≡ iwdRecordServers name file old)
   unfolding iwdRecord iwdRecordServers
   iwd-accepted e p = rw (sym (h .is) ∙ e) p
@@ -82,12 +82,12 @@ hindrance-back none = refl
 hindrance-back (some l) = refl
 
 -- Security, by the words that the row keeps
-pub row-foreign : {file x : List ℕ} {b : ℕ} {es : List Entry} → Row ConnMan file x b G.Service es → slotsForeign x b ≡ foreign (λ k. entryOf k es)
+pub row-foreign : {file x : List ℕ} {b : ℕ} {es : List Entry} → RowKeeps ConnMan file x b G.Service es → slotsForeign x b ≡ foreign (λ k. entryOf k es)
 unfolding keysOf
 row-foreign h = ap₂ (λ (a b : Bool). a || b) (row-word N.Security h L.Security refl W.Wep) (row-word N.Security h L.Security refl W.Ieee8021x)
 
 module _ {file x : List ℕ} {b : ℕ} {h : Hindrance} (e : h ≡ slotsHindrance x b) where
-  no-record : {g : Hindrance} → h ≡ g → (es : List Entry) → Row ConnMan file x b G.Service es → noRecord (λ k. entryOf k es) ≡ hindranceIn g
+  no-record : {g : Hindrance} → h ≡ g → (es : List Entry) → RowKeeps ConnMan file x b G.Service es → noRecord (λ k. entryOf k es) ≡ hindranceIn g
   unfolding keysOf
   no-record q es w =
       rw (← q, e, row-word N.Type w L.ServiceType refl W.Ethernet, row-foreign w, row-line N.Type w, row-line N.Security w)
@@ -96,7 +96,7 @@ module _ {file x : List ℕ} {b : ℕ} {h : Hindrance} (e : h ≡ slotsHindrance
   pub found-hindered : (old : List (List ℕ)) {l : ℕ} → h ≡ H.At l → {r : RecordAnswer} → r ≡ record { answer = Refused NoPlace l; «record» = zeroRecord } → RowAnswered file x b old old r
   found-hindered old q p = record { is = λ es w. rw (no-record q es w) p; servers = λ es w. rw (no-record q es w) }
 
-  pub found-joined : (old : List (List ℕ)) → h ≡ H.Nothing → {j : JoinRecord} → Typed ConnMan file x b G.Service (λ at. laid (serviceJoin at)) j → {s : List (List ℕ)} → s ≡ rows (addresses Comma (bytesOf file x b N.Nameservers)) → {r : RecordAnswer} → r ≡ record { answer = Good; «record» = j } → RowAnswered file x b old s r
+  pub found-joined : (old : List (List ℕ)) → h ≡ H.Nothing → {j : JoinRecord} → RowGives ConnMan file x b G.Service (λ at. laid (serviceJoin at)) j → {s : List (List ℕ)} → s ≡ rows (addresses Comma (bytesOf file x b N.Nameservers)) → {r : RecordAnswer} → r ≡ record { answer = Good; «record» = j } → RowAnswered file x b old s r
   unfolding keysOf
   found-joined old q t {s} p {r} a =
       record {
@@ -106,7 +106,7 @@ module _ {file x : List ℕ} {b : ℕ} {h : Hindrance} (e : h ≡ slotsHindrance
 
 -- ---- a service by its number
 
-module _ {name file : List ℕ} (w : ℕ) {y : List ℕ} {q : Reading} (h : Reads ConnMan name file y q) {a : Answer} (s : a ≡ askedOf w q) (old : List (List ℕ)) where
+module _ {name file : List ℕ} (w : ℕ) {y : List ℕ} {q : Reading} (h : ReadsFile ConnMan name file y q) {a : Answer} (s : a ≡ askedOf w q) (old : List (List ℕ)) where
   pub service-good : (e : a ≡ Good) {b : ℕ} → b ≡ base G.Service w → {r : RecordAnswer} {new : List (List ℕ)} → RowAnswered file y b old new r → (r ≡ serviceRecord name file w) × (new ≡ serviceRecordServers name file w old)
   unfolding serviceRecord serviceRecordServers
   service-good e at p = let k = found-row w h s e at in rw (service-answer h w s e) (p .is _ k, p .servers _ k)

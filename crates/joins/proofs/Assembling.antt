@@ -30,9 +30,8 @@ use Rattle.rules.specs.declared.Group.the-variants as G
 use Rattle.reader.specs.History.{base}
 use Rattle.reader.specs.Closing.{keySlot, bytesOf}
 use Rattle.reader.specs.declared.KeyName.the-variants as N
-use Rattle.settings.specs.Values.{choiceBy}
-use Rattle.settings.specs.Rows.{RowOf, Typed}
-use Rattle.settings.specs.Asked.{IwdRows}
+use Rattle.settings.specs.Codes.{choiceBy}
+use Rattle.settings.specs.Rows.{RowOf, RowGives, IwdRows}
 use Rattle.settings.proofs.Rowwise.{address-none, netmask-none, addresses-none, ipv4-none, key-none, ssid-none, row-read, row-word}
 use Rattle.settings.proofs.IwdFile.{row-of}
 use Rattle.records.specs.Record.{laid}
@@ -119,7 +118,7 @@ numbers-laid n b l y s d i (some (static a m none)) = refl
 numbers-laid n b l y s d i (some (static a m (some g))) = refl
 
 module _ {file x : List ℕ} {b : ℕ} where
-  pub service-joined : {n : Ssid} {login : Login} {hidden : Bool} {numbers : Ipv4} {count : ℕ} {domain : Domain} {i : Ipv6} {r : JoinRecord} → n ≡ nameOf (ssidAnswer (ssid (bytesOf file x b N.Ssid))) (ssidAnswer (string ConnMan 1 32 (bytesOf file x b N.Name))) → login ≡ loginAnswer (secretFrom (passphrase ConnMan (bytesOf file x b N.Passphrase)) none) → hidden ≡ orFalse (choiceIn (choiceBy (keySlot x b N.Hidden .code))) → numbers ≡ ipv4Answer (ipv4 (bytesOf file x b N.Ipv4)) → count ≡ length (orEmpty (addresses Comma (bytesOf file x b N.Nameservers))) → domain ≡ domainAnswer (string ConnMan 1 253 (bytesOf file x b N.Domain)) → i ≡ slotIpv6 x b → r ≡ assembled (n .length) (n .bytes) login hidden numbers count domain i → Typed ConnMan file x b G.Service (λ at. laid (serviceJoin at)) r
+  pub service-joined : {n : Ssid} {login : Login} {hidden : Bool} {numbers : Ipv4} {count : ℕ} {domain : Domain} {i : Ipv6} {r : JoinRecord} → n ≡ nameOf (ssidAnswer (ssid (bytesOf file x b N.Ssid))) (ssidAnswer (string ConnMan 1 32 (bytesOf file x b N.Name))) → login ≡ loginAnswer (secretFrom (passphrase ConnMan (bytesOf file x b N.Passphrase)) none) → hidden ≡ orFalse (choiceIn (choiceBy (keySlot x b N.Hidden .code))) → numbers ≡ ipv4Answer (ipv4 (bytesOf file x b N.Ipv4)) → count ≡ length (orEmpty (addresses Comma (bytesOf file x b N.Nameservers))) → domain ≡ domainAnswer (string ConnMan 1 253 (bytesOf file x b N.Domain)) → i ≡ slotIpv6 x b → r ≡ assembled (n .length) (n .bytes) login hidden numbers count domain i → RowGives ConnMan file x b G.Service (λ at. laid (serviceJoin at)) r
   unfolding keysOf
   service-joined {n} {login} {hidden} {numbers} {count} {domain} {i} p q s t u v w e =
       record {

@@ -15,11 +15,12 @@ use Rattle.kinds.specs.declared.Ipv4.{Ipv4}
 use Rattle.rules.specs.Sections.{Entry, entryOf}
 use Rattle.rules.specs.Asking.{readAs}
 use Rattle.rules.specs.WordNumbers.{isWord, wordNumber}
-use Rattle.reader.specs.Keys.{groupOf, wordOf as nameOf, kindOf}
-use Rattle.reader.specs.Holds.{Row}
+use Rattle.reader.specs.Keys.{keyGroup, keyWord as nameOf, keyKind}
+use Rattle.reader.specs.Holds.{RowKeeps}
 use Rattle.reader.specs.Closing.{keySlot}
 use Rattle.reader.specs.declared.KeyName.{KeyName}
-use Rattle.settings.specs.Values.{choice, choiceBy, lengthOr0}
+use Rattle.settings.specs.Values.{choice, lengthOr0}
+use Rattle.settings.specs.Codes.{choiceBy}
 use Rattle.settings.proofs.Rowwise.{row-flag}
 use Rattle.joins.specs.Joins.{secretFrom, lengthOr24, staticOrDhcp}
 use Rattle.joins.specs.Answers.{phraseAnswer, loginAnswer, loginOf, or24, numbersAnswer, numbersOf, choiceIn}
@@ -65,5 +66,5 @@ choice-back (some true) = refl
 choice-back (some false) = refl
 
 -- the yes/no that a row keeps
-pub row-choice : {d : Dialect} {file x : List ℕ} {b : ℕ} (k : KeyName) {es : List Entry} → Row d file x b (groupOf k) es → kindOf k ≡ Flag → choiceIn (choiceBy (keySlot x b k .code)) ≡ readAs (flag d) (entryOf (nameOf k) es)
+pub row-choice : {d : Dialect} {file x : List ℕ} {b : ℕ} (k : KeyName) {es : List Entry} → RowKeeps d file x b (keyGroup k) es → keyKind k ≡ Flag → choiceIn (choiceBy (keySlot x b k .code)) ≡ readAs (flag d) (entryOf (nameOf k) es)
 row-choice k h e = ap choiceIn (row-flag k h e) ∙ choice-back _

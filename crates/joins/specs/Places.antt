@@ -12,10 +12,10 @@ use Rattle.rules.specs.Sections.{Entry, entryOf, entriesIn}
 use Rattle.rules.specs.Reading.{sectionsOf}
 use Rattle.rules.specs.declared.Group.the-variants as G
 use Rattle.reader.specs.History.{base}
-use Rattle.reader.specs.Holds.{Row}
-use Rattle.reader.specs.Closing.{InTable, keySlot, slotIs}
+use Rattle.reader.specs.Holds.{RowKeeps}
+use Rattle.reader.specs.Closing.{RowInTable, keySlot, slotIs}
 use Rattle.reader.specs.declared.KeyName.the-variants as N
-use Rattle.settings.specs.Asked.{FourRows}
+use Rattle.settings.specs.Rows.{FourRows}
 use Rattle.records.specs.declared.Ipv6.{Ipv6}
 use Rattle.records.specs.declared.Ipv6.the-variants as Ipv6
 use Rattle.records.specs.declared.JoinRecord.{JoinRecord}
@@ -28,7 +28,7 @@ use Rattle.joins.specs.declared.RecordAnswer.{RecordAnswer}
 
 -- the rows of iwd's groups, which lie in the table to the last, keep the settings of the file
 pub record IwdFileRows (file x : List ℕ) : Type 0 where
-  pub table : InTable x (base G.Ipv6 0)
+  pub table : RowInTable x (base G.Ipv6 0)
   pub rows : FourRows file x (λ n. entriesIn n (sectionsOf Iwd file))
 
 -- ---- a service, by the words that the row from b on keeps
@@ -73,5 +73,5 @@ ofService at = orNoPlace (noRecord at) (serviceJoin at)
 
 -- the same of the service whose settings the row from b on keeps
 pub record RowAnswered (file x : List ℕ) (b : ℕ) (old new : List (List ℕ)) (r : RecordAnswer) : Type 0 where
-  pub is : (es : List Entry) → Row ConnMan file x b G.Service es → r ≡ recordAnswer (ofService (λ k. entryOf k es))
-  pub servers : (es : List Entry) → Row ConnMan file x b G.Service es → new ≡ serversAfter (ofService (λ k. entryOf k es)) old
+  pub is : (es : List Entry) → RowKeeps ConnMan file x b G.Service es → r ≡ recordAnswer (ofService (λ k. entryOf k es))
+  pub servers : (es : List Entry) → RowKeeps ConnMan file x b G.Service es → new ≡ serversAfter (ofService (λ k. entryOf k es)) old

@@ -8,7 +8,7 @@ ghost use Rattle.reader.specs.Closing.{bytesOf};
 ghost use Rattle.names.specs.Names.{networkOf};
 ghost use Rattle.rules.specs.Asking.{iwdEntry};
 ghost use Rattle.rules.specs.Reading.{sectionsOf};
-ghost use Rattle.settings.specs.Rows.{RowOf, Typed};
+ghost use Rattle.settings.specs.Rows.{RowOf, RowGives};
 ghost use Rattle.records.specs.Record.{laid};
 ghost use Rattle.joins.specs.Joins.{iwdJoin, networkName, serviceJoin};
 ghost use Rattle.joins.specs.Places.{IwdFileRows, assembled};
@@ -95,7 +95,7 @@ pub fn iwd_join(name: &[u8], file: &[u8], x: &[u16; 976], count: usize) -> JoinR
 pub fn service_join(file: &[u8], x: &[u16; 976], row: usize, count: usize) -> JoinRecord
     requires kept { ⌜ RowOf Dialect.ConnMan (now file) (now x) row Group.Service ⌝ }
     requires counted { ⌜ count ≡ length (orEmpty (addresses Separator.Comma (bytesOf (now file) (now x) row KeyName.Nameservers))) ⌝ }
-    ensures { λ r. ⌜ Typed Dialect.ConnMan (now (file .entry)) (now (x .entry)) row Group.Service (λ at. laid (serviceJoin at)) r ⌝ }
+    ensures { λ r. ⌜ RowGives Dialect.ConnMan (now (file .entry)) (now (x .entry)) row Group.Service (λ at. laid (serviceJoin at)) r ⌝ }
 {
     let name = parts::service_name(file, x, row);
     let login = parts::service_login(file, x, row);

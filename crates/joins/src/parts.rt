@@ -6,8 +6,8 @@ ghost use Rattle.escapes.specs.Strings.{stringOf, sizeOf};
 ghost use Rattle.addresses.specs.Addresses.{address, netmask};
 ghost use Rattle.kinds.specs.Kinds.{ssid, string, passphrase, preSharedKey};
 ghost use Rattle.kinds.specs.Answers.{ssidAnswer};
-ghost use Rattle.reader.specs.Closing.{InTable, KeyIn, keySlot, bytesOf};
-ghost use Rattle.settings.specs.Values.{choiceBy};
+ghost use Rattle.reader.specs.Closing.{RowInTable, ValueInFile, keySlot, bytesOf};
+ghost use Rattle.settings.specs.Codes.{choiceBy};
 ghost use Rattle.settings.specs.Rows.{RowOf};
 ghost use Rattle.joins.specs.Joins.{secretFrom, staticOrDhcp, orFalse, enabledIpv6};
 ghost use Rattle.joins.specs.Answers.{phraseAnswer, domainAnswer, loginAnswer, loginOf, numbersOf, numbersAnswer, nameOf, choiceIn, or24};
@@ -196,7 +196,7 @@ pub fn service_login(file: &[u8], x: &[u16; 976], row: usize) -> Login
 
 // The domain that a key of a row gives.
 pub fn domain_at(d: Dialect, file: &[u8], x: &[u16; 976], row: usize, k: KeyName) -> Domain
-    requires { ⌜ KeyIn (now file) (now x) row k ⌝ }
+    requires { ⌜ ValueInFile (now file) (now x) row k ⌝ }
     ensures { λ r. ⌜ r ≡ domainAnswer (string d 1 253 (bytesOf (now (file .entry)) (now (x .entry)) row k)) ⌝ }
 {
     read_domain(d, value_of(file, x, row, k))
@@ -204,7 +204,7 @@ pub fn domain_at(d: Dialect, file: &[u8], x: &[u16; 976], row: usize, k: KeyName
 
 // Whether a key of a row says that the network is hidden, which it is not where nothing is said.
 pub fn hidden_at(x: &[u16; 976], row: usize, k: KeyName) -> bool
-    requires { ⌜ InTable (now x) row ⌝ }
+    requires { ⌜ RowInTable (now x) row ⌝ }
     ensures { λ r. ⌜ r ≡ orFalse (choiceIn (choiceBy (keySlot (now (x .entry)) row k .code))) ⌝ }
 {
     let c = values::choice_at(x, row, k);
@@ -265,7 +265,7 @@ pub fn iwd_numbers(file: &[u8], x: &[u16; 976], row: usize) -> Ipv4
 
 // IPv6 of an iwd file, by the row of its IPv6.
 pub fn iwd_ipv6(x: &[u16; 976], row: usize) -> Ipv6
-    requires { ⌜ InTable (now x) row ⌝ }
+    requires { ⌜ RowInTable (now x) row ⌝ }
     ensures { λ r. ⌜ r ≡ enabledIpv6 (choiceIn (choiceBy (keySlot (now (x .entry)) row KeyName.Enabled .code))) ⌝ }
 {
     let c = values::choice_at(x, row, KeyName::Enabled);
@@ -278,7 +278,7 @@ pub fn iwd_ipv6(x: &[u16; 976], row: usize) -> Ipv6
 
 // IPv6 of a service, by its row.
 pub fn service_ipv6(x: &[u16; 976], row: usize) -> Ipv6
-    requires { ⌜ InTable (now x) row ⌝ }
+    requires { ⌜ RowInTable (now x) row ⌝ }
     ensures { λ r. ⌜ r ≡ slotIpv6 (now (x .entry)) row ⌝ }
 {
     if is_word(x, row, KeyName::Ipv6, Word::Off) {
@@ -310,7 +310,7 @@ pub fn service_name(file: &[u8], x: &[u16; 976], row: usize) -> Ssid
 
 // Whether a service's Security is wep or ieee8021x.
 pub fn is_foreign(x: &[u16; 976], row: usize) -> bool
-    requires { ⌜ InTable (now x) row ⌝ }
+    requires { ⌜ RowInTable (now x) row ⌝ }
     ensures { λ r. ⌜ r ≡ slotsForeign (now (x .entry)) row ⌝ }
 {
     either(
@@ -321,7 +321,7 @@ pub fn is_foreign(x: &[u16; 976], row: usize) -> bool
 
 // The line for which a service has no record: ethernet, or Security wep or ieee8021x.
 pub fn hindrance_at(x: &[u16; 976], row: usize) -> Hindrance
-    requires { ⌜ InTable (now x) row ⌝ }
+    requires { ⌜ RowInTable (now x) row ⌝ }
     ensures { λ r. ⌜ r ≡ slotsHindrance (now (x .entry)) row ⌝ }
 {
     if is_word(x, row, KeyName::Type, Word::Ethernet) {

@@ -22,14 +22,14 @@ use Rattle.rules.specs.declared.Group.{Group}
 use Rattle.rules.specs.declared.Group.the-variants.{Service}
 use Rattle.rules.specs.declared.Reading.{Reading}
 use Rattle.reader.specs.Store.{Slot}
-use Rattle.reader.specs.Keys.{groupOf, wordOf, kindOf}
+use Rattle.reader.specs.Keys.{keyGroup, keyWord, keyKind}
 use Rattle.reader.specs.History.{base}
-use Rattle.reader.specs.Holds.{Kept, Row}
-use Rattle.reader.specs.Closing.{KeyIn, keySlot}
+use Rattle.reader.specs.Holds.{SlotKeeps, RowKeeps}
+use Rattle.reader.specs.Closing.{ValueInFile, keySlot}
 use Rattle.reader.specs.declared.KeyName.{KeyName}
 use Rattle.reader.proofs.RowRule.{row-key, row-in}
 use Rattle.reader.proofs.Values.{base-few}
-use Rattle.pass.specs.Pass.{Reads}
+use Rattle.pass.specs.Pass.{ReadsFile}
 use Rattle.pass.proofs.Asking.{found-group, found-service, file-found, service-found, service-few}
 use Rattle.lookups.specs.Lookups.{Lookup, lookupOf, groupLookup, serviceLookup, stretch, settingValue, lookupPlace, ValuePlace, Hands, HandsPlace}
 use Rattle.lookups.specs.ByKey.{StandsOnce, slotPlace, answeredPlace}
@@ -37,7 +37,7 @@ use Rattle.lookups.specs.declared.TextPlace.{TextPlace}
 
 -- ---- the place that a slot gives
 
-kept-placed : (d : Dialect) (t : Option Kind) (file : List ℕ) (s : Slot) (o : Option Entry) → Kept d t file s o → ValuePlace file (lookupOf Good o) (slotPlace file s)
+kept-placed : (d : Dialect) (t : Option Kind) (file : List ℕ) (s : Slot) (o : Option Entry) → SlotKeeps d t file s o → ValuePlace file (lookupOf Good o) (slotPlace file s)
 kept-placed d t file s none q =
     let p : slotPlace file s ≡ record { number = 0; line = 0; start = 0; end = 0 } = ap (slotPlace file) q ∙ ap (λ (v : List ℕ). record { number = 0; line = 0; start = 0; end = length v }) (part-none file 0) in
     rw p (record { is = refl; within = omega arith; value-is = part-none file 0 })
@@ -46,33 +46,33 @@ kept-placed d t file s (some e) h =
     record { is = rw (h .value, h .line, h .start) refl; within = rw n (h .high); value-is = rw n (h .value) }
 
 -- the answer where the row keeps the settings es
-answer-placed : {d : Dialect} {file y : List ℕ} {b : ℕ} (k : KeyName) {es : List Entry} (a : Answer) → (a ≡ Good → Row d file y b (groupOf k) es) → {p : TextPlace} → p ≡ answeredPlace a (slotPlace file (keySlot y b k)) → ValuePlace file (lookupOf a (entryOf (wordOf k) es)) p
-answer-placed {d} {file} {y} {b} k {es} Good row e = rw e (kept-placed d (some (kindOf k)) file (keySlot y b k) (entryOf (wordOf k) es) (row-key k (row refl)))
+answer-placed : {d : Dialect} {file y : List ℕ} {b : ℕ} (k : KeyName) {es : List Entry} (a : Answer) → (a ≡ Good → RowKeeps d file y b (keyGroup k) es) → {p : TextPlace} → p ≡ answeredPlace a (slotPlace file (keySlot y b k)) → ValuePlace file (lookupOf a (entryOf (keyWord k) es)) p
+answer-placed {d} {file} {y} {b} k {es} Good row e = rw e (kept-placed d (some (keyKind k)) file (keySlot y b k) (entryOf (keyWord k) es) (row-key k (row refl)))
 answer-placed {file = file} k (Refused r l) row e = rw e (record { is = refl; within = omega arith; value-is = part-none file 0 })
 
 -- ---- the answer of a file
 
-module _ {d : Dialect} {name file y : List ℕ} {r : Reading} (h : Reads d name file y r) {g : Group} {k : KeyName} (s : StandsOnce d g k) {a : Answer} (e : a ≡ asked r) where
-  group-key-row : a ≡ Good → Row d file y (base g 0) (groupOf k) (entriesIn (groupName g) (sectionsOf d file))
+module _ {d : Dialect} {name file y : List ℕ} {r : Reading} (h : ReadsFile d name file y r) {g : Group} {k : KeyName} (s : StandsOnce d g k) {a : Answer} (e : a ≡ asked r) where
+  group-key-row : a ≡ Good → RowKeeps d file y (base g 0) (keyGroup k) (entriesIn (groupName g) (sectionsOf d file))
   group-key-row q = rw (s .group) (found-group (file-found h e q) g (subst (λ (b : Dialect). T.groupOf b (groupName g) ≡ some g) (s .dialect) (group-of-name g (s .once))) (s .once))
 
-  pub group-in : a ≡ Good → (0 ≤ 8) × KeyIn file y (base g 0) k
+  pub group-in : a ≡ Good → (0 ≤ 8) × ValueInFile file y (base g 0) k
   group-in q = (omega arith, row-in k (group-key-row q) (record { long = file-found h e q .kept .long; row = base-few g 0 (omega arith) }))
 
-  pub group-placed : {p : TextPlace} → p ≡ answeredPlace a (slotPlace file (keySlot y (base g 0) k)) → ValuePlace file (groupLookup d (groupName g) (wordOf k) name file) p
-  group-placed {p} q = subst (λ (b : Answer). ValuePlace file (lookupOf b (entryOf (wordOf k) (entriesIn (groupName g) (sectionsOf d file)))) p) (e ∙ ap asked (h .is)) (answer-placed k a group-key-row q)
+  pub group-placed : {p : TextPlace} → p ≡ answeredPlace a (slotPlace file (keySlot y (base g 0) k)) → ValuePlace file (groupLookup d (groupName g) (keyWord k) name file) p
+  group-placed {p} q = subst (λ (b : Answer). ValuePlace file (lookupOf b (entryOf (keyWord k) (entriesIn (groupName g) (sectionsOf d file)))) p) (e ∙ ap asked (h .is)) (answer-placed k a group-key-row q)
 
 -- ---- the answer of a service of it
 
-module _ {name file y : List ℕ} {r : Reading} (h : Reads ConnMan name file y r) (w : ℕ) (k : KeyName) (s : groupOf k ≡ Service) {a : Answer} (e : a ≡ askedOf w r) where
-  service-key-row : a ≡ Good → Row ConnMan file y (base Service w) (groupOf k) (serviceAt w (sectionsOf ConnMan file))
+module _ {name file y : List ℕ} {r : Reading} (h : ReadsFile ConnMan name file y r) (w : ℕ) (k : KeyName) (s : keyGroup k ≡ Service) {a : Answer} (e : a ≡ askedOf w r) where
+  service-key-row : a ≡ Good → RowKeeps ConnMan file y (base Service w) (keyGroup k) (serviceAt w (sectionsOf ConnMan file))
   service-key-row q = rw s (found-service (service-found h w e q) w (service-few h w e q))
 
-  pub service-in : a ≡ Good → (w ≤ 8) × KeyIn file y (base Service w) k
+  pub service-in : a ≡ Good → (w ≤ 8) × ValueInFile file y (base Service w) k
   service-in q = let l = service-few h w e q .1 in (l, row-in k (service-key-row q) (record { long = service-found h w e q .kept .long; row = base-few Service w l }))
 
-  pub service-placed : {p : TextPlace} → p ≡ answeredPlace a (slotPlace file (keySlot y (base Service w) k)) → ValuePlace file (serviceLookup w (wordOf k) name file) p
-  service-placed {p} q = subst (λ (b : Answer). ValuePlace file (lookupOf b (entryOf (wordOf k) (serviceAt w (sectionsOf ConnMan file)))) p) (e ∙ ap (askedOf w) (h .is)) (answer-placed k a service-key-row q)
+  pub service-placed : {p : TextPlace} → p ≡ answeredPlace a (slotPlace file (keySlot y (base Service w) k)) → ValuePlace file (serviceLookup w (keyWord k) name file) p
+  service-placed {p} q = subst (λ (b : Answer). ValuePlace file (lookupOf b (entryOf (keyWord k) (serviceAt w (sectionsOf ConnMan file)))) p) (e ∙ ap (askedOf w) (h .is)) (answer-placed k a service-key-row q)
 
 -- ---- the part that is handed back
 

@@ -13,13 +13,13 @@ use Rattle.rules.specs.declared.Answer.{Answer}
 use Rattle.rules.specs.declared.Answer.the-variants.{Good, Refused}
 use Rattle.rules.specs.declared.Group.{Group}
 use Rattle.reader.specs.Store.{Slot}
-use Rattle.reader.specs.Keys.{groupOf}
+use Rattle.reader.specs.Keys.{keyGroup}
 use Rattle.reader.specs.declared.KeyName.{KeyName}
 use Rattle.lookups.specs.declared.TextPlace.{TextPlace}
 
 -- a key of a group that stands once in a file of its dialect
 pub record StandsOnce (d : Dialect) (g : Group) (k : KeyName) : Type 0 where
-  pub group : groupOf k ≡ g
+  pub group : keyGroup k ≡ g
   pub dialect : groupDialect g ≡ d
   pub once : serves g ≡ false
 

@@ -11,7 +11,7 @@ ghost use lib.ListN.{length};
 ghost use Rattle.text.specs.Parts.{part};
 ghost use Rattle.text.specs.Words.{word};
 ghost use Rattle.rules.specs.ListedValues.{groupName};
-ghost use Rattle.reader.specs.Keys.{groupOf, wordOf};
+ghost use Rattle.reader.specs.Keys.{keyGroup, keyWord};
 ghost use Rattle.lookups.specs.Lookups.{groupLookup, iwdLookup, globalLookup, serviceLookup, Hands, HandsPlace};
 ghost use Rattle.lookups.specs.ByKey.{StandsOnce};
 use reader::KeyName;
@@ -49,7 +49,7 @@ fn group_text<'a>(
     line: &mut usize,
 ) -> &'a [u8]
     requires { ⌜ StandsOnce d g k ⌝ }
-    ensures { λ r. ⌜ Hands (now (file .entry)) (groupLookup d (groupName g) (wordOf k) (now (name .entry)) (now (file .entry))) (now (number .exit)) (now (line .exit)) (now r) ⌝ }
+    ensures { λ r. ⌜ Hands (now (file .entry)) (groupLookup d (groupName g) (keyWord k) (now (name .entry)) (now (file .entry))) (now (number .exit)) (now (line .exit)) (now r) ⌝ }
 {
     hand(file, places::group_place(d, name, file, g, k), number, line)
 }
@@ -63,8 +63,8 @@ fn service_text<'a>(
     number: &mut u8,
     line: &mut usize,
 ) -> &'a [u8]
-    requires { ⌜ groupOf k ≡ Group.Service ⌝ }
-    ensures { λ r. ⌜ Hands (now (file .entry)) (serviceLookup service (wordOf k) (now (name .entry)) (now (file .entry))) (now (number .exit)) (now (line .exit)) (now r) ⌝ }
+    requires { ⌜ keyGroup k ≡ Group.Service ⌝ }
+    ensures { λ r. ⌜ Hands (now (file .entry)) (serviceLookup service (keyWord k) (now (name .entry)) (now (file .entry))) (now (number .exit)) (now (line .exit)) (now r) ⌝ }
 {
     hand(
         file,

@@ -6,9 +6,9 @@ ghost use mathlib.Core.Path.{_≡_};
 ghost use Prim.Native.Nat.{_≤_};
 ghost use Rattle.text.specs.Words.{word};
 ghost use Rattle.rules.specs.ListedValues.{groupName};
-ghost use Rattle.reader.specs.Keys.{groupOf, wordOf};
+ghost use Rattle.reader.specs.Keys.{keyGroup, keyWord};
 ghost use Rattle.reader.specs.History.{base};
-ghost use Rattle.reader.specs.Closing.{KeyIn, keySlot};
+ghost use Rattle.reader.specs.Closing.{ValueInFile, keySlot};
 ghost use Rattle.lookups.specs.Lookups.{groupLookup, iwdLookup, globalLookup, serviceLookup, ValuePlace};
 ghost use Rattle.lookups.specs.ByKey.{StandsOnce, slotPlace, answeredPlace};
 use crate::TextPlace;
@@ -24,7 +24,7 @@ use text::Dialect;
 
 // Where the value of a key stands, in the row that starts at a slot.
 fn key_place(file: &[u8], x: &[u16; 976], row: usize, k: KeyName) -> TextPlace
-    requires { ⌜ KeyIn (now file) (now x) row k ⌝ }
+    requires { ⌜ ValueInFile (now file) (now x) row k ⌝ }
     ensures { λ r. ⌜ r ≡ slotPlace (now (file .entry)) (keySlot (now (x .entry)) row k) ⌝ }
 {
     let start = start_of(x, row, k);
@@ -45,7 +45,7 @@ fn answered_place(
     n: usize,
     k: KeyName,
 ) -> TextPlace
-    requires { ⌜ (answer ≡ Answer.Good → (n ≤ 8) × KeyIn (now file) (now x) (base g n) k) ⌝ }
+    requires { ⌜ (answer ≡ Answer.Good → (n ≤ 8) × ValueInFile (now file) (now x) (base g n) k) ⌝ }
     ensures { λ r. ⌜ r ≡ answeredPlace answer (slotPlace (now (file .entry)) (keySlot (now (x .entry)) (base g n) k)) ⌝ }
 {
     match answer {
@@ -62,7 +62,7 @@ fn answered_place(
 // The place of a key of a group that stands once.
 pub fn group_place(d: Dialect, name: &[u8], file: &[u8], g: Group, k: KeyName) -> TextPlace
     requires { ⌜ StandsOnce d g k ⌝ }
-    ensures { λ r. ⌜ ValuePlace (now (file .entry)) (groupLookup d (groupName g) (wordOf k) (now (name .entry)) (now (file .entry))) r ⌝ }
+    ensures { λ r. ⌜ ValuePlace (now (file .entry)) (groupLookup d (groupName g) (keyWord k) (now (name .entry)) (now (file .entry))) r ⌝ }
 {
     let mut places = [0; 976];
     let read = pass::read(d, name, file, &mut places);
@@ -72,8 +72,8 @@ pub fn group_place(d: Dialect, name: &[u8], file: &[u8], g: Group, k: KeyName) -
 
 // The place of a key of a service, by its number, from 1.
 pub fn service_place(name: &[u8], file: &[u8], service: usize, k: KeyName) -> TextPlace
-    requires { ⌜ groupOf k ≡ Group.Service ⌝ }
-    ensures { λ r. ⌜ ValuePlace (now (file .entry)) (serviceLookup service (wordOf k) (now (name .entry)) (now (file .entry))) r ⌝ }
+    requires { ⌜ keyGroup k ≡ Group.Service ⌝ }
+    ensures { λ r. ⌜ ValuePlace (now (file .entry)) (serviceLookup service (keyWord k) (now (name .entry)) (now (file .entry))) r ⌝ }
 {
     let mut places = [0; 976];
     let read = pass::read(Dialect::ConnMan, name, file, &mut places);

@@ -20,8 +20,8 @@ use Rattle.rules.specs.WordNumbers.{isWord, wordNumber}
 use Rattle.rules.specs.Asking.{readAs}
 use Rattle.rules.specs.declared.Group.the-variants as G
 use Rattle.reader.specs.Store.{Slot}
-use Rattle.reader.specs.Keys.{groupOf, wordOf as nameOf, kindOf}
-use Rattle.reader.specs.Holds.{Kept, Row}
+use Rattle.reader.specs.Keys.{keyGroup, keyWord as nameOf, keyKind}
+use Rattle.reader.specs.Holds.{SlotKeeps, RowKeeps}
 use Rattle.reader.specs.Closing.{keySlot, bytesOf, slotIs}
 use Rattle.reader.specs.declared.KeyName.{KeyName}
 use Rattle.reader.specs.declared.KeyName.the-variants as N
@@ -75,11 +75,11 @@ given-front (some x) ls = refl
 
 -- ---- a setting by its key
 
-module _ {file x : List ℕ} {b : ℕ} (k : KeyName) {es : List Entry} (h : Row ConnMan file x b (groupOf k) es) where
+module _ {file x : List ℕ} {b : ℕ} (k : KeyName) {es : List Entry} (h : RowKeeps ConnMan file x b (keyGroup k) es) where
   row-given : slotLine x b k ≡ earliest (lineGiven (entryOf (nameOf k) es))
   row-given = go (entryOf (nameOf k) es) (row-key k h)
     where
-      go : (o : Option Entry) → Kept ConnMan (some (kindOf k)) file (keySlot x b k) o → slotLine x b k ≡ earliest (lineGiven o)
+      go : (o : Option Entry) → SlotKeeps ConnMan (some (keyKind k)) file (keySlot x b k) o → slotLine x b k ≡ earliest (lineGiven o)
       go none q = ap (λ (t : Slot). lineSaid (t .line)) q
       go (some e) q = line-some (keySlot x b k .line) (q .some) ∙ ap some (q .line)
 
@@ -87,7 +87,7 @@ module _ {file x : List ℕ} {b : ℕ} (k : KeyName) {es : List Entry} (h : Row 
   row-where : (test : Option Entry → Bool) → test none ≡ false → {t : Bool} → t ≡ test (entryOf (nameOf k) es) → {r : ℕ} → r ≡ slotLineIf t x b k → lineSaid r ≡ earliest (lineIf (test (entryOf (nameOf k) es)) (entryOf (nameOf k) es))
   row-where test z e p = ap lineSaid p ∙ ap (λ (u : Bool). lineSaid (slotLineIf u x b k)) e ∙ go (entryOf (nameOf k) es) (row-key k h)
     where
-      go : (o : Option Entry) → Kept ConnMan (some (kindOf k)) file (keySlot x b k) o → lineSaid (slotLineIf (test o) x b k) ≡ earliest (lineIf (test o) o)
+      go : (o : Option Entry) → SlotKeeps ConnMan (some (keyKind k)) file (keySlot x b k) o → lineSaid (slotLineIf (test o) x b k) ≡ earliest (lineIf (test o) o)
       go none q = rw z
       go (some e) q = pick (test (some e))
         where
@@ -113,7 +113,7 @@ read-unrouted (some off) = refl
 read-unrouted (some (static a n none)) = refl
 read-unrouted (some (static a n (some g))) = refl
 
-row-unrouted : {file x : List ℕ} {b : ℕ} {es : List Entry} → Row ConnMan file x b G.Service es → {i : Ipv4} → i ≡ ipv4Answer (ipv4 (bytesOf file x b N.Ipv4)) → unrouted (i .method) (i .«has_gateway») ≡ unroutedBy (entryOf (word "IPv4") es)
+row-unrouted : {file x : List ℕ} {b : ℕ} {es : List Entry} → RowKeeps ConnMan file x b G.Service es → {i : Ipv4} → i ≡ ipv4Answer (ipv4 (bytesOf file x b N.Ipv4)) → unrouted (i .method) (i .«has_gateway») ≡ unroutedBy (entryOf (word "IPv4") es)
 unfolding keysOf
 row-unrouted {es = es} h q =
     ap (λ (v : Ipv4). unrouted (v .method) (v .«has_gateway»)) (q ∙ ap ipv4Answer (row-read N.Ipv4 h ipv4 ipv4-none))
@@ -144,7 +144,7 @@ securityLines at = lineIf (foreign at) (at (word "Security")) ++ ipv4Lines at
 unplaced-nested : (at : List ℕ → Option Entry) → lineIf (wired at) (at (word "Type")) ++ securityLines at ≡ unplaced at
 unplaced-nested at = sym (nested (lineIf (wired at) (at (word "Type"))) (lineIf (foreign at) (at (word "Security"))) (lineIf (not (hasPlace (serviceJoin at .ipv4))) (at (word "IPv4"))) (lineGiven (at (word "MAC"))) (lineGiven (at (word "IPv6.Privacy"))) (lineGiven (at (word "SearchDomains"))) (lineGiven (at (word "Timeservers"))))
 
-module _ {file x : List ℕ} {b : ℕ} {es : List Entry} (h : Row ConnMan file x b G.Service es) where
+module _ {file x : List ℕ} {b : ℕ} {es : List Entry} (h : RowKeeps ConnMan file x b G.Service es) where
   row-others : {g : ℕ} → GivenLine x b g → lineSaid g ≡ earliest (givenLines (λ k. entryOf k es))
   unfolding keysOf
   row-others a =

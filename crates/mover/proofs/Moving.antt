@@ -18,9 +18,9 @@ use Rattle.rules.specs.declared.Refusal.the-variants.{NoPlace}
 use Rattle.reader.specs.History.{base}
 use Rattle.reader.specs.Closing.{bytesOf}
 use Rattle.reader.specs.declared.KeyName.the-variants as N
-use Rattle.pass.specs.Pass.{Reads}
+use Rattle.pass.specs.Pass.{ReadsFile}
 use Rattle.pass.proofs.Asking.{service-answer}
-use Rattle.settings.specs.Rows.{RowOf, Typed}
+use Rattle.settings.specs.Rows.{RowOf, RowGives}
 use Rattle.settings.proofs.ServiceFile.{found-row}
 use Rattle.settings.proofs.Rowwise.{addresses-none, row-read}
 use Rattle.records.specs.Record.{Join, laid, joined}
@@ -43,14 +43,14 @@ refusal-writes p = record { answer = p; name = refl; file = refl }
 
 -- ---- a service that there is
 
-pub record-within : {file x : List ℕ} {b : ℕ} {j : JoinRecord} → RowOf ConnMan file x b G.Service → Typed ConnMan file x b G.Service (λ at. laid (serviceJoin at)) j → CountsWithin j
+pub record-within : {file x : List ℕ} {b : ℕ} {j : JoinRecord} → RowOf ConnMan file x b G.Service → RowGives ConnMan file x b G.Service (λ at. laid (serviceJoin at)) j → CountsWithin j
 record-within h t = subst CountsWithin (sym (t .is (h .settings) (h .row))) (join-within (λ k. entryOf k (h .settings)))
 
 module _ {file t : List ℕ} {b l : ℕ} (u : RowLine file t b (λ at. earliest (unplaced at)) l) (n f : List ℕ) where
   pub found-unplaced : 0 < l → {a : Written} → a ≡ writtenAnswer (refuses NoPlace l) → MovesBy file t b n f n f a
   found-unplaced g {a} p = record { is = λ es h. subst (λ (o : Option ℕ). Writes (orUnplaced o (writingOf (serviceJoin (λ k. entryOf k es)) n f)) n f n f a) (sym (line-some l g) ∙ u .is es h) (refusal-writes p) }
 
-  pub found-placed : l ≤ 0 → {j : JoinRecord} → Typed ConnMan file t b G.Service (λ at. laid (serviceJoin at)) j → {s : List (List ℕ)} → s ≡ rows (addresses Comma (bytesOf file t b N.Nameservers)) → {x y : List ℕ} {a : Written} → Writes (writingOf (joined j s) n f) n f x y a → MovesBy file t b n f x y a
+  pub found-placed : l ≤ 0 → {j : JoinRecord} → RowGives ConnMan file t b G.Service (λ at. laid (serviceJoin at)) j → {s : List (List ℕ)} → s ≡ rows (addresses Comma (bytesOf file t b N.Nameservers)) → {x y : List ℕ} {a : Written} → Writes (writingOf (joined j s) n f) n f x y a → MovesBy file t b n f x y a
   unfolding keysOf
   found-placed g {j} v {s} p {x} {y} {a} w =
       record {
@@ -65,7 +65,7 @@ module _ {file t : List ℕ} {b l : ℕ} (u : RowLine file t b (λ at. earliest 
 moves : {name file : List ℕ} {w : ℕ} {n f x y : List ℕ} {a : Written} → Writes (moving name file w n f) n f x y a → Moves name file w n f x y a
 moves h = record { is = h; demand = λ m. demand-3 m h }
 
-module _ {name file : List ℕ} (w : ℕ) {t : List ℕ} {q : Reading} (h : Reads ConnMan name file t q) {b : Answer} (s : b ≡ askedOf w q) (n f : List ℕ) where
+module _ {name file : List ℕ} (w : ℕ) {t : List ℕ} {q : Reading} (h : ReadsFile ConnMan name file t q) {b : Answer} (s : b ≡ askedOf w q) (n f : List ℕ) where
   good-writes : b ≡ Good → {i : ℕ} → i ≡ base G.Service w → {x y : List ℕ} {a : Written} → MovesBy file t i n f x y a → Writes (moving name file w n f) n f x y a
   unfolding moving
   good-writes e at p = rw (service-answer h w s e) (p .is _ (found-row w h s e at))

@@ -10,7 +10,7 @@ use Rattle.kinds.specs.declared.Method.the-variants as M
 use Rattle.rules.specs.Sections.{Entry, entryOf}
 use Rattle.tables.specs.KeyPlaces.{keyNames}
 use Rattle.rules.specs.declared.Group.the-variants.{Service}
-use Rattle.reader.specs.Holds.{Row}
+use Rattle.reader.specs.Holds.{RowKeeps}
 use Rattle.reader.specs.Closing.{keySlot}
 use Rattle.reader.specs.declared.KeyName.{KeyName}
 use Rattle.reader.specs.declared.KeyName.the-variants as N
@@ -57,8 +57,8 @@ pub record GivenLine (x : List ℕ) (b r : ℕ) : Type 0 where
 
 -- the line of the service whose settings the row keeps
 pub record RowLine (file x : List ℕ) (b : ℕ) (f : (List ℕ → Option Entry) → Option ℕ) (r : ℕ) : Type 0 where
-  pub is : (es : List Entry) → Row ConnMan file x b Service es → lineSaid r ≡ f (λ k. entryOf k es)
+  pub is : (es : List Entry) → RowKeeps ConnMan file x b Service es → lineSaid r ≡ f (λ k. entryOf k es)
 
 -- the move of that service: the answer a, and the buffers x and y, which held n and f
 pub record MovesBy (file t : List ℕ) (b : ℕ) (n f x y : List ℕ) (a : Written) : Type 0 where
-  pub is : (es : List Entry) → Row ConnMan file t b Service es → Writes (movingOf (λ k. entryOf k es) n f) n f x y a
+  pub is : (es : List Entry) → RowKeeps ConnMan file t b Service es → Writes (movingOf (λ k. entryOf k es) n f) n f x y a

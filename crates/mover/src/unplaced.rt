@@ -1,7 +1,7 @@
 // The lines of a service that iwd has no place for, by the row of the table of places that keeps its settings: each answer is
 // a line, or 0 where there is none.
 ghost use mathlib.Core.Path.{_≡_};
-ghost use Rattle.reader.specs.Closing.{InTable};
+ghost use Rattle.reader.specs.Closing.{RowInTable};
 ghost use Rattle.settings.specs.Rows.{RowOf};
 ghost use Rattle.mover.specs.Moves.{unplaced, earliest};
 ghost use Rattle.mover.specs.Places.{Earlier, GivenLine, RowLine, slotLineIf, unrouted};
@@ -34,7 +34,7 @@ fn earlier(a: usize, b: usize) -> usize
 
 // The line of a key, where a test of its value holds.
 fn line_if(holds: bool, x: &[u16; 976], row: usize, k: KeyName) -> usize
-    requires { ⌜ InTable (now x) row ⌝ }
+    requires { ⌜ RowInTable (now x) row ⌝ }
     ensures { λ r. ⌜ r ≡ slotLineIf holds (now (x .entry)) row k ⌝ }
 {
     if holds {
@@ -60,7 +60,7 @@ fn is_unrouted(numbers: Ipv4) -> bool
 
 // MAC, IPv6.Privacy, SearchDomains and Timeservers, whatever they say.
 fn given_line(x: &[u16; 976], row: usize) -> usize
-    requires { ⌜ InTable (now x) row ⌝ }
+    requires { ⌜ RowInTable (now x) row ⌝ }
     ensures { λ r. ⌜ GivenLine (now (x .entry)) row r ⌝ }
 {
     let domains = line_of(x, row, KeyName::SearchDomains);

@@ -5,7 +5,7 @@ use mathlib.Core.Path.{_≡_, refl}
 use mathlib.Core.Option.{some}
 use Rattle.text.specs.Words.{place}
 use Rattle.rules.specs.Tables.{keysOf, kindOf}
-use Rattle.rules.specs.Lookups.{keyNames}
+use Rattle.tables.specs.KeyPlaces.{keyNames}
 use Rattle.reader.specs.Store.{rowLength}
 use Rattle.reader.specs.Keys.{NamedKey, keyNamed, keyGroup, keyWord, keyKind, keyPlace}
 use Rattle.reader.specs.declared.KeyName.{KeyName}
