@@ -13,13 +13,11 @@ use Rattle.addresses.specs.declared.Separator.the-variants.{Spaces, Comma}
 use Rattle.kinds.specs.Kinds.{wordOf}
 use Rattle.kinds.specs.declared.Word.the-variants as W
 use Rattle.kinds.specs.declared.WordList.the-variants as L
-use Rattle.names.specs.Names.{networkOf}
 use Rattle.rules.specs.Tables.{keysOf}
-use Rattle.rules.specs.Asking.{iwdEntry, readAs, askedOf, entryLine}
+use Rattle.rules.specs.Asking.{readAs, askedOf, entryLine}
 use Rattle.rules.specs.Sections.{Entry, entryOf}
 use Rattle.rules.specs.WordNumbers.{isWord}
 use Rattle.tables.specs.KeyPlaces.{keyNames}
-use Rattle.rules.specs.Reading.{sectionsOf}
 use Rattle.rules.specs.declared.Group.the-variants as G
 use Rattle.rules.specs.declared.Refusal.{Refusal}
 use Rattle.rules.specs.declared.Refusal.the-variants.{NoPlace}
@@ -39,9 +37,9 @@ use Rattle.settings.proofs.ServiceFile.{found-row}
 use Rattle.settings.proofs.Rowwise.{addresses-none, row-read, row-line, row-word}
 use Rattle.records.specs.Record.{laid, laidServers}
 use Rattle.records.specs.declared.JoinRecord.{JoinRecord}
-use Rattle.joins.specs.Joins.{iwdJoin, networkName, foreign, noRecord, serviceJoin, zeroRecord, iwdRecord, iwdRecordServers, serviceRecord, serviceRecordServers}
+use Rattle.joins.specs.Joins.{foreign, noRecord, serviceJoin, zeroRecord, iwdRecord, iwdRecordServers, serviceRecord, serviceRecordServers}
 use Rattle.joins.specs.Answers.{hindranceOf, hindrance}
-use Rattle.joins.specs.Places.{IwdFileRows, slotsForeign, slotsHindrance, RowAnswered}
+use Rattle.joins.specs.Places.{IwdFileRows, iwdFileJoin, foreignAt, hindranceAt, RowAnswered}
 use Rattle.joins.specs.declared.Hindrance.{Hindrance}
 use Rattle.joins.specs.declared.Hindrance.the-variants as H
 use Rattle.joins.specs.declared.RecordAnswer.{RecordAnswer}
@@ -53,12 +51,12 @@ iwd-rows f = record { table = record { long = f .kept .long; row = omega arith }
 
 -- ---- an iwd file
 
-pub iwd-servers : {file x : List ℕ} {s : List (List ℕ)} (n : List ℕ) → IwdFileRows file x → s ≡ rows (addresses Spaces (bytesOf file x (base G.Ipv4 0) N.Dns)) → s ≡ laidServers (iwdJoin n (iwdEntry (sectionsOf Iwd file)))
+pub iwd-servers : {file x : List ℕ} {s : List (List ℕ)} (name : List ℕ) → IwdFileRows file x → s ≡ rows (addresses Spaces (bytesOf file x (base G.Ipv4 0) N.Dns)) → s ≡ laidServers (iwdFileJoin name file)
 unfolding keysOf
-iwd-servers n h e = e ∙ ap rows (row-read N.Dns (h .rows .ipv4) (addresses Spaces) (addresses-none Spaces))
+iwd-servers name h e = e ∙ ap rows (row-read N.Dns (h .rows .ipv4) (addresses Spaces) (addresses-none Spaces))
 
 module _ {name file y : List ℕ} {q : Reading} (h : ReadsFile Iwd name file y q) (old : List (List ℕ)) where
-  pub iwd-accepted : {n m : ℕ} → q ≡ R.Accepted n m → {r : RecordAnswer} {new : List (List ℕ)} → (r ≡ record { answer = Good; «record» = laid (iwdJoin (networkName (networkOf name)) (iwdEntry (sectionsOf Iwd file))) }) × (new ≡ laidServers (iwdJoin (networkName (networkOf name)) (iwdEntry (sectionsOf Iwd file)))) → (r ≡ iwdRecord name file) × (new ≡ iwdRecordServers name file old)
+  pub iwd-accepted : {n m : ℕ} → q ≡ R.Accepted n m → {r : RecordAnswer} {new : List (List ℕ)} → (r ≡ record { answer = Good; «record» = laid (iwdFileJoin name file) }) × (new ≡ laidServers (iwdFileJoin name file)) → (r ≡ iwdRecord name file) × (new ≡ iwdRecordServers name file old)
   unfolding iwdRecord iwdRecordServers
   iwd-accepted e p = rw (sym (h .is) ∙ e) p
 
@@ -82,11 +80,11 @@ hindrance-back none = refl
 hindrance-back (some l) = refl
 
 -- Security, by the words that the row keeps
-pub row-foreign : {file x : List ℕ} {b : ℕ} {es : List Entry} → RowKeeps ConnMan file x b G.Service es → slotsForeign x b ≡ foreign (λ k. entryOf k es)
+pub row-foreign : {file x : List ℕ} {b : ℕ} {es : List Entry} → RowKeeps ConnMan file x b G.Service es → foreignAt x b ≡ foreign (λ k. entryOf k es)
 unfolding keysOf
 row-foreign h = ap₂ (λ (a b : Bool). a || b) (row-word N.Security h L.Security refl W.Wep) (row-word N.Security h L.Security refl W.Ieee8021x)
 
-module _ {file x : List ℕ} {b : ℕ} {h : Hindrance} (e : h ≡ slotsHindrance x b) where
+module _ {file x : List ℕ} {b : ℕ} {h : Hindrance} (e : h ≡ hindranceAt x b) where
   no-record : {g : Hindrance} → h ≡ g → (es : List Entry) → RowKeeps ConnMan file x b G.Service es → noRecord (λ k. entryOf k es) ≡ hindranceIn g
   unfolding keysOf
   no-record q es w =

@@ -28,7 +28,7 @@ use Rattle.rules.specs.Asking.{iwdEntry, readAs}
 use Rattle.rules.specs.Reading.{sectionsOf}
 use Rattle.rules.specs.declared.Group.the-variants as G
 use Rattle.reader.specs.History.{base}
-use Rattle.reader.specs.Closing.{keySlot, bytesOf}
+use Rattle.reader.specs.Closing.{bytesOf}
 use Rattle.reader.specs.declared.KeyName.the-variants as N
 use Rattle.settings.specs.Codes.{choiceBy}
 use Rattle.settings.specs.Rows.{RowOf, RowGives, IwdRows}
@@ -38,9 +38,9 @@ use Rattle.records.specs.Record.{laid}
 use Rattle.records.specs.declared.Ipv6.{Ipv6}
 use Rattle.records.specs.declared.Ipv6.the-variants as Ipv6
 use Rattle.records.specs.declared.JoinRecord.{JoinRecord}
-use Rattle.joins.specs.Joins.{secretFrom, staticOrDhcp, ipv4OrDhcp, orFalse, enabledIpv6, nameFrom, iwdJoin, serviceJoin, networkName}
-use Rattle.joins.specs.Answers.{loginAnswer, numbersAnswer, domainAnswer, nameOf, choiceIn}
-use Rattle.joins.specs.Places.{IwdFileRows, slotIpv6, assembled}
+use Rattle.joins.specs.Joins.{secretFrom, staticOrDhcp, ipv4OrDhcp, orFalse, enabledIpv6, nameFrom, serviceJoin, networkName}
+use Rattle.joins.specs.Answers.{loginAnswer, numbersAnswer, domainAnswer, nameRead}
+use Rattle.joins.specs.Places.{IwdFileRows, iwdFileJoin, iwdLoginAt, serviceLoginAt, serviceNameAt, iwdNumbersAt, domainAt, serverCountAt, yesAt, serviceIpv6At, assembled}
 use Rattle.joins.specs.declared.Login.{Login}
 use Rattle.joins.specs.declared.Domain.{Domain}
 use Rattle.joins.proofs.Choosing.{row-choice}
@@ -83,7 +83,7 @@ network-padded none = refl
 network-padded (some x) = refl
 
 module _ (name : List ℕ) {file x : List ℕ} (h : IwdFileRows file x) where
-  pub iwd-joined : {n : IwdName} {login : Login} {hidden : Bool} {numbers : Ipv4} {count : ℕ} {domain : Domain} {i : Ipv6} {r : JoinRecord} → n ≡ iwdNameAnswer (networkOf name) → login ≡ loginAnswer (secretFrom (passphrase Iwd (bytesOf file x (base G.Security 0) N.IwdPassphrase)) (preSharedKey (bytesOf file x (base G.Security 0) N.PreSharedKey))) → hidden ≡ orFalse (choiceIn (choiceBy (keySlot x (base G.Settings 0) N.IwdHidden .code))) → numbers ≡ numbersAnswer (staticOrDhcp (address (bytesOf file x (base G.Ipv4 0) N.Address)) (netmask (bytesOf file x (base G.Ipv4 0) N.Netmask)) (address (bytesOf file x (base G.Ipv4 0) N.Gateway))) → count ≡ length (orEmpty (addresses Spaces (bytesOf file x (base G.Ipv4 0) N.Dns))) → domain ≡ domainAnswer (string Iwd 1 253 (bytesOf file x (base G.Ipv4 0) N.DomainName)) → i ≡ enabledIpv6 (choiceIn (choiceBy (keySlot x (base G.Ipv6 0) N.Enabled .code))) → r ≡ assembled (n .length) (n .bytes) login hidden numbers count domain i → r ≡ laid (iwdJoin (networkName (networkOf name)) (iwdEntry (sectionsOf Iwd file)))
+  pub iwd-joined : {n : IwdName} {login : Login} {hidden : Bool} {numbers : Ipv4} {count : ℕ} {domain : Domain} {i : Ipv6} {r : JoinRecord} → n ≡ iwdNameAnswer (networkOf name) → login ≡ iwdLoginAt file x (base G.Security 0) → hidden ≡ orFalse (yesAt x (base G.Settings 0) N.IwdHidden) → numbers ≡ iwdNumbersAt file x (base G.Ipv4 0) → count ≡ serverCountAt Spaces file x (base G.Ipv4 0) N.Dns → domain ≡ domainAt Iwd file x (base G.Ipv4 0) N.DomainName → i ≡ enabledIpv6 (yesAt x (base G.Ipv6 0) N.Enabled) → r ≡ assembled (n .length) (n .bytes) login hidden numbers count domain i → r ≡ laid (iwdFileJoin name file)
   unfolding keysOf
   iwd-joined p q s t u v w e =
       e
@@ -100,12 +100,12 @@ module _ (name : List ℕ) {file x : List ℕ} (h : IwdFileRows file x) where
 
 -- ---- a service
 
-name-long : (o q : Option (List ℕ)) → nameOf (ssidAnswer o) (ssidAnswer q) .length ≡ length (nameFrom o q)
+name-long : (o q : Option (List ℕ)) → nameRead (ssidAnswer o) (ssidAnswer q) .length ≡ length (nameFrom o q)
 name-long (some s) q = refl
 name-long none (some n) = refl
 name-long none none = refl
 
-name-padded : (o q : Option (List ℕ)) → nameOf (ssidAnswer o) (ssidAnswer q) .bytes ≡ padded 32 (nameFrom o q)
+name-padded : (o q : Option (List ℕ)) → nameRead (ssidAnswer o) (ssidAnswer q) .bytes ≡ padded 32 (nameFrom o q)
 name-padded (some s) q = refl
 name-padded none (some n) = refl
 name-padded none none = refl
@@ -118,12 +118,12 @@ numbers-laid n b l y s d i (some (static a m none)) = refl
 numbers-laid n b l y s d i (some (static a m (some g))) = refl
 
 module _ {file x : List ℕ} {b : ℕ} where
-  pub service-joined : {n : Ssid} {login : Login} {hidden : Bool} {numbers : Ipv4} {count : ℕ} {domain : Domain} {i : Ipv6} {r : JoinRecord} → n ≡ nameOf (ssidAnswer (ssid (bytesOf file x b N.Ssid))) (ssidAnswer (string ConnMan 1 32 (bytesOf file x b N.Name))) → login ≡ loginAnswer (secretFrom (passphrase ConnMan (bytesOf file x b N.Passphrase)) none) → hidden ≡ orFalse (choiceIn (choiceBy (keySlot x b N.Hidden .code))) → numbers ≡ ipv4Answer (ipv4 (bytesOf file x b N.Ipv4)) → count ≡ length (orEmpty (addresses Comma (bytesOf file x b N.Nameservers))) → domain ≡ domainAnswer (string ConnMan 1 253 (bytesOf file x b N.Domain)) → i ≡ slotIpv6 x b → r ≡ assembled (n .length) (n .bytes) login hidden numbers count domain i → RowGives ConnMan file x b G.Service (λ at. laid (serviceJoin at)) r
+  pub service-joined : {n : Ssid} {login : Login} {hidden : Bool} {numbers : Ipv4} {count : ℕ} {domain : Domain} {i : Ipv6} {r : JoinRecord} → n ≡ serviceNameAt file x b → login ≡ serviceLoginAt file x b → hidden ≡ orFalse (yesAt x b N.Hidden) → numbers ≡ ipv4Answer (ipv4 (bytesOf file x b N.Ipv4)) → count ≡ serverCountAt Comma file x b N.Nameservers → domain ≡ domainAt ConnMan file x b N.Domain → i ≡ serviceIpv6At x b → r ≡ assembled (n .length) (n .bytes) login hidden numbers count domain i → RowGives ConnMan file x b G.Service (λ at. laid (serviceJoin at)) r
   unfolding keysOf
   service-joined {n} {login} {hidden} {numbers} {count} {domain} {i} p q s t u v w e =
       record {
         is = λ es h.
-            let named : n ≡ nameOf (ssidAnswer (readAs ssid (entryOf (word "SSID") es))) (ssidAnswer (readAs (string ConnMan 1 32) (entryOf (word "Name") es))) = p ∙ ap₂ (λ (a b : Option (List ℕ)). nameOf (ssidAnswer a) (ssidAnswer b)) (row-read N.Ssid h ssid ssid-none) (row-read N.Name h (string ConnMan 1 32) (string-none ConnMan 32)) in
+            let named : n ≡ nameRead (ssidAnswer (readAs ssid (entryOf (word "SSID") es))) (ssidAnswer (readAs (string ConnMan 1 32) (entryOf (word "Name") es))) = p ∙ ap₂ (λ (a b : Option (List ℕ)). nameRead (ssidAnswer a) (ssidAnswer b)) (row-read N.Ssid h ssid ssid-none) (row-read N.Name h (string ConnMan 1 32) (string-none ConnMan 32)) in
             e
             ∙ ap (λ (m : Ipv4). assembled (n .length) (n .bytes) login hidden m count domain i) (t ∙ ap ipv4Answer (row-read N.Ipv4 h ipv4 ipv4-none))
             ∙ numbers-laid (n .length) (n .bytes) login hidden count domain i (readAs ipv4 (entryOf (word "IPv4") es))

@@ -17,13 +17,13 @@ use Rattle.rules.specs.Asking.{readAs}
 use Rattle.rules.specs.WordNumbers.{isWord, wordNumber}
 use Rattle.reader.specs.Keys.{keyGroup, keyWord as nameOf, keyKind}
 use Rattle.reader.specs.Holds.{RowKeeps}
-use Rattle.reader.specs.Closing.{keySlot}
 use Rattle.reader.specs.declared.KeyName.{KeyName}
 use Rattle.settings.specs.Values.{choice, lengthOr0}
 use Rattle.settings.specs.Codes.{choiceBy}
 use Rattle.settings.proofs.Rowwise.{row-flag}
 use Rattle.joins.specs.Joins.{secretFrom, lengthOr24, staticOrDhcp}
-use Rattle.joins.specs.Answers.{phraseAnswer, loginAnswer, loginOf, or24, numbersAnswer, numbersOf, choiceIn}
+use Rattle.joins.specs.Answers.{phraseAnswer, loginAnswer, or24, numbersAnswer, choiceIn, loginRead, numbersRead}
+use Rattle.joins.specs.Places.{yesAt}
 use Rattle.kinds.specs.declared.PreSharedKey.{PreSharedKey}
 use Rattle.addresses.specs.MaskRuleLaws.{netmask-good}
 use Rattle.joins.specs.declared.Phrase.{Phrase}
@@ -31,13 +31,13 @@ use Rattle.joins.specs.declared.Login.{Login}
 
 -- ---- the credential
 
-login-chosen : (o q : Option (List ℕ)) → loginOf (phraseAnswer o) (preSharedKeyAnswer q) ≡ loginAnswer (secretFrom o q)
+login-chosen : (o q : Option (List ℕ)) → loginRead (phraseAnswer o) (preSharedKeyAnswer q) ≡ loginAnswer (secretFrom o q)
 login-chosen (some p) q = refl
 login-chosen none (some k) = refl
 login-chosen none none = refl
 
-pub login-is : (o q : Option (List ℕ)) {p : Phrase} {k : PreSharedKey} {r : Login} → p ≡ phraseAnswer o → k ≡ preSharedKeyAnswer q → r ≡ loginOf p k → r ≡ loginAnswer (secretFrom o q)
-login-is o q e f g = g ∙ ap₂ loginOf e f ∙ login-chosen o q
+pub login-is : (o q : Option (List ℕ)) {p : Phrase} {k : PreSharedKey} {r : Login} → p ≡ phraseAnswer o → k ≡ preSharedKeyAnswer q → r ≡ loginRead p k → r ≡ loginAnswer (secretFrom o q)
+login-is o q e f g = g ∙ ap₂ loginRead e f ∙ login-chosen o q
 
 -- ---- the numbers; a mask's length is not 0, so 0 can stand for none
 
@@ -50,12 +50,12 @@ pub or24-some : (n : ℕ) → (n ≡ 0 → ⊥) → n ≡ or24 n
 or24-some zero h = absurd (h refl)
 or24-some (suc n) h = refl
 
-numbers-chosen : (a : Option (List ℕ)) (m : Option ℕ) (g : Option (List ℕ)) → ((n : ℕ) → m ≡ some n → 1 ≤ n) → numbersOf (addressAnswer a) (lengthOr0 m) (addressAnswer g) ≡ numbersAnswer (staticOrDhcp a m g)
+numbers-chosen : (a : Option (List ℕ)) (m : Option ℕ) (g : Option (List ℕ)) → ((n : ℕ) → m ≡ some n → 1 ≤ n) → numbersRead (addressAnswer a) (lengthOr0 m) (addressAnswer g) ≡ numbersAnswer (staticOrDhcp a m g)
 numbers-chosen none m g h = refl
 numbers-chosen (some a) m none h = rw (or24-is m h)
 numbers-chosen (some a) m (some g) h = rw (or24-is m h)
 
-pub numbers-is : (s t u : List ℕ) {a g : Address} {n : ℕ} {r : Ipv4} → a ≡ addressAnswer (address s) → g ≡ addressAnswer (address u) → n ≡ lengthOr0 (netmask t) → r ≡ numbersOf a n g → r ≡ numbersAnswer (staticOrDhcp (address s) (netmask t) (address u))
+pub numbers-is : (s t u : List ℕ) {a g : Address} {n : ℕ} {r : Ipv4} → a ≡ addressAnswer (address s) → g ≡ addressAnswer (address u) → n ≡ lengthOr0 (netmask t) → r ≡ numbersRead a n g → r ≡ numbersAnswer (staticOrDhcp (address s) (netmask t) (address u))
 numbers-is s t u p q e f = f ∙ rw (p, q, e) (numbers-chosen (address s) (netmask t) (address u) (λ n h. netmask-good t h .0))
 
 -- ---- a yes/no
@@ -66,5 +66,5 @@ choice-back (some true) = refl
 choice-back (some false) = refl
 
 -- the yes/no that a row keeps
-pub row-choice : {d : Dialect} {file x : List ℕ} {b : ℕ} (k : KeyName) {es : List Entry} → RowKeeps d file x b (keyGroup k) es → keyKind k ≡ Flag → choiceIn (choiceBy (keySlot x b k .code)) ≡ readAs (flag d) (entryOf (nameOf k) es)
+pub row-choice : {d : Dialect} {file x : List ℕ} {b : ℕ} (k : KeyName) {es : List Entry} → RowKeeps d file x b (keyGroup k) es → keyKind k ≡ Flag → yesAt x b k ≡ readAs (flag d) (entryOf (nameOf k) es)
 row-choice k h e = ap choiceIn (row-flag k h e) ∙ choice-back _

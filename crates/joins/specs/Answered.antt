@@ -43,7 +43,7 @@ use Rattle.rules.specs.GivenValues.{read-holds, entry-given}
 use Rattle.rules.specs.declared.Reading.the-variants.{Accepted}
 use Rattle.records.specs.Record.{Join}
 use Rattle.records.specs.Formed.{GoodPassphrase, GoodKey, GoodSecret, GoodIpv4, GoodServers, GoodDomain, WellFormed}
-use Rattle.joins.specs.Joins.{joined, secretFrom, staticOrDhcp, ipv4OrDhcp, nameFrom, iwdJoin, serviceJoin, wired, foreign, noRecord, networkName, iwdJoined, settingOf, serviceJoined}
+use Rattle.joins.specs.Joins.{joined, secretFrom, staticOrDhcp, ipv4OrDhcp, nameFrom, iwdJoin, serviceJoin, wired, foreign, noRecord, networkName, iwdJoined, serviceSetting, serviceJoined}
 use Rattle.joins.specs.Joining.{or-false, joined-good, service-joining}
 
 -- ---- what is read from a setting
@@ -235,24 +235,24 @@ service-ipv4-formed at =
 
 -- of service w of an accepted file
 module _ (name file : List ℕ) (w : ℕ) {n m : ℕ} (a : reading D.ConnMan name file ≡ Accepted n m) where
-  service-secret-formed : GoodSecret (serviceJoin (settingOf w file) .credential)
+  service-secret-formed : GoodSecret (serviceJoin (serviceSetting w file) .credential)
   unfolding keysOf
   service-secret-formed =
-      secret-formed (readAs (K.passphrase D.ConnMan) (settingOf w file (word "Passphrase"))) none
-      (read-holds GoodPassphrase (K.passphrase D.ConnMan) (settingOf w file (word "Passphrase")) (λ e q x r. good-passphrase D.ConnMan (e .value) (service-value D.ConnMan name file a w (word "Passphrase") refl q .text) r))
+      secret-formed (readAs (K.passphrase D.ConnMan) (serviceSetting w file (word "Passphrase"))) none
+      (read-holds GoodPassphrase (K.passphrase D.ConnMan) (serviceSetting w file (word "Passphrase")) (λ e q x r. good-passphrase D.ConnMan (e .value) (service-value D.ConnMan name file a w (word "Passphrase") refl q .text) r))
       tt
 
-  service-domain-formed : GoodDomain (serviceJoin (settingOf w file) .domain)
+  service-domain-formed : GoodDomain (serviceJoin (serviceSetting w file) .domain)
   unfolding keysOf
   service-domain-formed =
-      domain-formed (readAs (string D.ConnMan 1 253) (settingOf w file (word "Domain")))
-      (read-holds GoodDomain (string D.ConnMan 1 253) (settingOf w file (word "Domain")) (λ e q x r. good-domain D.ConnMan (e .value) (service-value D.ConnMan name file a w (word "Domain") refl q .text) r))
+      domain-formed (readAs (string D.ConnMan 1 253) (serviceSetting w file (word "Domain")))
+      (read-holds GoodDomain (string D.ConnMan 1 253) (serviceSetting w file (word "Domain")) (λ e q x r. good-domain D.ConnMan (e .value) (service-value D.ConnMan name file a w (word "Domain") refl q .text) r))
 
-  service-name-formed : lacks (serviceAt w (sectionsOf D.ConnMan file)) ≡ false → wired (settingOf w file) ≡ false →
-      NetworkName (serviceJoin (settingOf w file) .name)
+  service-name-formed : lacks (serviceAt w (sectionsOf D.ConnMan file)) ≡ false → wired (serviceSetting w file) ≡ false →
+      NetworkName (serviceJoin (serviceSetting w file) .name)
   unfolding keysOf
   service-name-formed l r =
-      name-formed (settingOf w file (word "SSID")) (settingOf w file (word "Name"))
+      name-formed (serviceSetting w file (word "SSID")) (serviceSetting w file (word "Name"))
       (λ e q. service-value D.ConnMan name file a w (word "SSID") refl q)
       (λ e q. service-value D.ConnMan name file a w (word "Name") refl q)
       (λ s t. has-name (serviceAt w (sectionsOf D.ConnMan file)) l (λ e q. reads-type (e .value) (service-value D.ConnMan name file a w (word "Type") refl q)) r s t)
@@ -275,10 +275,10 @@ service-formed name file w a =
     let h = service-joining name file w a in
     subst WellFormed (h .is) (
     record {
-      name = service-name-formed name file w (h .accepted) (h .obeys .lacking) (record-unwired (settingOf w file) (h .record-given));
+      name = service-name-formed name file w (h .accepted) (h .obeys .lacking) (record-unwired (serviceSetting w file) (h .record-given));
       credential = service-secret-formed name file w (h .accepted);
-      ipv4 = service-ipv4-formed (settingOf w file (word "IPv4"));
-      servers = good-servers Comma (settingOf w file (word "Nameservers"));
+      ipv4 = service-ipv4-formed (serviceSetting w file (word "IPv4"));
+      servers = good-servers Comma (serviceSetting w file (word "Nameservers"));
       domain = service-domain-formed name file w (h .accepted);
     }
     )

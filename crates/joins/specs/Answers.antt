@@ -33,8 +33,8 @@ abbrev pub loginAnswer : Secret → Login
 loginAnswer s = record { credential = credentialOf s; length = length (passphraseOf s); passphrase = padded 63 (passphraseOf s); key = keyOf s }
 
 -- the same by what was read of a passphrase and a key
-abbrev pub loginOf : Phrase → PreSharedKey → Login
-loginOf p k =
+abbrev pub loginRead : Phrase → PreSharedKey → Login
+loginRead p k =
     cond (p .ok) (record { credential = C.Passphrase; length = p .length; passphrase = p .bytes; key = replicate 32 0 })
     (cond (k .ok) (record { credential = C.Key; length = 0; passphrase = replicate 63 0; key = k .bytes })
     (record { credential = C.None; length = 0; passphrase = replicate 63 0; key = replicate 32 0 }))
@@ -48,8 +48,8 @@ abbrev pub or24 : ℕ → ℕ
 or24 zero = 24
 or24 (suc n) = suc n
 
-abbrev pub numbersOf : Address → ℕ → Address → Ipv4
-numbersOf a n g =
+abbrev pub numbersRead : Address → ℕ → Address → Ipv4
+numbersRead a n g =
     cond (a .ok) (record { ok = true; method = Static; address = a .bytes; length = or24 n; «has_gateway» = g .ok; gateway = g .bytes })
     (record { ok = true; method = Dhcp; address = noAddress; length = 0; «has_gateway» = false; gateway = noAddress })
 
@@ -60,8 +60,8 @@ choiceIn Choice.No = some false
 choiceIn Choice.Yes = some true
 
 -- a name by what was read of an SSID and a Name
-abbrev pub nameOf : Ssid → Ssid → Ssid
-nameOf s n = cond (s .ok) s n
+abbrev pub nameRead : Ssid → Ssid → Ssid
+nameRead s n = cond (s .ok) s n
 
 -- the line for which a service has no record
 abbrev pub hindranceOf : Option ℕ → Hindrance

@@ -45,8 +45,8 @@ worked =
     }
 
 -- an open network whose addresses are given
-abbrev numbered : IPv4 → Join
-numbered i = record { name = word "Desk"; credential = noSecret; hidden = false; ipv4 = i; servers = []; domain = []; ipv6 = Ipv6.Auto }
+abbrev withNumbers : IPv4 → Join
+withNumbers i = record { name = word "Desk"; credential = noSecret; hidden = false; ipv4 = i; servers = []; domain = []; ipv6 = Ipv6.Auto }
 
 -- ---- iwd
 
@@ -59,8 +59,8 @@ iwdCases =
     ("Desk 4.psk", "[Settings]\nHidden=true\n[Security]\nPassphrase=low\\\\tide 88\n[IPv4]\nAddress=10.20.0.14\nNetmask=255.255.255.0\nGateway=10.20.0.1\nDNS=10.20.0.2 10.20.0.3\n[IPv6]\nEnabled=false\n", joined worked)
     ∷ ("Desk.open", "", joined (plainJoin "Desk" noSecret))
     ∷ ("Desk.psk", "", refused Missing 0)
-    ∷ ("Desk.open", "[IPv4]\nAddress=10.0.0.2\nNetmask=255.255.254.0\nGateway=10.0.0.1", joined (numbered (static (10 ∷ 0 ∷ 0 ∷ 2 ∷ []) 23 (some (10 ∷ 0 ∷ 0 ∷ 1 ∷ [])))))
-    ∷ ("Desk.open", "[IPv4]\nAddress=10.0.0.2\nGateway=10.0.0.1", joined (numbered (static (10 ∷ 0 ∷ 0 ∷ 2 ∷ []) 24 (some (10 ∷ 0 ∷ 0 ∷ 1 ∷ [])))))
+    ∷ ("Desk.open", "[IPv4]\nAddress=10.0.0.2\nNetmask=255.255.254.0\nGateway=10.0.0.1", joined (withNumbers (static (10 ∷ 0 ∷ 0 ∷ 2 ∷ []) 23 (some (10 ∷ 0 ∷ 0 ∷ 1 ∷ [])))))
+    ∷ ("Desk.open", "[IPv4]\nAddress=10.0.0.2\nGateway=10.0.0.1", joined (withNumbers (static (10 ∷ 0 ∷ 0 ∷ 2 ∷ []) 24 (some (10 ∷ 0 ∷ 0 ∷ 1 ∷ [])))))
     ∷ ("Desk.psk", "[Security]\nPreSharedKey=0101010101010101010101010101010101010101010101010101010101010101", joined (plainJoin "Desk" (R.key (replicate 32 1))))
     ∷ ("Desk.psk", "[Security]\nPreSharedKey=0101010101010101010101010101010101010101010101010101010101010101\nPassphrase=1234567 ", joined (plainJoin "Desk" (passphrase (word "1234567 "))))
     ∷ ("Desk.open", "[IPv4]\nDomainName=\\sab\n[IPv6]\nEnabled=1\n[Settings]\nHidden=0", joined (record { name = word "Desk"; credential = noSecret; hidden = false; ipv4 = dhcp; servers = []; domain = word " ab"; ipv6 = Ipv6.Auto }))
@@ -87,7 +87,7 @@ serviceCases =
     (1, "[service_till]\nType = wifi\nName = Desk 4\nPassphrase = low\\tide 88\nIPv4 = 10.20.0.14/24/10.20.0.1\nNameservers = 10.20.0.2,10.20.0.3\nHidden = true\nIPv6 = off\n", joined worked)
     ∷ (1, "[service_a]\nType=wifi\nName=Till\nSSID=4465736b\nPassphrase=12345678", joined (plainJoin "Desk" (passphrase (word "12345678"))))
     ∷ (2, "[service_a]\nType=ethernet\n[global]\nName=x\n[service_b]\nType=wifi\nName=Desk", joined (plainJoin "Desk" noSecret))
-    ∷ (1, "[service_a]\nType=wifi\nName=Desk\nIPv4=10.0.0.2/24", joined (numbered (static (10 ∷ 0 ∷ 0 ∷ 2 ∷ []) 24 none)))
+    ∷ (1, "[service_a]\nType=wifi\nName=Desk\nIPv4=10.0.0.2/24", joined (withNumbers (static (10 ∷ 0 ∷ 0 ∷ 2 ∷ []) 24 none)))
     ∷ (1, "[service_a]\nType=ethernet\n[service_b]\nType=wifi\nName=Desk", refused NoPlace 2)
     ∷ (1, "[service_a]\nType=wifi\nName=Desk\nSecurity=wep\nPassphrase=12345678", refused NoPlace 4)
     ∷ (1, "[service_a]\nType=wifi\nSecurity=ieee8021x\nName=Desk", refused NoPlace 3)

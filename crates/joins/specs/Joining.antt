@@ -22,7 +22,7 @@ use Rattle.rules.specs.declared.Reading.the-variants.{Accepted}
 use Rattle.rules.specs.declared.Refusal.{Refusal}
 use Rattle.rules.specs.declared.Refusal.the-variants.{Missing, Contradiction}
 use Rattle.records.specs.Record.{Join}
-use Rattle.joins.specs.Joins.{joined, serviceJoin, noRecord, orNoPlace, orRefused, settingOf, serviceJoined}
+use Rattle.joins.specs.Joins.{joined, serviceJoin, noRecord, orNoPlace, joinedIfGood, serviceSetting, serviceJoined}
 
 -- ---- the statement
 
@@ -37,8 +37,8 @@ pub record Joining (name file : List ℕ) (w : ℕ) (j : Join) : Type 0 where
   pub services : ℕ
   pub accepted : reading D.ConnMan name file ≡ Accepted settings services
   pub obeys : ServiceObeys (serviceAt w (sectionsOf D.ConnMan file))
-  pub record-given : noRecord (settingOf w file) ≡ none
-  pub is : serviceJoin (settingOf w file) ≡ j
+  pub record-given : noRecord (serviceSetting w file) ≡ none
+  pub is : serviceJoin (serviceSetting w file) ≡ j
 
 -- ---- the rules over a group, of each service of an accepted file
 
@@ -101,7 +101,7 @@ accepted-services name file a =
 
 -- ---- the service whose record is answered
 
-pub joined-good : (a : Answer) (o : Option ℕ) (i : Join) {j : Join} → orRefused a (orNoPlace o i) ≡ joined j →
+pub joined-good : (a : Answer) (o : Option ℕ) (i : Join) {j : Join} → joinedIfGood a (orNoPlace o i) ≡ joined j →
     (a ≡ A.Good) × (i ≡ j) × (o ≡ none)
 joined-good A.Good none i {j} e = (refl, cc, refl)
 joined-good A.Good (some l) i e = let z : _≡_ {A = ℕ} 0 1 = cc in absurd (omega arith)
@@ -110,7 +110,7 @@ joined-good (A.Refused r l) o i e = let z : _≡_ {A = ℕ} 0 1 = cc in absurd (
 pub service-joining : (name file : List ℕ) (w : ℕ) {j : Join} → serviceJoined name file w ≡ joined j →
     Joining name file w j
 service-joining name file w a =
-    let h = joined-good (askedOf w (reading D.ConnMan name file)) (noRecord (settingOf w file)) (serviceJoin (settingOf w file)) a in
+    let h = joined-good (askedOf w (reading D.ConnMan name file)) (noRecord (serviceSetting w file)) (serviceJoin (serviceSetting w file)) a in
     let s = asked-service w (reading D.ConnMan name file) (h .0) in
     record {
       settings = s .settings;

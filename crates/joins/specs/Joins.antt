@@ -158,9 +158,9 @@ abbrev pub networkName : Option Network → List ℕ
 networkName none = []
 networkName (some x) = x .name
 
-abbrev pub orRefused : Answer → Joined → Joined
-orRefused Good j = j
-orRefused (Refused r l) j = refused r l
+abbrev pub joinedIfGood : Answer → Joined → Joined
+joinedIfGood Good j = j
+joinedIfGood (Refused r l) j = refused r l
 
 abbrev pub orNoPlace : Option ℕ → Join → Joined
 orNoPlace none j = joined j
@@ -169,15 +169,15 @@ orNoPlace (some l) j = refused NoPlace l
 -- of an iwd file under its name
 abbrev pub iwdJoined : List ℕ → List ℕ → Joined
 iwdJoined name file =
-    orRefused (asked (reading D.Iwd name file)) (joined (iwdJoin (networkName (networkOf name)) (iwdEntry (sectionsOf D.Iwd file))))
+    joinedIfGood (asked (reading D.Iwd name file)) (joined (iwdJoin (networkName (networkOf name)) (iwdEntry (sectionsOf D.Iwd file))))
 
 -- of service w of a ConnMan file: 16 "asked after 18"
-abbrev pub settingOf : ℕ → List ℕ → List ℕ → Option Entry
-settingOf w file k = entryOf k (serviceAt w (sectionsOf D.ConnMan file))
+abbrev pub serviceSetting : ℕ → List ℕ → List ℕ → Option Entry
+serviceSetting w file k = entryOf k (serviceAt w (sectionsOf D.ConnMan file))
 
 abbrev pub serviceJoined : List ℕ → List ℕ → ℕ → Joined
 serviceJoined name file w =
-    orRefused (askedOf w (reading D.ConnMan name file)) (orNoPlace (noRecord (settingOf w file)) (serviceJoin (settingOf w file)))
+    joinedIfGood (askedOf w (reading D.ConnMan name file)) (orNoPlace (noRecord (serviceSetting w file)) (serviceJoin (serviceSetting w file)))
 
 -- ---- the answers as the code gives them
 

@@ -3,24 +3,37 @@ use Prim.Native.Nat.{ℕ}
 use mathlib.Core.Path.{_≡_}
 use mathlib.Core.Bool.{Bool, cond, _||_}
 use mathlib.Core.List.{List}
-use mathlib.Core.Option.{Option}
+use mathlib.Core.Option.{Option, none}
+use lib.ListN.{length}
+use Rattle.text.specs.Options.{plain}
+use Rattle.text.specs.declared.Dialect.{Dialect}
 use Rattle.text.specs.declared.Dialect.the-variants.{Iwd, ConnMan}
+use Rattle.addresses.specs.Addresses.{address, netmask, addresses}
+use Rattle.addresses.specs.declared.Separator.{Separator}
+use Rattle.kinds.specs.Kinds.{key, ssid, string, passphrase}
+use Rattle.kinds.specs.Answers.{ssidAnswer}
 use Rattle.kinds.specs.declared.Ipv4.{Ipv4}
+use Rattle.kinds.specs.declared.Ssid.{Ssid}
 use Rattle.kinds.specs.declared.Word.the-variants as W
 use Rattle.tables.specs.KeyPlaces.{keyNames}
 use Rattle.rules.specs.Sections.{Entry, entryOf, entriesIn}
+use Rattle.rules.specs.Asking.{iwdEntry}
+use Rattle.names.specs.Names.{networkOf}
 use Rattle.rules.specs.Reading.{sectionsOf}
 use Rattle.rules.specs.declared.Group.the-variants as G
 use Rattle.reader.specs.History.{base}
 use Rattle.reader.specs.Holds.{RowKeeps}
-use Rattle.reader.specs.Closing.{RowInTable, keySlot, slotIs}
+use Rattle.reader.specs.Closing.{RowInTable, keySlot, slotIs, bytesOf}
+use Rattle.reader.specs.declared.KeyName.{KeyName}
 use Rattle.reader.specs.declared.KeyName.the-variants as N
 use Rattle.settings.specs.Rows.{FourRows}
+use Rattle.settings.specs.Values.{choiceBy}
+use Rattle.records.specs.Record.{Join}
 use Rattle.records.specs.declared.Ipv6.{Ipv6}
 use Rattle.records.specs.declared.Ipv6.the-variants as Ipv6
 use Rattle.records.specs.declared.JoinRecord.{JoinRecord}
-use Rattle.joins.specs.Joins.{Joined, orNoPlace, noRecord, serviceJoin, recordAnswer, serversAfter}
-use Rattle.joins.specs.Answers.{hindrance}
+use Rattle.joins.specs.Joins.{secretFrom, staticOrDhcp, iwdJoin, networkName, Joined, orNoPlace, noRecord, serviceJoin, recordAnswer, serversAfter}
+use Rattle.joins.specs.Answers.{domainAnswer, loginAnswer, numbersAnswer, nameRead, choiceIn, hindrance}
 use Rattle.joins.specs.declared.Login.{Login}
 use Rattle.joins.specs.declared.Domain.{Domain}
 use Rattle.joins.specs.declared.Hindrance.{Hindrance}
@@ -31,19 +44,51 @@ pub record IwdFileRows (file x : List ℕ) : Type 0 where
   pub table : RowInTable x (base G.Ipv6 0)
   pub rows : FourRows file x (λ n. entriesIn n (sectionsOf Iwd file))
 
--- ---- a service, by the words that the row from b on keeps
+-- ---- the parts of a record, by the row from b on
 
-abbrev pub slotIpv6 : List ℕ → ℕ → Ipv6
-slotIpv6 x b = cond (slotIs x b N.Ipv6 W.Off) Ipv6.Off Ipv6.Auto
+abbrev pub iwdLoginAt : List ℕ → List ℕ → ℕ → Login
+iwdLoginAt file x b =
+    loginAnswer (secretFrom (passphrase Iwd (bytesOf file x b N.IwdPassphrase)) (key (bytesOf file x b N.PreSharedKey)))
 
-abbrev pub slotsForeign : List ℕ → ℕ → Bool
-slotsForeign x b = slotIs x b N.Security W.Wep || slotIs x b N.Security W.Ieee8021x
+abbrev pub serviceLoginAt : List ℕ → List ℕ → ℕ → Login
+serviceLoginAt file x b = loginAnswer (secretFrom (passphrase ConnMan (bytesOf file x b N.Passphrase)) none)
 
-abbrev pub slotsHindrance : List ℕ → ℕ → Hindrance
-slotsHindrance x b =
-    hindrance (slotIs x b N.Type W.Ethernet) (keySlot x b N.Type .line) (slotsForeign x b) (keySlot x b N.Security .line)
+abbrev pub serviceNameAt : List ℕ → List ℕ → ℕ → Ssid
+serviceNameAt file x b =
+    nameRead (ssidAnswer (ssid (bytesOf file x b N.Ssid)))
+    (ssidAnswer (string ConnMan 1 32 (bytesOf file x b N.Name)))
+
+abbrev pub iwdNumbersAt : List ℕ → List ℕ → ℕ → Ipv4
+iwdNumbersAt file x b =
+    numbersAnswer (staticOrDhcp (address (bytesOf file x b N.Address)) (netmask (bytesOf file x b N.Netmask))
+    (address (bytesOf file x b N.Gateway)))
+
+abbrev pub domainAt : Dialect → List ℕ → List ℕ → ℕ → KeyName → Domain
+domainAt d file x b k = domainAnswer (string d 1 253 (bytesOf file x b k))
+
+abbrev pub serverCountAt : Separator → List ℕ → List ℕ → ℕ → KeyName → ℕ
+serverCountAt sep file x b k = length (plain (addresses sep (bytesOf file x b k)))
+
+-- a yes/no by its code
+abbrev pub yesAt : List ℕ → ℕ → KeyName → Option Bool
+yesAt x b k = choiceIn (choiceBy (keySlot x b k .code))
+
+-- the words of a service
+abbrev pub serviceIpv6At : List ℕ → ℕ → Ipv6
+serviceIpv6At x b = cond (slotIs x b N.Ipv6 W.Off) Ipv6.Off Ipv6.Auto
+
+abbrev pub foreignAt : List ℕ → ℕ → Bool
+foreignAt x b = slotIs x b N.Security W.Wep || slotIs x b N.Security W.Ieee8021x
+
+abbrev pub hindranceAt : List ℕ → ℕ → Hindrance
+hindranceAt x b =
+    hindrance (slotIs x b N.Type W.Ethernet) (keySlot x b N.Type .line) (foreignAt x b) (keySlot x b N.Security .line)
 
 -- ---- a record
+
+-- of an iwd file that is accepted
+abbrev pub iwdFileJoin : List ℕ → List ℕ → Join
+iwdFileJoin name file = iwdJoin (networkName (networkOf name)) (iwdEntry (sectionsOf Iwd file))
 
 -- a record from its parts
 abbrev pub assembled : ℕ → List ℕ → Login → Bool → Ipv4 → ℕ → Domain → Ipv6 → JoinRecord

@@ -70,12 +70,12 @@ pub record ServiceRefuses (name file : List ℕ) (w : ℕ) (r : Refusal) (l : �
 -- ---- a good Passphrase line
 
 -- the bytes that a passphrase reads as
-pub record Read (d : Dialect) (v : List ℕ) : Type 0 where
+pub record PassphraseRead (d : Dialect) (v : List ℕ) : Type 0 where
   pub bytes : List ℕ
   pub is : K.passphrase d v ≡ some bytes
 
 -- the credential is that passphrase
-pub record Kept (d : Dialect) (e : Entry) (j : Join) : Type 0 where
-  pub read : Read d (e .value)
+pub record PassphraseKept (d : Dialect) (e : Entry) (j : Join) : Type 0 where
+  pub read : PassphraseRead d (e .value)
   pub is : j .credential ≡ passphrase (read .bytes)
   pub needed : needsKey j ≡ true

@@ -34,9 +34,9 @@ use Rattle.rules.specs.declared.Refusal.{Refusal}
 use Rattle.rules.specs.declared.Refusal.the-variants.{Size, FileName, NoGroup, UnknownKey, RepeatedKey, ValueText, ValueKind}
 use Rattle.settings.specs.Absent.{iwd-absent-zero, service-absent-zero}
 use Rattle.records.specs.Record.{Join, passphrase}
-use Rattle.joins.specs.Joins.{joined, secretFrom, secretGiven, networkName, iwdJoin, iwdJoined, settingOf, serviceJoined, iwdRecord, iwdRecordServers, serviceRecord, serviceRecordServers}
+use Rattle.joins.specs.Joins.{joined, secretFrom, secretGiven, networkName, iwdJoin, iwdJoined, serviceSetting, serviceJoined, iwdRecord, iwdRecordServers, serviceRecord, serviceRecordServers}
 use Rattle.joins.specs.Joining.{joined-good, service-joining}
-use Rattle.joins.specs.Saturday.{NoPassphrase, broken-text, no-string, FaultyPassphrase, RefusedBy, IwdRefuses, ServiceRefuses, Read, Kept}
+use Rattle.joins.specs.Saturday.{NoPassphrase, broken-text, no-string, FaultyPassphrase, RefusedBy, IwdRefuses, ServiceRefuses, PassphraseRead, PassphraseKept}
 
 -- ---- such a value is faulty, wherever the key is listed
 
@@ -132,18 +132,18 @@ refused-service name file e w =
 
 -- ---- a good one
 
-reads-passphrase : (d : Dialect) (v : List ℕ) → GoodValue d Kind.Passphrase v → Read d v
+reads-passphrase : (d : Dialect) (v : List ℕ) → GoodValue d Kind.Passphrase v → PassphraseRead d v
 unfolding typed
 reads-passphrase d v g = go (K.passphrase d v) refl (g .reads)
   where
-    go : (o : Option (List ℕ)) → K.passphrase d v ≡ o → mapped bytes o ≡ some (g .value) → Read d v
+    go : (o : Option (List ℕ)) → K.passphrase d v ≡ o → mapped bytes o ≡ some (g .value) → PassphraseRead d v
     go none q e = absurd (Option·none-ne-some (g .value) e)
     go (some p) q e = record { bytes = p; is = q }
 
 -- a record whose credential is read from the setting, whatever else it may be read from
 kept : (d : Dialect) {o : Option Entry} (k : Option (List ℕ)) {j : Join} →
     j .credential ≡ secretFrom (readAs (K.passphrase d) o) k → {e : Entry} → o ≡ some e →
-    GoodValue d Kind.Passphrase (e .value) → Kept d e j
+    GoodValue d Kind.Passphrase (e .value) → PassphraseKept d e j
 kept d k {j} c {e} q g =
     let p = reads-passphrase d (e .value) g in
     let s : j .credential ≡ passphrase (p .bytes) = c ∙ ap (λ (o : Option Entry). secretFrom (readAs (K.passphrase d) o) k) q ∙ ap (λ (o : Option (List ℕ)). secretFrom o k) (p .is) in
@@ -151,7 +151,7 @@ kept d k {j} c {e} q g =
 
 -- a record that is answered, of an iwd file with a Passphrase line
 pub iwd-passphrase-kept : (name file : List ℕ) {j : Join} → iwdJoined name file ≡ joined j → {e : Entry} →
-    iwdEntry (sectionsOf D.Iwd file) (word "Security") (word "Passphrase") ≡ some e → Kept D.Iwd e j
+    iwdEntry (sectionsOf D.Iwd file) (word "Security") (word "Passphrase") ≡ some e → PassphraseKept D.Iwd e j
 unfolding groupOf keysOf
 iwd-passphrase-kept name file {j} a {e} q =
     let at = iwdEntry (sectionsOf D.Iwd file) in
@@ -161,7 +161,7 @@ iwd-passphrase-kept name file {j} a {e} q =
 
 -- a record that is answered, of a service with a Passphrase line
 pub passphrase-kept : (name file : List ℕ) (w : ℕ) {j : Join} → serviceJoined name file w ≡ joined j → {e : Entry} →
-    settingOf w file (word "Passphrase") ≡ some e → Kept D.ConnMan e j
+    serviceSetting w file (word "Passphrase") ≡ some e → PassphraseKept D.ConnMan e j
 unfolding keysOf
 passphrase-kept name file w {j} a {e} q =
     let h = service-joining name file w a in

@@ -23,7 +23,7 @@ use Rattle.rules.specs.ListedValues.{valueOf}
 use Rattle.rules.specs.GivenValues.{service-given}
 use Rattle.rules.specs.declared.Group.the-variants as G
 use Rattle.records.specs.Record.{Join}
-use Rattle.joins.specs.Joins.{joined, secretFrom, secretGiven, needsKey, settingOf, serviceJoined}
+use Rattle.joins.specs.Joins.{joined, secretFrom, secretGiven, needsKey, serviceSetting, serviceJoined}
 use Rattle.joins.specs.Joining.{ServiceObeys, or-false, service-joining}
 
 -- ---- what the rules over a group say of Security
@@ -60,10 +60,10 @@ module _ (name file : List ℕ) (w : ℕ) {j : Join} (a : serviceJoined name fil
   unfolding keysOf
   key-needed =
       let h = service-joining name file w a in
-      ap needsKey (sym (h .is)) ∙ secret-some (valueOf G.Service (settingOf w file) (word "Passphrase")) ∙ service-given name file (h .accepted) w (word "Passphrase")
+      ap needsKey (sym (h .is)) ∙ secret-some (valueOf G.Service (serviceSetting w file) (word "Passphrase")) ∙ service-given name file (h .accepted) w (word "Passphrase")
 
   -- a Security line with a word
-  module _ {e : Entry} (l : settingOf w file (word "Security") ≡ some e) where
+  module _ {e : Entry} (l : serviceSetting w file (word "Security") ≡ some e) where
     security-is : (s : Word) {v : List ℕ} → e .value ≡ v → isWord s (wordOf L.Security v) ≡ true →
         securityIs s (serviceAt w (sectionsOf D.ConnMan file)) ≡ true
     security-is s q t = rw (l, q) t

@@ -1,17 +1,11 @@
 // A join record from its parts, by the rows of the table of places.
 ghost use mathlib.Core.Path.{_≡_};
-ghost use lib.ListN.{length};
 ghost use Rattle.text.specs.Options.{orEmpty};
-ghost use Rattle.addresses.specs.Addresses.{addresses};
 ghost use Rattle.reader.specs.History.{base};
-ghost use Rattle.reader.specs.Closing.{bytesOf};
-ghost use Rattle.names.specs.Names.{networkOf};
-ghost use Rattle.rules.specs.Asking.{iwdEntry};
-ghost use Rattle.rules.specs.Reading.{sectionsOf};
 ghost use Rattle.settings.specs.Rows.{RowOf, RowGives};
 ghost use Rattle.records.specs.Record.{laid};
-ghost use Rattle.joins.specs.Joins.{iwdJoin, networkName, serviceJoin};
-ghost use Rattle.joins.specs.Places.{IwdFileRows, assembled};
+ghost use Rattle.joins.specs.Joins.{serviceJoin};
+ghost use Rattle.joins.specs.Places.{IwdFileRows, iwdFileJoin, serverCountAt, assembled};
 use crate::Domain;
 use crate::Login;
 use crate::parts;
@@ -68,8 +62,8 @@ fn assemble(
 // The record of an accepted iwd file, which has count name servers.
 pub fn iwd_join(name: &[u8], file: &[u8], x: &[u16; 976], count: usize) -> JoinRecord
     requires rows { ⌜ IwdFileRows (now file) (now x) ⌝ }
-    requires counted { ⌜ count ≡ length (orEmpty (addresses Separator.Spaces (bytesOf (now file) (now x) (base Group.Ipv4 0) KeyName.Dns))) ⌝ }
-    ensures { λ r. ⌜ r ≡ laid (iwdJoin (networkName (networkOf (now (name .entry)))) (iwdEntry (sectionsOf Dialect.Iwd (now (file .entry))))) ⌝ }
+    requires counted { ⌜ count ≡ serverCountAt Separator.Spaces (now file) (now x) (base Group.Ipv4 0) KeyName.Dns ⌝ }
+    ensures { λ r. ⌜ r ≡ laid (iwdFileJoin (now (name .entry)) (now (file .entry))) ⌝ }
 {
     let network = names::read_iwd_name(name);
     let login = parts::iwd_login(file, x, base_of(Group::Security, 0));
@@ -94,7 +88,7 @@ pub fn iwd_join(name: &[u8], file: &[u8], x: &[u16; 976], count: usize) -> JoinR
 // The record of a service that has one, by its row, with count name servers.
 pub fn service_join(file: &[u8], x: &[u16; 976], row: usize, count: usize) -> JoinRecord
     requires kept { ⌜ RowOf Dialect.ConnMan (now file) (now x) row Group.Service ⌝ }
-    requires counted { ⌜ count ≡ length (orEmpty (addresses Separator.Comma (bytesOf (now file) (now x) row KeyName.Nameservers))) ⌝ }
+    requires counted { ⌜ count ≡ serverCountAt Separator.Comma (now file) (now x) row KeyName.Nameservers ⌝ }
     ensures { λ r. ⌜ RowGives Dialect.ConnMan (now (file .entry)) (now (x .entry)) row Group.Service (λ at. laid (serviceJoin at)) r ⌝ }
 {
     let name = parts::service_name(file, x, row);

@@ -1,19 +1,16 @@
 // The join record of an iwd file, and of a ConnMan service by its number: document 01's section "The join record".
 //
 // The definitions are in specs/Joins; that a Passphrase line is never lost and that every record answered is well formed, in
-// specs/Saturday and specs/Answered. `parts` reads one part of a record each, by the slots of the table of places;
+// specs/Saturday and specs/Answered. `parts` reads one part of a record each, by the rows of the table of places;
 // `joining` puts them together.
 pub mod joining;
 pub mod parts;
 
 ghost use mathlib.Core.Path.{_≡_};
-ghost use Rattle.names.specs.Names.{networkOf};
-ghost use Rattle.rules.specs.Asking.{iwdEntry};
-ghost use Rattle.rules.specs.Reading.{sectionsOf};
 ghost use Rattle.settings.specs.Rows.{RowOf};
 ghost use Rattle.records.specs.Record.{laid, laidServers};
-ghost use Rattle.joins.specs.Joins.{iwdJoin, networkName, zeroRecord, iwdRecord, iwdRecordServers, serviceRecord, serviceRecordServers};
-ghost use Rattle.joins.specs.Places.{IwdFileRows, RowAnswered};
+ghost use Rattle.joins.specs.Joins.{zeroRecord, iwdRecord, iwdRecordServers, serviceRecord, serviceRecordServers};
+ghost use Rattle.joins.specs.Places.{IwdFileRows, iwdFileJoin, RowAnswered};
 use addresses::Separator;
 use kinds::Method;
 use reader::KeyName;
@@ -107,8 +104,8 @@ fn answered(found: JoinRecord) -> RecordAnswer
 // The record of an accepted iwd file.
 fn iwd_found(name: &[u8], file: &[u8], x: &[u16; 976], servers: &mut [[u8; 4]; 4]) -> RecordAnswer
     requires { ⌜ IwdFileRows (now file) (now x) ⌝ }
-    ensures { λ r. ⌜ (r ≡ record { answer = Answer.Good; «record» = laid (iwdJoin (networkName (networkOf (now (name .entry)))) (iwdEntry (sectionsOf Dialect.Iwd (now (file .entry))))) })
-        × (now (servers .exit) ≡ laidServers (iwdJoin (networkName (networkOf (now (name .entry)))) (iwdEntry (sectionsOf Dialect.Iwd (now (file .entry)))))) ⌝ }
+    ensures { λ r. ⌜ (r ≡ record { answer = Answer.Good; «record» = laid (iwdFileJoin (now (name .entry)) (now (file .entry))) })
+        × (now (servers .exit) ≡ laidServers (iwdFileJoin (now (name .entry)) (now (file .entry)))) ⌝ }
 {
     let count = values::list_at(
         servers,

@@ -1,17 +1,16 @@
-// The parts of a join record, read by their slots in the table of places.
+// The parts of a join record, read by the rows of the table of places.
 ghost use mathlib.Core.Path.{_≡_};
 ghost use mathlib.Core.Option.{none};
 ghost use Prim.Native.Nat.{_<_};
 ghost use Rattle.escapes.specs.Strings.{stringOf, sizeOf};
-ghost use Rattle.addresses.specs.Addresses.{address, netmask};
-ghost use Rattle.kinds.specs.Kinds.{ssid, string, passphrase, preSharedKey};
+ghost use Rattle.kinds.specs.Kinds.{string, passphrase, preSharedKey};
 ghost use Rattle.kinds.specs.Answers.{ssidAnswer};
-ghost use Rattle.reader.specs.Closing.{RowInTable, ValueInFile, keySlot, bytesOf};
+ghost use Rattle.reader.specs.Closing.{RowInTable, ValueInFile};
 ghost use Rattle.settings.specs.Codes.{choiceBy};
 ghost use Rattle.settings.specs.Rows.{RowOf};
-ghost use Rattle.joins.specs.Joins.{secretFrom, staticOrDhcp, orFalse, enabledIpv6};
-ghost use Rattle.joins.specs.Answers.{phraseAnswer, domainAnswer, loginAnswer, loginOf, numbersOf, numbersAnswer, nameOf, choiceIn, or24};
-ghost use Rattle.joins.specs.Places.{slotIpv6, slotsForeign, slotsHindrance};
+ghost use Rattle.joins.specs.Joins.{orFalse, enabledIpv6};
+ghost use Rattle.joins.specs.Answers.{phraseAnswer, domainAnswer, or24, loginRead, numbersRead, nameRead};
+ghost use Rattle.joins.specs.Places.{iwdLoginAt, serviceLoginAt, serviceNameAt, iwdNumbersAt, domainAt, yesAt, serviceIpv6At, foreignAt, hindranceAt};
 ghost use Rattle.rules.specs.WordNumbers.{isWord};
 use crate::Domain;
 use crate::Hindrance;
@@ -137,7 +136,7 @@ fn read_name(s: &[u8]) -> Ssid
 
 // The credential: a passphrase wins over a key.
 fn login_of(phrase: Phrase, psk: PreSharedKey) -> Login
-    ensures { λ r. ⌜ r ≡ loginOf phrase psk ⌝ }
+    ensures { λ r. ⌜ r ≡ loginRead phrase psk ⌝ }
 {
     if phrase.ok {
         let passphrase = phrase.bytes;
@@ -168,8 +167,7 @@ fn login_of(phrase: Phrase, psk: PreSharedKey) -> Login
 // The credential of an iwd file, by the row of its Security.
 pub fn iwd_login(file: &[u8], x: &[u16; 976], row: usize) -> Login
     requires { ⌜ RowOf Dialect.Iwd (now file) (now x) row Group.Security ⌝ }
-    ensures { λ r. ⌜ r ≡ loginAnswer (secretFrom (passphrase Dialect.Iwd (bytesOf (now (file .entry)) (now (x .entry)) row KeyName.IwdPassphrase))
-        (preSharedKey (bytesOf (now (file .entry)) (now (x .entry)) row KeyName.PreSharedKey))) ⌝ }
+    ensures { λ r. ⌜ r ≡ iwdLoginAt (now (file .entry)) (now (x .entry)) row ⌝ }
 {
     let phrase = read_phrase(Dialect::Iwd, value_of(file, x, row, KeyName::IwdPassphrase));
     let psk = values::key_at(file, x, row, KeyName::PreSharedKey);
@@ -179,7 +177,7 @@ pub fn iwd_login(file: &[u8], x: &[u16; 976], row: usize) -> Login
 // The credential of a service, by its row.
 pub fn service_login(file: &[u8], x: &[u16; 976], row: usize) -> Login
     requires { ⌜ RowOf Dialect.ConnMan (now file) (now x) row Group.Service ⌝ }
-    ensures { λ r. ⌜ r ≡ loginAnswer (secretFrom (passphrase Dialect.ConnMan (bytesOf (now (file .entry)) (now (x .entry)) row KeyName.Passphrase)) none) ⌝ }
+    ensures { λ r. ⌜ r ≡ serviceLoginAt (now (file .entry)) (now (x .entry)) row ⌝ }
 {
     let phrase = read_phrase(
         Dialect::ConnMan,
@@ -197,7 +195,7 @@ pub fn service_login(file: &[u8], x: &[u16; 976], row: usize) -> Login
 // The domain that a key of a row gives.
 pub fn domain_at(d: Dialect, file: &[u8], x: &[u16; 976], row: usize, k: KeyName) -> Domain
     requires { ⌜ ValueInFile (now file) (now x) row k ⌝ }
-    ensures { λ r. ⌜ r ≡ domainAnswer (string d 1 253 (bytesOf (now (file .entry)) (now (x .entry)) row k)) ⌝ }
+    ensures { λ r. ⌜ r ≡ domainAt d (now (file .entry)) (now (x .entry)) row k ⌝ }
 {
     read_domain(d, value_of(file, x, row, k))
 }
@@ -205,7 +203,7 @@ pub fn domain_at(d: Dialect, file: &[u8], x: &[u16; 976], row: usize, k: KeyName
 // Whether a key of a row says that the network is hidden, which it is not where nothing is said.
 pub fn hidden_at(x: &[u16; 976], row: usize, k: KeyName) -> bool
     requires { ⌜ RowInTable (now x) row ⌝ }
-    ensures { λ r. ⌜ r ≡ orFalse (choiceIn (choiceBy (keySlot (now (x .entry)) row k .code))) ⌝ }
+    ensures { λ r. ⌜ r ≡ orFalse (yesAt (now (x .entry)) row k) ⌝ }
 {
     let c = values::choice_at(x, row, k);
     match c {
@@ -226,7 +224,7 @@ fn or_24(n: u8) -> u8
 
 // The numbers of an iwd file: an address, a mask's length or 0, and a gateway.
 fn numbers_of(a: Address, n: u8, g: Address) -> Ipv4
-    ensures { λ r. ⌜ r ≡ numbersOf a n g ⌝ }
+    ensures { λ r. ⌜ r ≡ numbersRead a n g ⌝ }
 {
     if a.ok {
         let address = a.bytes;
@@ -253,9 +251,7 @@ fn numbers_of(a: Address, n: u8, g: Address) -> Ipv4
 // The numbers of an iwd file, by the row of its IPv4.
 pub fn iwd_numbers(file: &[u8], x: &[u16; 976], row: usize) -> Ipv4
     requires { ⌜ RowOf Dialect.Iwd (now file) (now x) row Group.Ipv4 ⌝ }
-    ensures { λ r. ⌜ r ≡ numbersAnswer (staticOrDhcp (address (bytesOf (now (file .entry)) (now (x .entry)) row KeyName.Address))
-        (netmask (bytesOf (now (file .entry)) (now (x .entry)) row KeyName.Netmask))
-        (address (bytesOf (now (file .entry)) (now (x .entry)) row KeyName.Gateway))) ⌝ }
+    ensures { λ r. ⌜ r ≡ iwdNumbersAt (now (file .entry)) (now (x .entry)) row ⌝ }
 {
     let a = values::address_at(file, x, row, KeyName::Address);
     let g = values::address_at(file, x, row, KeyName::Gateway);
@@ -266,7 +262,7 @@ pub fn iwd_numbers(file: &[u8], x: &[u16; 976], row: usize) -> Ipv4
 // IPv6 of an iwd file, by the row of its IPv6.
 pub fn iwd_ipv6(x: &[u16; 976], row: usize) -> Ipv6
     requires { ⌜ RowInTable (now x) row ⌝ }
-    ensures { λ r. ⌜ r ≡ enabledIpv6 (choiceIn (choiceBy (keySlot (now (x .entry)) row KeyName.Enabled .code))) ⌝ }
+    ensures { λ r. ⌜ r ≡ enabledIpv6 (yesAt (now (x .entry)) row KeyName.Enabled) ⌝ }
 {
     let c = values::choice_at(x, row, KeyName::Enabled);
     match c {
@@ -279,7 +275,7 @@ pub fn iwd_ipv6(x: &[u16; 976], row: usize) -> Ipv6
 // IPv6 of a service, by its row.
 pub fn service_ipv6(x: &[u16; 976], row: usize) -> Ipv6
     requires { ⌜ RowInTable (now x) row ⌝ }
-    ensures { λ r. ⌜ r ≡ slotIpv6 (now (x .entry)) row ⌝ }
+    ensures { λ r. ⌜ r ≡ serviceIpv6At (now (x .entry)) row ⌝ }
 {
     if is_word(x, row, KeyName::Ipv6, Word::Off) {
         return Ipv6::Off;
@@ -289,7 +285,7 @@ pub fn service_ipv6(x: &[u16; 976], row: usize) -> Ipv6
 
 // The name of a network: an SSID wins over a Name.
 fn name_of(ssid: Ssid, name: Ssid) -> Ssid
-    ensures { λ r. ⌜ r ≡ nameOf ssid name ⌝ }
+    ensures { λ r. ⌜ r ≡ nameRead ssid name ⌝ }
 {
     if ssid.ok {
         return ssid;
@@ -300,8 +296,7 @@ fn name_of(ssid: Ssid, name: Ssid) -> Ssid
 // The name of a service's network, by its row: its SSID, or else its Name.
 pub fn service_name(file: &[u8], x: &[u16; 976], row: usize) -> Ssid
     requires { ⌜ RowOf Dialect.ConnMan (now file) (now x) row Group.Service ⌝ }
-    ensures { λ r. ⌜ r ≡ nameOf (ssidAnswer (ssid (bytesOf (now (file .entry)) (now (x .entry)) row KeyName.Ssid)))
-        (ssidAnswer (string Dialect.ConnMan 1 32 (bytesOf (now (file .entry)) (now (x .entry)) row KeyName.Name))) ⌝ }
+    ensures { λ r. ⌜ r ≡ serviceNameAt (now (file .entry)) (now (x .entry)) row ⌝ }
 {
     let ssid = values::ssid_at(file, x, row, KeyName::Ssid);
     let name = read_name(value_of(file, x, row, KeyName::Name));
@@ -311,7 +306,7 @@ pub fn service_name(file: &[u8], x: &[u16; 976], row: usize) -> Ssid
 // Whether a service's Security is wep or ieee8021x.
 pub fn is_foreign(x: &[u16; 976], row: usize) -> bool
     requires { ⌜ RowInTable (now x) row ⌝ }
-    ensures { λ r. ⌜ r ≡ slotsForeign (now (x .entry)) row ⌝ }
+    ensures { λ r. ⌜ r ≡ foreignAt (now (x .entry)) row ⌝ }
 {
     either(
         is_word(x, row, KeyName::Security, Word::Wep),
@@ -322,7 +317,7 @@ pub fn is_foreign(x: &[u16; 976], row: usize) -> bool
 // The line for which a service has no record: ethernet, or Security wep or ieee8021x.
 pub fn hindrance_at(x: &[u16; 976], row: usize) -> Hindrance
     requires { ⌜ RowInTable (now x) row ⌝ }
-    ensures { λ r. ⌜ r ≡ slotsHindrance (now (x .entry)) row ⌝ }
+    ensures { λ r. ⌜ r ≡ hindranceAt (now (x .entry)) row ⌝ }
 {
     if is_word(x, row, KeyName::Type, Word::Ethernet) {
         return Hindrance::At(line_of(x, row, KeyName::Type));

@@ -29,7 +29,7 @@ use Rattle.reader.proofs.RowRule.{row-key}
 use Rattle.settings.proofs.Rowwise.{ipv4-none, row-read, row-word}
 use Rattle.written.specs.Written.{hasPlace}
 use Rattle.joins.specs.Joins.{ipv4OrDhcp, wired, foreignSecurity, foreign, serviceJoin}
-use Rattle.joins.specs.Places.{slotsForeign}
+use Rattle.joins.specs.Places.{foreignAt}
 use Rattle.joins.proofs.Asked.{row-foreign}
 use Rattle.mover.specs.Moves.{lineIf, lineGiven, unplaced, earliest}
 use Rattle.mover.specs.Places.{lineSaid, earlierOf, Earlier, slotLineIf, unrouted, slotLine, GivenLine, RowLine}
@@ -157,7 +157,7 @@ module _ {file x : List ℕ} {b : ℕ} {es : List Entry} (h : RowKeeps ConnMan f
   unfolding keysOf
   row-numbers a q t l e = then-earlier e (row-where N.Ipv4 h unroutedBy refl (t ∙ row-unrouted h q) l) (row-others a) ∙ sym (front-line (unroutedBy (entryOf (word "IPv4") es)) (entryOf (word "IPv4") es) (givenLines (λ k. entryOf k es)))
 
-  row-security : {m s n : ℕ} {t : Bool} → lineSaid m ≡ earliest (ipv4Lines (λ k. entryOf k es)) → t ≡ slotsForeign x b → s ≡ slotLineIf t x b N.Security → Earlier s m n → lineSaid n ≡ earliest (securityLines (λ k. entryOf k es))
+  row-security : {m s n : ℕ} {t : Bool} → lineSaid m ≡ earliest (ipv4Lines (λ k. entryOf k es)) → t ≡ foreignAt x b → s ≡ slotLineIf t x b N.Security → Earlier s m n → lineSaid n ≡ earliest (securityLines (λ k. entryOf k es))
   unfolding keysOf
   row-security a t l e = then-earlier e (row-where N.Security h foreignBy refl (t ∙ row-foreign h) l) a ∙ sym (front-line (foreign (λ k. entryOf k es)) (entryOf (word "Security") es) (ipv4Lines (λ k. entryOf k es)))
 
@@ -165,5 +165,5 @@ module _ {file x : List ℕ} {b : ℕ} {es : List Entry} (h : RowKeeps ConnMan f
   unfolding keysOf
   row-unplaced a t l e = then-earlier e (row-where N.Type h wiredBy refl (t ∙ row-word N.Type h L.ServiceType refl W.Ethernet) l) a ∙ sym (front-line (wired (λ k. entryOf k es)) (entryOf (word "Type") es) (securityLines (λ k. entryOf k es))) ∙ ap earliest (unplaced-nested (λ k. entryOf k es))
 
-pub all-lines : {file x : List ℕ} {b g p m s n t r : ℕ} {i : Ipv4} {u f w : Bool} → GivenLine x b g → i ≡ ipv4Answer (ipv4 (bytesOf file x b N.Ipv4)) → u ≡ unrouted (i .method) (i .«has_gateway») → p ≡ slotLineIf u x b N.Ipv4 → Earlier p g m → f ≡ slotsForeign x b → s ≡ slotLineIf f x b N.Security → Earlier s m n → w ≡ slotIs x b N.Type W.Ethernet → t ≡ slotLineIf w x b N.Type → Earlier t n r → RowLine file x b (λ at. earliest (unplaced at)) r
+pub all-lines : {file x : List ℕ} {b g p m s n t r : ℕ} {i : Ipv4} {u f w : Bool} → GivenLine x b g → i ≡ ipv4Answer (ipv4 (bytesOf file x b N.Ipv4)) → u ≡ unrouted (i .method) (i .«has_gateway») → p ≡ slotLineIf u x b N.Ipv4 → Earlier p g m → f ≡ foreignAt x b → s ≡ slotLineIf f x b N.Security → Earlier s m n → w ≡ slotIs x b N.Type W.Ethernet → t ≡ slotLineIf w x b N.Type → Earlier t n r → RowLine file x b (λ at. earliest (unplaced at)) r
 all-lines a i u p e f s q w t z = record { is = λ es h. row-unplaced h (row-security h (row-numbers h a i u p e) f s q) w t z }

@@ -33,8 +33,8 @@ use Rattle.joins.specs.Joins.{serviceJoin}
 use Rattle.mover.specs.Moves.{unplaced, earliest, orUnplaced, moving}
 use Rattle.mover.specs.Demand.{Moves}
 use Rattle.mover.specs.Places.{RowLine, MovesBy}
-use Rattle.mover.specs.Sizes.{join-within}
 use Rattle.mover.specs.Theorem.{demand-3}
+use Rattle.mover.proofs.Sizes.{join-within}
 use Rattle.mover.proofs.Lines.{line-some, line-none}
 
 -- a refusal leaves both buffers as they were

@@ -11,7 +11,7 @@ use Rattle.records.specs.Record.{Join}
 use Rattle.written.specs.Written.{nameText, fileText}
 use Rattle.writer.specs.Writing.{Writes}
 use Rattle.writer.specs.declared.Written.{Written}
-use Rattle.joins.specs.Joins.{joined, serviceJoin, settingOf, iwdJoined, serviceJoined}
+use Rattle.joins.specs.Joins.{joined, serviceJoin, serviceSetting, iwdJoined, serviceJoined}
 use Rattle.mover.specs.Moves.{unplaced, moving}
 
 -- service w of an accepted file
@@ -25,9 +25,9 @@ pub record Service (name file : List ℕ) (w : ℕ) : Type 0 where
 -- that holds nothing on the list, and buffers n and f with room for the name and the file
 pub record Movable (name file : List ℕ) (w : ℕ) (n f : List ℕ) : Type 0 where
   pub service : Service name file w
-  pub placed : unplaced (settingOf w file) ≡ []
-  pub name-room : length (nameText (serviceJoin (settingOf w file))) ≤ length n
-  pub file-room : length (fileText (serviceJoin (settingOf w file))) ≤ length f
+  pub placed : unplaced (serviceSetting w file) ≡ []
+  pub name-room : length (nameText (serviceJoin (serviceSetting w file))) ≤ length n
+  pub file-room : length (fileText (serviceJoin (serviceSetting w file))) ≤ length f
 
 -- the answer a, and buffers that hold x and y after it: "they are the new bytes there, as many as the answer counts"
 pub record Moved (name file : List ℕ) (w : ℕ) (x y : List ℕ) (a : Written) : Type 0 where

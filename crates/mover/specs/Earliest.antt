@@ -81,7 +81,7 @@ earliest-is (x ∷ xs) {l} e =
 
 -- ---- a service that holds nothing on the list
 
-pub record Placed (at : List ℕ → Option Entry) : Type 0 where
+pub record AllPlaced (at : List ℕ → Option Entry) : Type 0 where
   pub wifi : wired at ≡ false
   pub security : foreign at ≡ false
   pub numbers : hasPlace (serviceJoin at .ipv4) ≡ true
@@ -106,7 +106,7 @@ no-lines false false false t s i none none (some x) k e = some-line e
 no-lines false false false t s i none none none (some x) e = some-line e
 no-lines false false false t s i none none none none e = (refl, refl, refl, refl, refl, refl, refl)
 
-pub unplaced-none : (at : List ℕ → Option Entry) → unplaced at ≡ [] → Placed at
+pub unplaced-none : (at : List ℕ → Option Entry) → unplaced at ≡ [] → AllPlaced at
 unplaced-none at e =
     let n = hasPlace (serviceJoin at .ipv4) in
     let h = no-lines (wired at) (foreign at) (not n) (at (word "Type")) (at (word "Security")) (at (word "IPv4")) (at (word "MAC")) (at (word "IPv6.Privacy")) (at (word "SearchDomains")) (at (word "Timeservers")) e in

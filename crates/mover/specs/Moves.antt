@@ -16,7 +16,7 @@ use Rattle.rules.specs.declared.Answer.{Answer}
 use Rattle.rules.specs.declared.Answer.the-variants.{Good, Refused}
 use Rattle.writer.specs.Writing.{Writing, refuses, writingOf}
 use Rattle.written.specs.Written.{hasPlace}
-use Rattle.joins.specs.Joins.{wired, foreign, serviceJoin, settingOf}
+use Rattle.joins.specs.Joins.{wired, foreign, serviceJoin, serviceSetting}
 
 -- ---- what iwd has no place for; at gives the service's setting with a key
 
@@ -56,9 +56,9 @@ abbrev pub orUnplaced : Option ℕ → Writing → Writing
 orUnplaced none m = m
 orUnplaced (some l) m = refuses NoPlace l
 
-abbrev pub orRefused : Answer → Writing → Writing
-orRefused Good m = m
-orRefused (Refused r l) m = refuses r l
+abbrev pub movedIfGood : Answer → Writing → Writing
+movedIfGood Good m = m
+movedIfGood (Refused r l) m = refuses r l
 
 -- 16 before 17; n is the buffer of the name, f that of the file
 abbrev pub movingOf : (List ℕ → Option Entry) → List ℕ → List ℕ → Writing
@@ -66,4 +66,4 @@ movingOf at n f = orUnplaced (earliest (unplaced at)) (writingOf (serviceJoin at
 
 -- of service w of a file under its name: the file's own refusals and 18 before both
 unfoldable pub moving : List ℕ → List ℕ → ℕ → List ℕ → List ℕ → Writing
-moving name file w n f = orRefused (askedOf w (reading D.ConnMan name file)) (movingOf (settingOf w file) n f)
+moving name file w n f = movedIfGood (askedOf w (reading D.ConnMan name file)) (movingOf (serviceSetting w file) n f)

@@ -13,10 +13,10 @@ use Rattle.rules.specs.declared.Reading.the-variants.{Refused}
 use Rattle.rules.specs.declared.Refusal.{Refusal}
 use Rattle.writer.specs.Writing.{Writing, refuses, writtenAnswer, nameAfter, fileAfter, Writes}
 use Rattle.writer.specs.declared.Written.{Written}
-use Rattle.joins.specs.Joins.{settingOf}
+use Rattle.joins.specs.Joins.{serviceSetting}
 use Rattle.joins.specs.Saturday.{FaultyPassphrase, ServiceRefuses}
 use Rattle.joins.specs.SaturdayHolds.{faulty-refused, refused-service}
-use Rattle.mover.specs.Moves.{orRefused, movingOf, moving}
+use Rattle.mover.specs.Moves.{movedIfGood, movingOf, moving}
 
 -- ---- the statement
 
@@ -44,7 +44,7 @@ pub record ConnManRefuses (name file : List ℕ) (n : ℕ) : Type 0 where
 module _ (name file : List ℕ) {r : Refusal} {l : ℕ} (e : reading D.ConnMan name file ≡ Refused r l) (w : ℕ) where
   refused-moving : (n f : List ℕ) → moving name file w n f ≡ refuses r l
   unfolding moving
-  refused-moving n f = ap (λ (q : Reading). orRefused (askedOf w q) (movingOf (settingOf w file) n f)) e
+  refused-moving n f = ap (λ (q : Reading). movedIfGood (askedOf w q) (movingOf (serviceSetting w file) n f)) e
 
   -- of every refused file
   pub refused-move : MoveRefuses name file w r l

@@ -23,12 +23,12 @@ use Rattle.records.specs.Laws.{laid-formed, joined-laid}
 use Rattle.written.specs.Written.{nameText, fileText, blocksOf, hasPlace}
 use Rattle.writer.specs.Writing.{Writing, writes, refuses, room, writingOf, writing, writingPlaced, writtenAnswer, onFront, nameAfter, fileAfter, Writes}
 use Rattle.writer.specs.declared.Written.{Written}
-use Rattle.joins.specs.Joins.{Joined, joined, recordAnswer, serversAfter, iwdRecord, iwdRecordServers, serviceRecord, serviceRecordServers, needsKey, noRecord, orNoPlace, serviceJoin, settingOf, serviceJoined, iwdJoined}
+use Rattle.joins.specs.Joins.{Joined, joined, recordAnswer, serversAfter, iwdRecord, iwdRecordServers, serviceRecord, serviceRecordServers, needsKey, noRecord, orNoPlace, serviceJoin, serviceSetting, serviceJoined, iwdJoined}
 use Rattle.joins.specs.Joins as Joins
 use Rattle.joins.specs.Answered.{service-formed}
 use Rattle.round_trip.specs.Blocks.{rowCount}
 use Rattle.round_trip.specs.RoundTrip.{written-accepted, round-trip}
-use Rattle.mover.specs.Moves.{unplaced, orUnplaced, orRefused, movingOf, moving}
+use Rattle.mover.specs.Moves.{unplaced, orUnplaced, movedIfGood, movingOf, moving}
 use Rattle.mover.specs.Demand.{Service, Movable, Moved}
 use Rattle.mover.specs.Earliest.{none-earliest, unplaced-none}
 
@@ -39,37 +39,37 @@ module _ {name file : List ℕ} {w : ℕ} (s : Service name file w) where
   service-asked = ap (askedOf w) (s .accepted) ∙ ap (λ (b : Bool). cond b A.Good (A.Refused NoService 0)) (inside {x = w} 1 (s .services) (s .low) (s .high))
 
   -- neither the file's own refusals nor 18
-  pub moving-service : (n f : List ℕ) → moving name file w n f ≡ movingOf (settingOf w file) n f
+  pub moving-service : (n f : List ℕ) → moving name file w n f ≡ movingOf (serviceSetting w file) n f
   unfolding moving
-  moving-service n f = ap (λ (a : Answer). orRefused a (movingOf (settingOf w file) n f)) service-asked
+  moving-service n f = ap (λ (a : Answer). movedIfGood a (movingOf (serviceSetting w file) n f)) service-asked
 
   -- that holds nothing on the list
-  module _ (p : unplaced (settingOf w file) ≡ []) where
-    placed-record : noRecord (settingOf w file) ≡ none
+  module _ (p : unplaced (serviceSetting w file) ≡ []) where
+    placed-record : noRecord (serviceSetting w file) ≡ none
     placed-record =
-        let h = unplaced-none (settingOf w file) p in
-        ap₂ (λ (a b : Bool). orElse (only a (some (entryLine (settingOf w file (word "Type"))))) (only b (some (entryLine (settingOf w file (word "Security")))))) (h .wifi) (h .security)
+        let h = unplaced-none (serviceSetting w file) p in
+        ap₂ (λ (a b : Bool). orElse (only a (some (entryLine (serviceSetting w file (word "Type"))))) (only b (some (entryLine (serviceSetting w file (word "Security")))))) (h .wifi) (h .security)
 
     -- it has a record
-    pub move-joined : serviceJoined name file w ≡ joined (serviceJoin (settingOf w file))
-    move-joined = ap₂ (λ (a : Answer) (o : Option ℕ). Joins.orRefused a (orNoPlace o (serviceJoin (settingOf w file)))) service-asked placed-record
+    pub move-joined : serviceJoined name file w ≡ joined (serviceJoin (serviceSetting w file))
+    move-joined = ap₂ (λ (a : Answer) (o : Option ℕ). Joins.joinedIfGood a (orNoPlace o (serviceJoin (serviceSetting w file)))) service-asked placed-record
 
     -- so 19 cannot arise
-    pub move-well-formed : WellFormed (serviceJoin (settingOf w file))
+    pub move-well-formed : WellFormed (serviceJoin (serviceSetting w file))
     move-well-formed = service-formed name file w move-joined
 
     -- nor the writer's own 16
-    pub move-placed : hasPlace (serviceJoin (settingOf w file) .ipv4) ≡ true
-    move-placed = unplaced-none (settingOf w file) p .numbers
+    pub move-placed : hasPlace (serviceJoin (serviceSetting w file) .ipv4) ≡ true
+    move-placed = unplaced-none (serviceSetting w file) p .numbers
 
-    move-writing : (n f : List ℕ) → moving name file w n f ≡ writingOf (serviceJoin (settingOf w file)) n f
-    move-writing n f = moving-service n f ∙ ap (λ (o : Option ℕ). orUnplaced o (writingOf (serviceJoin (settingOf w file)) n f)) (none-earliest (unplaced (settingOf w file)) p)
+    move-writing : (n f : List ℕ) → moving name file w n f ≡ writingOf (serviceJoin (serviceSetting w file)) n f
+    move-writing n f = moving-service n f ∙ ap (λ (o : Option ℕ). orUnplaced o (writingOf (serviceJoin (serviceSetting w file)) n f)) (none-earliest (unplaced (serviceSetting w file)) p)
 
     -- the move is what the writer answers of the service's record
-    pub move-written : (n f : List ℕ) → moving name file w n f ≡ writing (laid (serviceJoin (settingOf w file))) (laidServers (serviceJoin (settingOf w file))) n f
+    pub move-written : (n f : List ℕ) → moving name file w n f ≡ writing (laid (serviceJoin (serviceSetting w file))) (laidServers (serviceJoin (serviceSetting w file))) n f
     unfolding writing
     move-written n f =
-        let j = serviceJoin (settingOf w file) in
+        let j = serviceJoin (serviceSetting w file) in
         move-writing n f
         ∙ sym (ap (λ (b : Bool). cond b (writingPlaced (Record.joined (laid j) (laidServers j)) n f) (refuses Malformed 0)) (laid-formed j move-well-formed) ∙ ap (λ (i : Join). writingPlaced i n f) (joined-laid j) ∙ ap (λ (b : Bool). cond b (writingOf j n f) (refuses NoPlace 0)) move-placed)
 
@@ -84,15 +84,15 @@ new-bytes : (t old x : List ℕ) (k : ℕ) → x ≡ onFront t old → k ≡ len
 new-bytes t old x k p q = ap₂ (λ (a : ℕ) (b : List ℕ). take a b) q p ∙ take-append-seam t (drop (length t) old)
 
 module _ {name file : List ℕ} {w : ℕ} {n f : List ℕ} (m : Movable name file w n f) where
-  pub movable-record : serviceJoined name file w ≡ joined (serviceJoin (settingOf w file))
+  pub movable-record : serviceJoined name file w ≡ joined (serviceJoin (serviceSetting w file))
   movable-record = move-joined (m .service) (m .placed)
 
-  pub movable-writes : moving name file w n f ≡ writes (nameText (serviceJoin (settingOf w file))) (fileText (serviceJoin (settingOf w file)))
-  movable-writes = move-writing (m .service) (m .placed) n f ∙ roomy (serviceJoin (settingOf w file)) n f (m .name-room) (m .file-room)
+  pub movable-writes : moving name file w n f ≡ writes (nameText (serviceJoin (serviceSetting w file))) (fileText (serviceJoin (serviceSetting w file)))
+  movable-writes = move-writing (m .service) (m .placed) n f ∙ roomy (serviceJoin (serviceSetting w file)) n f (m .name-room) (m .file-room)
 
   pub demand-3 : {x y : List ℕ} {a : Written} → Writes (moving name file w n f) n f x y a → Moved name file w x y a
   demand-3 {x} {y} {a} h =
-      let j = serviceJoin (settingOf w file) in
+      let j = serviceJoin (serviceSetting w file) in
       let good = move-well-formed (m .service) (m .placed) in
       let place = move-placed (m .service) (m .placed) in
       let q : a ≡ writtenAnswer (writes (nameText j) (fileText j)) = h .answer ∙ ap writtenAnswer movable-writes in

@@ -39,7 +39,7 @@ use Rattle.written.specs.Written.{hasPlace, nameText, fileText}
 use Rattle.writer.specs.Writing.{Writing, writes, writing, writtenAnswer, nameAfter, fileAfter, Writes}
 use Rattle.writer.specs.declared.Written.{Written}
 use Rattle.joins.specs.Joins as J
-use Rattle.joins.specs.Joins.{zeroRecord, serviceJoined, iwdRecord, iwdRecordServers, serviceRecord, serviceRecordServers, needsKey, settingOf}
+use Rattle.joins.specs.Joins.{zeroRecord, serviceJoined, iwdRecord, iwdRecordServers, serviceRecord, serviceRecordServers, needsKey, serviceSetting}
 use Rattle.joins.specs.Saturday.{FaultyPassphrase}
 use Rattle.mover.specs.Moves.{moving}
 use Rattle.mover.specs.Demand.{Movable, Moved}
@@ -300,11 +300,11 @@ Saturday = (d : Dialect) (name file : List ℕ) (n : ℕ) → FaultyPassphrase d
 -- of a service whose record is answered: `Security = psk` needs a key, `Security = none` needs none, and where no
 -- line gives Security it needs one exactly when a line gives Passphrase
 pub record SecurityKept (name file : List ℕ) (w : ℕ) (j : Join) : Type 0 where
-  pub psk : (e : Entry) → settingOf w file (word "Security") ≡ some e → e .value ≡ word "psk" → needsKey j ≡ true
-  pub open-network : (e : Entry) → settingOf w file (word "Security") ≡ some e → e .value ≡ word "none" →
+  pub psk : (e : Entry) → serviceSetting w file (word "Security") ≡ some e → e .value ≡ word "psk" → needsKey j ≡ true
+  pub open-network : (e : Entry) → serviceSetting w file (word "Security") ≡ some e → e .value ≡ word "none" →
       needsKey j ≡ false
   pub absent :
-      settingOf w file (word "Security") ≡ none
+      serviceSetting w file (word "Security") ≡ none
       → needsKey j ≡ given (word "Passphrase") (serviceAt w (sectionsOf ConnMan file))
 
 abbrev pub Security : Type 0

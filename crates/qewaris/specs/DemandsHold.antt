@@ -32,11 +32,11 @@ use Rattle.writer.specs.Writing.{Writing, writes, refuses, writing, writtenAnsw
 use Rattle.joins.specs.Joins as J
 use Rattle.joins.specs.Security.{key-needed, psk-needs-key, none-needs-no-key}
 use Rattle.joins.specs.SaturdayHolds.{faulty-refused}
-use Rattle.joins.specs.Joins.{iwdJoin, networkName, orNoPlace, noRecord, serviceJoin, settingOf, Joined, zeroRecord, iwdJoined, serviceJoined, iwdRecord, iwdRecordServers, serviceRecord, serviceRecordServers, recordAnswer, serversAfter}
+use Rattle.joins.specs.Joins.{iwdJoin, networkName, orNoPlace, noRecord, serviceJoin, serviceSetting, Joined, zeroRecord, iwdJoined, serviceJoined, iwdRecord, iwdRecordServers, serviceRecord, serviceRecordServers, recordAnswer, serversAfter}
 use Rattle.round_trip.specs.RoundTrip.{written-accepted}
 use Rattle.round_trip.specs.Structs.{writing-record, writing-servers}
 use Rattle.mover.specs.GoodMoves.{good-key-kept}
-use Rattle.mover.specs.Moves.{orRefused, movingOf, moving}
+use Rattle.mover.specs.Moves.{movedIfGood, movingOf, moving}
 use Rattle.mover.specs.Theorem as M
 use Rattle.qewaris.specs.Demands
 use Rattle.qewaris.specs.TableHolds.{settings-answer, service-answer}
@@ -166,11 +166,11 @@ all-refuse name file e c (Demands.by-global-string key) =
 all-refuse name file e c (Demands.by-service-string w key) =
     ap (λ (q : Reading). lookupOf (askedOf w q) (entryOf key (serviceAt w (sectionsOf ConnMan file))) .answer) e
 all-refuse name file e c (Demands.by-iwd-record s) =
-    ap (λ (q : Reading). recordAnswer (J.orRefused (asked q) (J.joined (iwdJoin (networkName (networkOf name)) (iwdEntry (sectionsOf Iwd file))))) .answer) e
+    ap (λ (q : Reading). recordAnswer (J.joinedIfGood (asked q) (J.joined (iwdJoin (networkName (networkOf name)) (iwdEntry (sectionsOf Iwd file))))) .answer) e
 all-refuse name file e c (Demands.by-service-record w s) =
-    ap (λ (q : Reading). recordAnswer (J.orRefused (askedOf w q) (orNoPlace (noRecord (settingOf w file)) (serviceJoin (settingOf w file)))) .answer) e
+    ap (λ (q : Reading). recordAnswer (J.joinedIfGood (askedOf w q) (orNoPlace (noRecord (serviceSetting w file)) (serviceJoin (serviceSetting w file)))) .answer) e
 all-refuse name file e c (Demands.by-move w n f) =
-    ap (λ (q : Reading). writtenAnswer (orRefused (askedOf w q) (movingOf (settingOf w file) n f)) .answer) e
+    ap (λ (q : Reading). writtenAnswer (movedIfGood (askedOf w q) (movingOf (serviceSetting w file) n f)) .answer) e
 
 pub saturday-holds : Demands.Saturday
 saturday-holds d name file n p =

@@ -18,7 +18,7 @@ use Rattle.lookups.specs.Lookups.{Lookup, iwdLookup, globalLookup, serviceLooku
 use Rattle.records.specs.Record.{joined}
 use Rattle.records.specs.Formed.{formed}
 use Rattle.written.specs.Written.{hasPlace, nameText, fileText}
-use Rattle.joins.specs.Joins.{noRecord, settingOf}
+use Rattle.joins.specs.Joins.{noRecord, serviceSetting}
 use Rattle.mover.specs.Demand.{Service, Movable}
 use Rattle.boundary.specs.Answers.{Left}
 use Rattle.boundary.specs.Records.{CArrays, known, recordIn, serversIn}
@@ -185,7 +185,7 @@ pub record WritableBytes (c : CRecord) (n f : List ℕ) : Type 0 where
 -- a service that has a join record
 pub record Joinable (name file : List ℕ) (w : ℕ) : Type 0 where
   pub service : Service name file w
-  pub wireless : noRecord (settingOf w file) ≡ none
+  pub wireless : noRecord (serviceSetting w file) ≡ none
 
 -- what a call asks for is there
 abbrev pub Success : Call → Type 0
@@ -261,7 +261,7 @@ pub record ListStands (file : List ℕ) (es : List (List ℕ)) (c : CEntries) : 
 
 -- the entries of a list of service w
 abbrev pub entriesOf : List ℕ → ℕ → List ℕ → List (List ℕ)
-entriesOf file w key = orEmpty (readAs entries (settingOf w file key))
+entriesOf file w key = orEmpty (readAs entries (serviceSetting w file key))
 
 pub record Lists (file : List ℕ) (w : ℕ) (a : CServiceSettings) : Type 0 where
   pub search-domains : ListStands file (entriesOf file w (word "SearchDomains")) (a .addresses .«search_domains»)

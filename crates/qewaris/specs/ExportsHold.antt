@@ -31,7 +31,7 @@ use Rattle.rules.specs.declared.Refusal.the-variants as N
 use Rattle.settings.specs.Asked.{iwdAnswerOf, iwdServersOf, serviceAnswerOf, serviceServersOf}
 use Rattle.lookups.specs.Lookups.{lookupOf, lookupPlace}
 use Rattle.joins.specs.Joins as J
-use Rattle.joins.specs.Joins.{Joined, settingOf, iwdJoined, serviceJoined, recordAnswer, serversAfter, iwdRecord, iwdRecordServers, serviceRecord, serviceRecordServers}
+use Rattle.joins.specs.Joins.{Joined, serviceSetting, iwdJoined, serviceJoined, recordAnswer, serversAfter, iwdRecord, iwdRecordServers, serviceRecord, serviceRecordServers}
 use Rattle.writer.specs.Writing.{Writing, writes, refuses, writing, writtenAnswer}
 use Rattle.mover.specs.Moves.{moving}
 use Rattle.boundary.specs.Answers.{Left, readingAt, textAt, leftOf}
@@ -93,9 +93,9 @@ module _ (name file : List ℕ) where
       text-given file (ownRows d) (asked (reading d name file)) (iwdEntry (sectionsOf d file) group key) (asked-given d name file) (group-stands d file group key)
 
   service-text-given : (w : ℕ) (key : List ℕ) →
-      hasRow (length (lines file)) (placed 0 ∷ serviceRefusals) (textAt (lookupPlace (lookupOf (askedOf w (reading ConnMan name file)) (settingOf w file key))) .number) (textAt (lookupPlace (lookupOf (askedOf w (reading ConnMan name file)) (settingOf w file key))) .line) ≡ true
+      hasRow (length (lines file)) (placed 0 ∷ serviceRefusals) (textAt (lookupPlace (lookupOf (askedOf w (reading ConnMan name file)) (serviceSetting w file key))) .number) (textAt (lookupPlace (lookupOf (askedOf w (reading ConnMan name file)) (serviceSetting w file key))) .line) ≡ true
   service-text-given w key =
-      text-given file serviceRefusals (askedOf w (reading ConnMan name file)) (settingOf w file key) (asked-service-given name file w) (service-stands ConnMan file w key)
+      text-given file serviceRefusals (askedOf w (reading ConnMan name file)) (serviceSetting w file key) (asked-service-given name file w) (service-stands ConnMan file w key)
 
 pub exported-table : Exported-table
 exported-table (E.check-iwd name file) =
@@ -176,11 +176,11 @@ exported-refusal (E.global-name name file) h =
 exported-refusal (E.global-description name file) h =
     record { zeros = text-zeros (asked (reading ConnMan name file)) (iwdEntry (sectionsOf ConnMan file) (word "global") (word "Description")) h; buffers = refl }
 exported-refusal (E.service-name name file w) h =
-    record { zeros = text-zeros (askedOf w (reading ConnMan name file)) (settingOf w file (word "Name")) h; buffers = refl }
+    record { zeros = text-zeros (askedOf w (reading ConnMan name file)) (serviceSetting w file (word "Name")) h; buffers = refl }
 exported-refusal (E.service-passphrase name file w) h =
-    record { zeros = text-zeros (askedOf w (reading ConnMan name file)) (settingOf w file (word "Passphrase")) h; buffers = refl }
+    record { zeros = text-zeros (askedOf w (reading ConnMan name file)) (serviceSetting w file (word "Passphrase")) h; buffers = refl }
 exported-refusal (E.service-domain name file w) h =
-    record { zeros = text-zeros (askedOf w (reading ConnMan name file)) (settingOf w file (word "Domain")) h; buffers = refl }
+    record { zeros = text-zeros (askedOf w (reading ConnMan name file)) (serviceSetting w file (word "Domain")) h; buffers = refl }
 exported-refusal (E.iwd-record name file) h = record { zeros = record-zeros (iwdJoined name file) h; buffers = refl }
 exported-refusal (E.service-record name file w) h =
     record { zeros = record-zeros (serviceJoined name file w) h; buffers = refl }

@@ -30,7 +30,7 @@ use Rattle.rules.specs.declared.Answer.{Answer}
 use Rattle.rules.specs.declared.Answer.the-variants.{Good, Refused}
 use Rattle.settings.specs.Asked.{serviceAnswerOf, serviceServersOf}
 use Rattle.lookups.specs.Lookups.{lookupOf, lookupPlace}
-use Rattle.joins.specs.Joins.{settingOf}
+use Rattle.joins.specs.Joins.{serviceSetting}
 use Rattle.boundary.specs.Answers.{textAt}
 use Rattle.boundary.specs.Records.{lentServers}
 use Rattle.boundary.specs.Settings.{entryLength, entriesAt, serviceSettingsAt}
@@ -54,9 +54,9 @@ group-string d name file group key =
     string-stands file (asked (reading d name file)) (iwdEntry (sectionsOf d file) group key) (group-stands d file group key)
 
 service-string : (name file : List ℕ) (w : ℕ) (key : List ℕ) →
-    StringStands file (lookupOf (askedOf w (reading ConnMan name file)) (settingOf w file key)) (textAt (lookupPlace (lookupOf (askedOf w (reading ConnMan name file)) (settingOf w file key))))
+    StringStands file (lookupOf (askedOf w (reading ConnMan name file)) (serviceSetting w file key)) (textAt (lookupPlace (lookupOf (askedOf w (reading ConnMan name file)) (serviceSetting w file key))))
 service-string name file w key =
-    string-stands file (askedOf w (reading ConnMan name file)) (settingOf w file key) (service-stands ConnMan file w key)
+    string-stands file (askedOf w (reading ConnMan name file)) (serviceSetting w file key) (service-stands ConnMan file w key)
 
 pub exported-strings : Exported-strings
 exported-strings name file w =
@@ -181,8 +181,8 @@ unfolding keysOf
 exported-lists name file w e = go (askedOf w (reading ConnMan name file)) e
   where
     stands : (key : List ℕ) →
-        ListStands file (entriesOf file w key) (entriesAt (entriesAnswer (entryStart (settingOf w file key)) (readAs entries (settingOf w file key))))
-    stands key = list-stands file (settingOf w file key) (service-stands ConnMan file w key)
+        ListStands file (entriesOf file w key) (entriesAt (entriesAnswer (entryStart (serviceSetting w file key)) (readAs entries (serviceSetting w file key))))
+    stands key = list-stands file (serviceSetting w file key) (service-stands ConnMan file w key)
 
     go : (a : Answer) → answerNumber (serviceAnswerOf a (serviceAt w (sectionsOf ConnMan file)) .answer) ≡ 0 →
         Lists file w (serviceSettingsAt (serviceAnswerOf a (serviceAt w (sectionsOf ConnMan file))) (serviceServersOf a (serviceAt w (sectionsOf ConnMan file)) lentServers))

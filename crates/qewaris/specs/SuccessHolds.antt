@@ -32,7 +32,7 @@ use Rattle.records.specs.declared.JoinRecord.{JoinRecord}
 use Rattle.written.specs.Written.{hasPlace, nameText, fileText}
 use Rattle.writer.specs.Writing.{Writing, writes, refuses, room, writing, writtenAnswer, nameAfter, fileAfter, Writes}
 use Rattle.joins.specs.Joins as J
-use Rattle.joins.specs.Joins.{Joined, noRecord, orNoPlace, iwdJoin, networkName, serviceJoin, settingOf, recordAnswer, iwdRecord, iwdRecordServers, serviceRecord}
+use Rattle.joins.specs.Joins.{Joined, noRecord, orNoPlace, iwdJoin, networkName, serviceJoin, serviceSetting, recordAnswer, iwdRecord, iwdRecordServers, serviceRecord}
 use Rattle.joins.specs.declared.RecordAnswer.{RecordAnswer}
 use Rattle.round_trip.specs.Structs.{writing-record, writing-servers}
 use Rattle.mover.specs.Moves.{moving}
@@ -92,7 +92,7 @@ service-success name file w = (there, found)
 -- ---- its record
 
 record-number : (a : Answer) (o : Option ℕ) (j : Join) →
-    answerNumber (recordAnswer (J.orRefused a (orNoPlace o j)) .answer) ≡ 0 → (answerNumber a ≡ 0) × (o ≡ none)
+    answerNumber (recordAnswer (J.joinedIfGood a (orNoPlace o j)) .answer) ≡ 0 → (answerNumber a ≡ 0) × (o ≡ none)
 record-number Good none j e = (refl, refl)
 record-number Good (some l) j e = absurd (omega (arith, e))
 record-number (Refused r l) o j e = absurd (true≢false (sym (eq-eqb (numberOf r) 0 e) ∙ refusal-number r))
@@ -103,14 +103,14 @@ unfolding serviceRecord
 record-success name file w = (there, found)
   where
     there : Joinable name file w →
-        answerNumber (recordAnswer (J.orRefused (askedOf w (reading ConnMan name file)) (orNoPlace (noRecord (settingOf w file)) (serviceJoin (settingOf w file)))) .answer) ≡ 0
+        answerNumber (recordAnswer (J.joinedIfGood (askedOf w (reading ConnMan name file)) (orNoPlace (noRecord (serviceSetting w file)) (serviceJoin (serviceSetting w file)))) .answer) ≡ 0
     there j =
         rw (number-good (askedOf w (reading ConnMan name file)) (service-success name file w .0 (j .service)), j .wireless)
 
-    found : answerNumber (recordAnswer (J.orRefused (askedOf w (reading ConnMan name file)) (orNoPlace (noRecord (settingOf w file)) (serviceJoin (settingOf w file)))) .answer) ≡ 0 →
+    found : answerNumber (recordAnswer (J.joinedIfGood (askedOf w (reading ConnMan name file)) (orNoPlace (noRecord (serviceSetting w file)) (serviceJoin (serviceSetting w file)))) .answer) ≡ 0 →
         Joinable name file w
     found e =
-        let h = record-number (askedOf w (reading ConnMan name file)) (noRecord (settingOf w file)) (serviceJoin (settingOf w file)) e in
+        let h = record-number (askedOf w (reading ConnMan name file)) (noRecord (serviceSetting w file)) (serviceJoin (serviceSetting w file)) e in
         record { service = service-success name file w .1 (h .0); wireless = h .1 }
 
 -- ---- a record that is brought in
@@ -167,9 +167,9 @@ module _ (name file : List ℕ) where
       of-number (ap answerNumber (lookup-answer (asked (reading d name file)) (iwdEntry (sectionsOf d file) group key))) (file-success d name file)
 
   service-text-success : (w : ℕ) (key : List ℕ) →
-      Service name file w ↔ (answerNumber (lookupOf (askedOf w (reading ConnMan name file)) (settingOf w file key) .answer) ≡ 0)
+      Service name file w ↔ (answerNumber (lookupOf (askedOf w (reading ConnMan name file)) (serviceSetting w file key) .answer) ≡ 0)
   service-text-success w key =
-      of-number (ap answerNumber (lookup-answer (askedOf w (reading ConnMan name file)) (settingOf w file key))) (service-success name file w)
+      of-number (ap answerNumber (lookup-answer (askedOf w (reading ConnMan name file)) (serviceSetting w file key))) (service-success name file w)
 
 pub exported-success : Exported-success
 unfolding iwdRecord

@@ -42,9 +42,9 @@ use Rattle.written.specs.Written.{hasPlace, nameText, fileText}
 use Rattle.writer.specs.Writing.{Writing, writes, refuses, room, writing, writingOf, writtenAnswer}
 use Rattle.joins.specs.Joins as J
 use Rattle.rules.specs.Tables.{keysOf}
-use Rattle.joins.specs.Joins.{ipv4OrDhcp, iwdJoin, networkName, foreign, foreignSecurity, noRecord, serviceJoin, settingOf, recordAnswer, iwdRecord, serviceRecord, wired, orNoPlace}
+use Rattle.joins.specs.Joins.{ipv4OrDhcp, iwdJoin, networkName, foreign, foreignSecurity, noRecord, serviceJoin, serviceSetting, recordAnswer, iwdRecord, serviceRecord, wired, orNoPlace}
 use Rattle.names.specs.Names.{networkOf}
-use Rattle.mover.specs.Moves.{lineIf, lineGiven, unplaced, least, earliest, orUnplaced, orRefused, moving}
+use Rattle.mover.specs.Moves.{lineIf, lineGiven, unplaced, least, earliest, orUnplaced, movedIfGood, moving}
 use Rattle.qewaris.specs.Demands as D
 use Rattle.qewaris.specs.Demands.{Call, answerOf, serviceRows, serviceRecordRows, writerRows, moveRows, callRows, callLines, Demand-1-table}
 
@@ -133,7 +133,7 @@ module _ (file : List ℕ) where
 
   module _ (w : ℕ) where
     abbrev at : List ℕ → Option Entry
-    at = settingOf w file
+    at = serviceSetting w file
 
     stands : (key : List ℕ) → IfSome (EntryStands file) (at key)
     stands key = service-stands ConnMan file w key
@@ -177,7 +177,7 @@ module _ (file : List ℕ) where
 
 record-given : (k : ℕ) (a : Answer) (o : Option ℕ) (j : Join) → InRows k serviceRows a →
     IfSome (λ l. between 1 k l ≡ true) o →
-    InRows k serviceRecordRows (recordAnswer (J.orRefused a (orNoPlace o j)) .answer)
+    InRows k serviceRecordRows (recordAnswer (J.joinedIfGood a (orNoPlace o j)) .answer)
 record-given k Good none j h p = refl
 record-given k Good (some l) j h p = rw p
 record-given k (Refused r l) o j h p = has-row-append k serviceRows (lined 16 ∷ []) (numberOf r) l h
@@ -189,7 +189,7 @@ room-given k false x y = refl
 
 move-given : (k : ℕ) (a : Answer) (o : Option ℕ) (j : Join) (n f : List ℕ) → InRows k serviceRows a →
     IfSome (λ l. between 1 k l ≡ true) o →
-    InRows k moveRows (writtenAnswer (orRefused a (orUnplaced o (writingOf j n f))) .answer)
+    InRows k moveRows (writtenAnswer (movedIfGood a (orUnplaced o (writingOf j n f))) .answer)
 move-given k Good none j n f h p = room-given k (room (nameText j) n && room (fileText j) f) (nameText j) (fileText j)
 move-given k Good (some l) j n f h p = rw p
 move-given k (Refused r l) o j n f h p =
@@ -222,7 +222,7 @@ pub lookup-answer : (a : Answer) (o : Option Entry) → lookupOf a o .answer ≡
 lookup-answer Good o = refl
 lookup-answer (Refused r l) o = refl
 
-pub joined-answer : (a : Answer) (j : Join) → recordAnswer (J.orRefused a (J.joined j)) .answer ≡ a
+pub joined-answer : (a : Answer) (j : Join) → recordAnswer (J.joinedIfGood a (J.joined j)) .answer ≡ a
 joined-answer Good j = refl
 joined-answer (Refused r l) j = refl
 
@@ -238,11 +238,11 @@ demand-1-table (D.iwd-string group key name file) =
 demand-1-table (D.global-string key name file) =
     rw (lookup-answer (asked (reading ConnMan name file)) (iwdEntry (sectionsOf ConnMan file) (word "global") key)) (asked-given ConnMan name file)
 demand-1-table (D.service-string w key name file) =
-    rw (lookup-answer (askedOf w (reading ConnMan name file)) (settingOf w file key)) (asked-service-given name file w)
+    rw (lookup-answer (askedOf w (reading ConnMan name file)) (serviceSetting w file key)) (asked-service-given name file w)
 demand-1-table (D.iwd-record name file s) =
     rw (joined-answer (asked (reading Iwd name file)) (iwdJoin (networkName (networkOf name)) (iwdEntry (sectionsOf Iwd file)))) (asked-given Iwd name file)
 demand-1-table (D.service-record name file w s) =
-    record-given (length (lines file)) (askedOf w (reading ConnMan name file)) (noRecord (settingOf w file)) (serviceJoin (settingOf w file)) (asked-service-given name file w) (no-record-line file w)
+    record-given (length (lines file)) (askedOf w (reading ConnMan name file)) (noRecord (serviceSetting w file)) (serviceJoin (serviceSetting w file)) (asked-service-given name file w) (no-record-line file w)
 demand-1-table (D.write r s n f) = write-given r s n f
 demand-1-table (D.move name file w n f) =
-    move-given (length (lines file)) (askedOf w (reading ConnMan name file)) (earliest (unplaced (settingOf w file))) (serviceJoin (settingOf w file)) n f (asked-service-given name file w) (unplaced-line file w)
+    move-given (length (lines file)) (askedOf w (reading ConnMan name file)) (earliest (unplaced (serviceSetting w file))) (serviceJoin (serviceSetting w file)) n f (asked-service-given name file w) (unplaced-line file w)

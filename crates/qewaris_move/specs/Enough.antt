@@ -16,8 +16,8 @@ use Rattle.rules.specs.Asking.{askedOf}
 use Rattle.rules.specs.declared.Reading.{Reading}
 use Rattle.rules.specs.declared.Refusal.the-variants.{Size}
 use Rattle.writer.specs.Writing.{refuses}
-use Rattle.joins.specs.Joins.{settingOf}
-use Rattle.mover.specs.Moves.{moving, movingOf, orRefused}
+use Rattle.joins.specs.Joins.{serviceSetting}
+use Rattle.mover.specs.Moves.{moving, movingOf, movedIfGood}
 use Rattle.intake.specs.declared.Form.the-variants.{Empty}
 use Rattle.intake.specs.Forms.{formFrom, complete}
 use Rattle.intake.specs.Laws.{form-connman}
@@ -28,11 +28,11 @@ module _ (w : ℕ) (n f : List ℕ) where
   -- a name counts only by the reading
   moving-name : (a b file : List ℕ) → reading ConnMan a file ≡ reading ConnMan b file → moving a file w n f ≡ moving b file w n f
   unfolding moving
-  moving-name a b file e = ap (λ (r : Reading). orRefused (askedOf w r) (movingOf (settingOf w file) n f)) e
+  moving-name a b file e = ap (λ (r : Reading). movedIfGood (askedOf w r) (movingOf (serviceSetting w file) n f)) e
 
   moving-large : (name file : List ℕ) → 16384 < length file → moving name file w n f ≡ refuses Size 0
   unfolding moving
-  moving-large name file h = ap (λ (r : Reading). orRefused (askedOf w r) (movingOf (settingOf w file) n f)) (reading-large ConnMan name file h)
+  moving-large name file h = ap (λ (r : Reading). movedIfGood (askedOf w r) (movingOf (serviceSetting w file) n f)) (reading-large ConnMan name file h)
 
   -- 16,385 bytes of a file already earn 1, whatever follows
   pub moving-front : (name file : List ℕ) (m : ℕ) → 16384 < m → moving name (take m file) w n f ≡ moving name file w n f

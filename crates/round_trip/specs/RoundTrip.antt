@@ -28,7 +28,7 @@ use Rattle.records.specs.Record.{Join, laid, laidServers}
 use Rattle.records.specs.Formed.{WellFormed}
 use Rattle.written.specs.Written.{numberRows, blocksOf, fileText, suffixFor, nameText, hasPlace}
 use Rattle.written.specs.LengthLaws.{file-short}
-use Rattle.joins.specs.Joins.{Joined, joined, secretFrom, orFalse, enabledIpv6, iwdSecret, iwdIpv4, iwdJoin, networkName, orRefused, iwdJoined, recordAnswer, serversAfter, iwdRecord, iwdRecordServers}
+use Rattle.joins.specs.Joins.{Joined, joined, secretFrom, orFalse, enabledIpv6, iwdSecret, iwdIpv4, iwdJoin, networkName, iwdJoined, recordAnswer, serversAfter, iwdRecord, iwdRecordServers, joinedIfGood}
 use Rattle.round_trip.specs.Blocks.{bareBlocks, kept, rowValue, rowsIn, rowCount}
 use Rattle.round_trip.specs.Readings.{file-obeys, file-blocks}
 use Rattle.round_trip.specs.RowLookups.{read-rows, has-rows, settings-rows}
@@ -124,7 +124,7 @@ written-accepted j w p =
 -- its record is the one that was written
 pub round-trip : (j : Join) → WellFormed j → hasPlace (j .ipv4) ≡ true → iwdJoined (nameText j) (fileText j) ≡ joined j
 round-trip j w p =
-    ap (λ (r : Reading). orRefused (asked r) (joined (iwdJoin (networkName (networkOf (nameText j))) (iwdEntry (groupsOf j))))) (written-accepted j w p)
+    ap (λ (r : Reading). joinedIfGood (asked r) (joined (iwdJoin (networkName (networkOf (nameText j))) (iwdEntry (groupsOf j))))) (written-accepted j w p)
     ∙ ap joined (join-read j w p)
 
 -- and so are the answers

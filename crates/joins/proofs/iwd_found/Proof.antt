@@ -1,8 +1,6 @@
 -- The record, and the servers of the row.
-use Rattle.names.specs.Names.{networkOf}
 use Rattle.reader.specs.declared.KeyName.the-variants as N
 use Rattle.settings.proofs.Rowwise.{key-in}
-use Rattle.joins.specs.Joins.{networkName}
 use Rattle.joins.proofs.Assembling.{ipv4-row}
 use Rattle.joins.proofs.Asked.{iwd-servers}
 use borrow.Author.Needs.{needs}
@@ -17,4 +15,4 @@ iwd-found-spec =
     (λ c κs. rw (c .base-of .ensures) (key-in N.Dns (ipv4-row (c .before .before .before .before .pre))))
     (λ c κs. (c .before .before .before .before .before .pre, rw (c .before .base-of .ensures) at (c .list-at .ensures .0)))
     (λ c κs. search needs)
-    (λ c. (rw (← c .before .iwd-join .ensures) (c .answered .ensures), iwd-servers (networkName (networkOf (c .before .before .before .before .before .before .before .args .name .now))) (c .before .before .before .before .before .before .before .pre) (rw (c .before .before .before .base-of .ensures) at (c .before .before .list-at .ensures .1)))))
+    (λ c. (rw (← c .before .iwd-join .ensures) (c .answered .ensures), iwd-servers (c .before .before .before .before .before .before .before .args .name .now) (c .before .before .before .before .before .before .before .pre) (rw (c .before .before .before .base-of .ensures) at (c .before .before .list-at .ensures .1)))))

@@ -7,7 +7,7 @@ use Rattle.kinds.specs.Kinds.{string}
 use Rattle.kinds.specs.Answers.{ssidAnswer}
 use Rattle.reader.specs.declared.KeyName.the-variants as N
 use Rattle.settings.proofs.Rowwise.{key-in}
-use Rattle.joins.specs.Answers.{nameOf}
+use Rattle.joins.specs.Answers.{nameRead}
 use borrow.Author.Needs.{needs}
 use Rattle.joins.proofs.parts.service_name.Statement.{statement}
 use Rattle.joins.proofs.parts.service_name.Tie as tie
@@ -20,4 +20,4 @@ service-name-spec =
     (λ c κs. key-in N.Name (c .before .before .pre))
     (λ c κs. search needs)
     (λ c κs. search needs)
-    (λ c. c .name-of .ensures ∙ ap₂ nameOf (c .before .before .before .ssid-at .ensures) (c .before .read-name .ensures ∙ ap (λ (s : List ℕ). ssidAnswer (string ConnMan 1 32 s)) (c .before .before .value-of .ensures))))
+    (λ c. c .name-of .ensures ∙ ap₂ nameRead (c .before .before .before .ssid-at .ensures) (c .before .read-name .ensures ∙ ap (λ (s : List ℕ). ssidAnswer (string ConnMan 1 32 s)) (c .before .before .value-of .ensures))))
