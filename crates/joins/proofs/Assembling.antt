@@ -12,7 +12,7 @@ use Rattle.text.specs.Words.{word}
 use Rattle.text.specs.declared.Dialect.{Dialect}
 use Rattle.text.specs.declared.Dialect.the-variants.{Iwd, ConnMan}
 use Rattle.escapes.specs.Escapes.{unescapeFrom}
-use Rattle.addresses.specs.Addresses.{address, netmask, addresses}
+use Rattle.addresses.specs.Addresses.{address, addressAnswer, addresses}
 use Rattle.addresses.specs.declared.Separator.the-variants.{Spaces, Comma}
 use Rattle.kinds.specs.Kinds.{IPv4, dhcp, off, static, ipv4, ssid, string, passphrase, preSharedKey}
 use Rattle.kinds.specs.Answers.{ssidAnswer, ipv4Answer}
@@ -28,22 +28,22 @@ use Rattle.rules.specs.Asking.{iwdEntry, readAs}
 use Rattle.rules.specs.Reading.{sectionsOf}
 use Rattle.rules.specs.declared.Group.the-variants as G
 use Rattle.reader.specs.History.{base}
-use Rattle.reader.specs.Closing.{bytesOf}
+use Rattle.reader.specs.Closing.{keySlot, bytesOf}
 use Rattle.reader.specs.declared.KeyName.the-variants as N
 use Rattle.settings.specs.Codes.{choiceBy}
 use Rattle.settings.specs.Rows.{RowOf, RowGives, IwdRows}
-use Rattle.settings.proofs.Rowwise.{address-none, netmask-none, addresses-none, ipv4-none, key-none, ssid-none, row-read, row-word}
+use Rattle.settings.proofs.Rowwise.{address-none, addresses-none, ipv4-none, key-none, ssid-none, row-read, row-word, row-mask}
 use Rattle.settings.proofs.IwdFile.{row-of}
 use Rattle.records.specs.Record.{laid}
 use Rattle.records.specs.declared.Ipv6.{Ipv6}
 use Rattle.records.specs.declared.Ipv6.the-variants as Ipv6
 use Rattle.records.specs.declared.JoinRecord.{JoinRecord}
 use Rattle.joins.specs.Joins.{secretFrom, staticOrDhcp, ipv4OrDhcp, orFalse, enabledIpv6, nameFrom, serviceJoin, networkName}
-use Rattle.joins.specs.Answers.{loginAnswer, numbersAnswer, domainAnswer, nameRead}
+use Rattle.joins.specs.Answers.{loginAnswer, numbersRead, domainAnswer, nameRead}
 use Rattle.joins.specs.Places.{IwdFileRows, iwdFileJoin, iwdLoginAt, serviceLoginAt, serviceNameAt, iwdNumbersAt, domainAt, serverCountAt, yesAt, serviceIpv6At, assembled}
 use Rattle.joins.specs.declared.Login.{Login}
 use Rattle.joins.specs.declared.Domain.{Domain}
-use Rattle.joins.proofs.Choosing.{row-choice}
+use Rattle.joins.proofs.Choosing.{row-choice, numbers-given}
 
 -- ---- no string reads as one from no bytes
 
@@ -90,10 +90,10 @@ module _ (name : List ℕ) {file x : List ℕ} (h : IwdFileRows file x) where
       ∙ rw (
         ap (λ (n : IwdName). n .length) p ∙ network-long (networkOf name),
         ap (λ (n : IwdName). n .bytes) p ∙ network-padded (networkOf name),
-        q ∙ ap₂ (λ (a b : Option (List ℕ)). loginAnswer (secretFrom a b)) (row-read N.IwdPassphrase (h .rows .security) (passphrase Iwd) (phrase-none Iwd)) (row-read N.PreSharedKey (h .rows .security) key key-none),
+        q ∙ ap₂ (λ (a b : Option (List ℕ)). loginAnswer (secretFrom a b)) (row-read N.IwdPassphrase (h .rows .security) (passphrase Iwd) (phrase-none Iwd)) (row-read N.PreSharedKey (h .rows .security) preSharedKey key-none),
         s ∙ ap orFalse (row-choice N.IwdHidden (h .rows .general) refl),
-        t ∙ ap₂ (λ (a g : Option (List ℕ)). numbersAnswer (staticOrDhcp a (netmask (bytesOf file x (base G.Ipv4 0) N.Netmask)) g)) (row-read N.Address (h .rows .ipv4) address address-none) (row-read N.Gateway (h .rows .ipv4) address address-none) ∙ ap (λ (m : Option ℕ). numbersAnswer (staticOrDhcp (readAs address (iwdEntry (sectionsOf Iwd file) (word "IPv4") (word "Address"))) m (readAs address (iwdEntry (sectionsOf Iwd file) (word "IPv4") (word "Gateway"))))) (row-read N.Netmask (h .rows .ipv4) netmask netmask-none),
-        u ∙ ap (λ (o : Option (List (List ℕ))). length (plain o)) (row-read N.Dns (h .rows .ipv4) (addresses Spaces) (addresses-none Spaces)),
+        t ∙ ap₂ (λ (a g : Option (List ℕ)). numbersRead (addressAnswer a) (keySlot x (base G.Ipv4 0) N.Netmask .code) (addressAnswer g)) (row-read N.Address (h .rows .ipv4) address address-none) (row-read N.Gateway (h .rows .ipv4) address address-none) ∙ ap (λ (n : ℕ). numbersRead (addressAnswer (readAs address (iwdEntry (sectionsOf Iwd file) (word "IPv4") (word "Address")))) n (addressAnswer (readAs address (iwdEntry (sectionsOf Iwd file) (word "IPv4") (word "Gateway"))))) (row-mask (h .rows .ipv4)) ∙ numbers-given (readAs address (iwdEntry (sectionsOf Iwd file) (word "IPv4") (word "Address"))) (readAs address (iwdEntry (sectionsOf Iwd file) (word "IPv4") (word "Gateway"))) (iwdEntry (sectionsOf Iwd file) (word "IPv4") (word "Netmask")),
+        u ∙ ap (λ (o : Option (List (List ℕ))). length (orEmpty o)) (row-read N.Dns (h .rows .ipv4) (addresses Spaces) (addresses-none Spaces)),
         v ∙ ap domainAnswer (row-read N.DomainName (h .rows .ipv4) (string Iwd 1 253) (string-none Iwd 253)),
         w ∙ ap enabledIpv6 (row-choice N.Enabled (h .rows .ipv6) refl),
       )

@@ -4,7 +4,7 @@ use native.Mathlib.Omega.{arith}
 use mathlib.Core.Path.{_≡_, refl, ap, ap₂, _∙_}
 use mathlib.Core.Bool.{Bool, true, false}
 use mathlib.Core.List.{List}
-use mathlib.Core.Option.{Option, none, some}
+use mathlib.Core.Option.{Option, none, some, Option·none-ne-some}
 use Rattle.addresses.specs.Addresses.{addressAnswer, address, netmask}
 use Rattle.addresses.specs.declared.Address.{Address}
 use Rattle.text.specs.declared.Dialect.{Dialect}
@@ -55,8 +55,12 @@ numbers-chosen none m g h = refl
 numbers-chosen (some a) m none h = rw (or24-is m h)
 numbers-chosen (some a) m (some g) h = rw (or24-is m h)
 
-pub numbers-is : (s t u : List ℕ) {a g : Address} {n : ℕ} {r : Ipv4} → a ≡ addressAnswer (address s) → g ≡ addressAnswer (address u) → n ≡ lengthOr0 (netmask t) → r ≡ numbersRead a n g → r ≡ numbersAnswer (staticOrDhcp (address s) (netmask t) (address u))
-numbers-is s t u p q e f = f ∙ rw (p, q, e) (numbers-chosen (address s) (netmask t) (address u) (λ n h. netmask-good t h .0))
+pub numbers-given : (a g : Option (List ℕ)) (m : Option Entry) → numbersRead (addressAnswer a) (lengthOr0 (readAs netmask m)) (addressAnswer g) ≡ numbersAnswer (staticOrDhcp a (readAs netmask m) g)
+numbers-given a g m = numbers-chosen a (readAs netmask m) g (some-ones m)
+  where
+    some-ones : (m : Option Entry) (n : ℕ) → readAs netmask m ≡ some n → 1 ≤ n
+    some-ones none n h = absurd (Option·none-ne-some n h)
+    some-ones (some e) n h = netmask-good (e .value) h .0
 
 -- ---- a yes/no
 

@@ -5,12 +5,12 @@ use mathlib.Core.Bool.{Bool, cond, _||_}
 use mathlib.Core.List.{List}
 use mathlib.Core.Option.{Option, none}
 use lib.ListN.{length}
-use Rattle.text.specs.Options.{plain}
+use Rattle.text.specs.Options.{orEmpty}
 use Rattle.text.specs.declared.Dialect.{Dialect}
 use Rattle.text.specs.declared.Dialect.the-variants.{Iwd, ConnMan}
-use Rattle.addresses.specs.Addresses.{address, netmask, addresses}
+use Rattle.addresses.specs.Addresses.{address, addressAnswer, addresses}
 use Rattle.addresses.specs.declared.Separator.{Separator}
-use Rattle.kinds.specs.Kinds.{key, ssid, string, passphrase}
+use Rattle.kinds.specs.Kinds.{preSharedKey, ssid, string, passphrase}
 use Rattle.kinds.specs.Answers.{ssidAnswer}
 use Rattle.kinds.specs.declared.Ipv4.{Ipv4}
 use Rattle.kinds.specs.declared.Ssid.{Ssid}
@@ -27,13 +27,13 @@ use Rattle.reader.specs.Closing.{RowInTable, keySlot, slotIs, bytesOf}
 use Rattle.reader.specs.declared.KeyName.{KeyName}
 use Rattle.reader.specs.declared.KeyName.the-variants as N
 use Rattle.settings.specs.Rows.{FourRows}
-use Rattle.settings.specs.Values.{choiceBy}
+use Rattle.settings.specs.Codes.{choiceBy}
 use Rattle.records.specs.Record.{Join}
 use Rattle.records.specs.declared.Ipv6.{Ipv6}
 use Rattle.records.specs.declared.Ipv6.the-variants as Ipv6
 use Rattle.records.specs.declared.JoinRecord.{JoinRecord}
-use Rattle.joins.specs.Joins.{secretFrom, staticOrDhcp, iwdJoin, networkName, Joined, orNoPlace, noRecord, serviceJoin, recordAnswer, serversAfter}
-use Rattle.joins.specs.Answers.{domainAnswer, loginAnswer, numbersAnswer, nameRead, choiceIn, hindrance}
+use Rattle.joins.specs.Joins.{secretFrom, iwdJoin, networkName, Joined, orNoPlace, noRecord, serviceJoin, recordAnswer, serversAfter}
+use Rattle.joins.specs.Answers.{domainAnswer, loginAnswer, numbersRead, nameRead, choiceIn, hindrance}
 use Rattle.joins.specs.declared.Login.{Login}
 use Rattle.joins.specs.declared.Domain.{Domain}
 use Rattle.joins.specs.declared.Hindrance.{Hindrance}
@@ -48,7 +48,7 @@ pub record IwdFileRows (file x : List ℕ) : Type 0 where
 
 abbrev pub iwdLoginAt : List ℕ → List ℕ → ℕ → Login
 iwdLoginAt file x b =
-    loginAnswer (secretFrom (passphrase Iwd (bytesOf file x b N.IwdPassphrase)) (key (bytesOf file x b N.PreSharedKey)))
+    loginAnswer (secretFrom (passphrase Iwd (bytesOf file x b N.IwdPassphrase)) (preSharedKey (bytesOf file x b N.PreSharedKey)))
 
 abbrev pub serviceLoginAt : List ℕ → List ℕ → ℕ → Login
 serviceLoginAt file x b = loginAnswer (secretFrom (passphrase ConnMan (bytesOf file x b N.Passphrase)) none)
@@ -60,14 +60,14 @@ serviceNameAt file x b =
 
 abbrev pub iwdNumbersAt : List ℕ → List ℕ → ℕ → Ipv4
 iwdNumbersAt file x b =
-    numbersAnswer (staticOrDhcp (address (bytesOf file x b N.Address)) (netmask (bytesOf file x b N.Netmask))
-    (address (bytesOf file x b N.Gateway)))
+    numbersRead (addressAnswer (address (bytesOf file x b N.Address))) (keySlot x b N.Netmask .code)
+    (addressAnswer (address (bytesOf file x b N.Gateway)))
 
 abbrev pub domainAt : Dialect → List ℕ → List ℕ → ℕ → KeyName → Domain
 domainAt d file x b k = domainAnswer (string d 1 253 (bytesOf file x b k))
 
 abbrev pub serverCountAt : Separator → List ℕ → List ℕ → ℕ → KeyName → ℕ
-serverCountAt sep file x b k = length (plain (addresses sep (bytesOf file x b k)))
+serverCountAt sep file x b k = length (orEmpty (addresses sep (bytesOf file x b k)))
 
 -- a yes/no by its code
 abbrev pub yesAt : List ℕ → ℕ → KeyName → Option Bool

@@ -255,7 +255,7 @@ pub fn iwd_numbers(file: &[u8], x: &[u16; 976], row: usize) -> Ipv4
 {
     let a = values::address_at(file, x, row, KeyName::Address);
     let g = values::address_at(file, x, row, KeyName::Gateway);
-    let n = values::netmask_at(file, x, row, KeyName::Netmask);
+    let n = values::netmask_at(x, row, KeyName::Netmask);
     numbers_of(a, n, g)
 }
 

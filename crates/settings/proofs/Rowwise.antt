@@ -139,7 +139,7 @@ word-by d l file s o h = by-code chosenBy chosen (wordOf l) wordNumber refl word
 pub flag-by : (d : Dialect) (file : List ℕ) (s : Slot) (o : Option Entry) → SlotKeeps d (some Flag) file s o → choiceBy (s .code) ≡ choice (readAs (flag d) o)
 flag-by d file s o h = by-code choiceBy choice (flag d) flagCode refl flag-back d Flag file s o (λ v c. coded-flag d v c) h
 
-pub mask-by : (d : Dialect) (file : List ℕ) (s : Slot) (o : Option Entry) → SlotKeeps d (some Netmask) file s o → s .code ≡ lengthOr0 (readAs netmask o)
+mask-by : (d : Dialect) (file : List ℕ) (s : Slot) (o : Option Entry) → SlotKeeps d (some Netmask) file s o → s .code ≡ lengthOr0 (readAs netmask o)
 mask-by d file s o h = by-code (λ n. n) lengthOr0 netmask (λ m. m) refl (λ m. refl) d Netmask file s o (λ v c. coded-mask d v c) h
 
 mask-few : (d : Dialect) (file : List ℕ) (s : Slot) (o : Option Entry) → SlotKeeps d (some Netmask) file s o → s .code ≤ 32
@@ -150,16 +150,19 @@ pub mask-in : {d : Dialect} {file x : List ℕ} {b : ℕ} → RowOf d file x b G
 mask-in {d} {file} {x} {b} h = record { table = h .table; small = mask-few d file (keySlot x b N.Netmask) (entryOf (word "Netmask") (h .settings)) (row-key N.Netmask (h .row)) }
 
 -- the same of a key of a row
-module _ {d : Dialect} {file x : List ℕ} {b : ℕ} (k : KeyName) {es : List Entry} (h : Row d file x b (groupOf k) es) where
-  pub row-word : (l : WordList) → kindOf k ≡ Named l → (w : Word) → slotIs x b k w ≡ isWord w (readAs (wordOf l) (entryOf (nameOf k) es))
-  row-word l e w = kept-word d l file (keySlot x b k) (entryOf (nameOf k) es) (subst (λ (i : Kind). Kept d (some i) file (keySlot x b k) (entryOf (nameOf k) es)) e (row-key k h)) w ∙ ap (isWord w) (then-read (entryOf (nameOf k) es))
+module _ {d : Dialect} {file x : List ℕ} {b : ℕ} (k : KeyName) {es : List Entry} (h : RowKeeps d file x b (keyGroup k) es) where
+  pub row-word : (l : WordList) → keyKind k ≡ Named l → (w : Word) → slotIs x b k w ≡ isWord w (readAs (wordOf l) (entryOf (nameOf k) es))
+  row-word l e w = kept-word d l file (keySlot x b k) (entryOf (nameOf k) es) (subst (λ (i : Kind). SlotKeeps d (some i) file (keySlot x b k) (entryOf (nameOf k) es)) e (row-key k h)) w ∙ ap (isWord w) (then-read (entryOf (nameOf k) es))
     where
       then-read : (o : Option Entry) → andThen o (λ e. wordOf l (e .value)) ≡ readAs (wordOf l) o
       then-read none = refl
       then-read (some e) = refl
 
-  pub row-flag : kindOf k ≡ Flag → choiceBy (keySlot x b k .code) ≡ choice (readAs (flag d) (entryOf (nameOf k) es))
-  row-flag e = flag-by d file (keySlot x b k) (entryOf (nameOf k) es) (subst (λ (i : Kind). Kept d (some i) file (keySlot x b k) (entryOf (nameOf k) es)) e (row-key k h))
+  pub row-flag : keyKind k ≡ Flag → choiceBy (keySlot x b k .code) ≡ choice (readAs (flag d) (entryOf (nameOf k) es))
+  row-flag e = flag-by d file (keySlot x b k) (entryOf (nameOf k) es) (subst (λ (i : Kind). SlotKeeps d (some i) file (keySlot x b k) (entryOf (nameOf k) es)) e (row-key k h))
+
+pub row-mask : {d : Dialect} {file x : List ℕ} {b : ℕ} {es : List Entry} → RowKeeps d file x b G.Ipv4 es → keySlot x b N.Netmask .code ≡ lengthOr0 (readAs netmask (entryOf (word "Netmask") es))
+row-mask {d} {file} {x} {b} {es} h = mask-by d file (keySlot x b N.Netmask) (entryOf (word "Netmask") es) (row-key N.Netmask h)
 
 -- ---- the functions
 
@@ -179,7 +182,7 @@ module _ {file x : List ℕ} where
 
   pub security-typed : {l : ℕ} {k : PreSharedKey} → l ≡ keySlot x (base G.Security 0) N.IwdPassphrase .line → k ≡ preSharedKeyAnswer (preSharedKey (bytesOf file x (base G.Security 0) N.PreSharedKey)) → RowGives Iwd file x (base G.Security 0) G.Security securitySettingsOf (record { passphrase = l; «pre_shared_key» = k })
   unfolding keysOf
-  security-typed p q = record { is = λ es h. rw (p ∙ row-line N.IwdPassphrase h, q ∙ ap keyAnswer (row-read N.PreSharedKey h key key-none)) }
+  security-typed p q = record { is = λ es h. rw (p ∙ row-line N.IwdPassphrase h, q ∙ ap preSharedKeyAnswer (row-read N.PreSharedKey h preSharedKey key-none)) }
 
   pub ipv4-typed : {a b c : Address} {m n l : ℕ} {s : Choice} → a ≡ addressAnswer (address (bytesOf file x (base G.Ipv4 0) N.Address)) → b ≡ addressAnswer (address (bytesOf file x (base G.Ipv4 0) N.Gateway)) → c ≡ addressAnswer (address (bytesOf file x (base G.Ipv4 0) N.Broadcast)) → m ≡ keySlot x (base G.Ipv4 0) N.Netmask .code → n ≡ length (orEmpty (addresses Spaces (bytesOf file x (base G.Ipv4 0) N.Dns))) → l ≡ keySlot x (base G.Ipv4 0) N.DomainName .line → s ≡ choiceBy (keySlot x (base G.Ipv4 0) N.SendHostname .code) → RowGives Iwd file x (base G.Ipv4 0) G.Ipv4 ipv4SettingsOf (record { address = a; gateway = b; broadcast = c; netmask = m; dns = n; «domain_name» = l; «send_hostname» = s })
   unfolding keysOf
@@ -190,7 +193,7 @@ module _ {file x : List ℕ} where
               p ∙ ap addressAnswer (row-read N.Address h address address-none),
               q ∙ ap addressAnswer (row-read N.Gateway h address address-none),
               r ∙ ap addressAnswer (row-read N.Broadcast h address address-none),
-              s ∙ mask-by Iwd file (keySlot x (base G.Ipv4 0) N.Netmask) (entryOf (word "Netmask") es) (row-key N.Netmask h),
+              s ∙ row-mask h,
               t ∙ ap (λ (o : Option (List (List ℕ))). length (orEmpty o)) (row-read N.Dns h (addresses Spaces) (addresses-none Spaces)),
               u ∙ row-line N.DomainName h,
               v ∙ flag-by Iwd file (keySlot x (base G.Ipv4 0) N.SendHostname) (entryOf (word "SendHostname") es) (row-key N.SendHostname h),

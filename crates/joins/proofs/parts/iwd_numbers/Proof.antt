@@ -1,8 +1,6 @@
--- The address, the mask and the gateway of the row.
-use Rattle.reader.specs.Closing.{bytesOf}
+-- The address, the mask's length by its code and the gateway of the row.
 use Rattle.reader.specs.declared.KeyName.the-variants as N
-use Rattle.settings.proofs.Rowwise.{key-in}
-use Rattle.joins.proofs.Choosing.{numbers-is}
+use Rattle.settings.proofs.Rowwise.{key-in, mask-in}
 use borrow.Author.Needs.{needs}
 use Rattle.joins.proofs.parts.iwd_numbers.Statement.{statement}
 use Rattle.joins.proofs.parts.iwd_numbers.Tie as tie
@@ -13,6 +11,6 @@ iwd-numbers-spec =
     (tie.spec
     (λ c κs. key-in N.Address (c .before .pre))
     (λ c κs. key-in N.Gateway (c .before .before .pre))
-    (λ c κs. key-in N.Netmask (c .before .before .before .pre))
+    (λ c κs. mask-in (c .before .before .before .pre))
     (λ c κs. search needs)
-    (λ c. numbers-is (bytesOf (c .before .before .before .before .before .args .file .now) (c .before .before .before .before .before .args .x .now) (c .before .before .before .before .before .args .row) N.Address) (bytesOf (c .before .before .before .before .before .args .file .now) (c .before .before .before .before .before .args .x .now) (c .before .before .before .before .before .args .row) N.Netmask) (bytesOf (c .before .before .before .before .before .args .file .now) (c .before .before .before .before .before .args .x .now) (c .before .before .before .before .before .args .row) N.Gateway) (c .before .before .before .address-at .ensures) (c .before .before .address-at2 .ensures) (c .before .netmask-at .ensures) (c .numbers-of .ensures)))
+    (λ c. rw (c .numbers-of .ensures, c .before .netmask-at .ensures, c .before .before .address-at2 .ensures, c .before .before .before .address-at .ensures)))
