@@ -109,7 +109,7 @@ module _ (p : Place) where
   typed-placed d (K.Addresses s) b w e = mapped-placed T.addresses (A.addresses s b) e (λ a. refl)
   typed-placed d K.Entries b w e = mapped-placed T.entries (Kinds.entries b) e (λ a. refl)
   typed-placed d K.Mac b w e = mapped-placed T.bytes (Kinds.mac b) e (λ a. refl)
-  typed-placed d K.Key b w e = mapped-placed T.bytes (Kinds.preSharedKey b) e (λ a. refl)
+  typed-placed d K.PreSharedKey b w e = mapped-placed T.bytes (Kinds.preSharedKey b) e (λ a. refl)
   typed-placed d K.Ssid b w e = mapped-placed T.bytes (Kinds.ssid b) e (λ a. refl)
   typed-placed d K.Passphrase b w e = mapped-placed T.bytes (Kinds.passphrase d b) e (λ a. refl)
   typed-placed d (K.Text low high) b w e = mapped-placed T.bytes (Kinds.string d low high b) e (λ a. refl)

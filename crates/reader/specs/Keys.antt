@@ -26,7 +26,7 @@ keyNamed N.IwdHidden = record { group = G.Settings; name = word "Hidden"; kind =
 keyNamed N.AlwaysRandomizeAddress = record { group = G.Settings; name = word "AlwaysRandomizeAddress"; kind = Flag; slot = 3 }
 keyNamed N.AddressOverride = record { group = G.Settings; name = word "AddressOverride"; kind = Mac; slot = 4 }
 keyNamed N.IwdPassphrase = record { group = G.Security; name = word "Passphrase"; kind = Passphrase; slot = 1 }
-keyNamed N.PreSharedKey = record { group = G.Security; name = word "PreSharedKey"; kind = Kinds.Key; slot = 2 }
+keyNamed N.PreSharedKey = record { group = G.Security; name = word "PreSharedKey"; kind = Kinds.PreSharedKey; slot = 2 }
 keyNamed N.Address = record { group = G.Ipv4; name = word "Address"; kind = Address; slot = 1 }
 keyNamed N.Gateway = record { group = G.Ipv4; name = word "Gateway"; kind = Address; slot = 2 }
 keyNamed N.Broadcast = record { group = G.Ipv4; name = word "Broadcast"; kind = Address; slot = 3 }
