@@ -39,7 +39,7 @@ use Rattle.records.specs.declared.Ipv6.{Ipv6}
 use Rattle.records.specs.declared.Ipv6.the-variants as Ipv6
 use Rattle.records.specs.declared.JoinRecord.{JoinRecord}
 use Rattle.joins.specs.Joins.{secretFrom, staticOrDhcp, ipv4OrDhcp, orFalse, enabledIpv6, nameFrom, serviceJoin, networkName}
-use Rattle.joins.specs.Answers.{loginAnswer, numbersRead, domainAnswer, nameRead}
+use Rattle.joins.specs.Answers.{loginAnswer, numbersAnswer, numbersRead, domainAnswer, nameRead}
 use Rattle.joins.specs.Places.{IwdFileRows, iwdFileJoin, iwdLoginAt, serviceLoginAt, serviceNameAt, iwdNumbersAt, domainAt, serverCountAt, yesAt, serviceIpv6At, assembled}
 use Rattle.joins.specs.declared.Login.{Login}
 use Rattle.joins.specs.declared.Domain.{Domain}

@@ -12,6 +12,7 @@ use crate::parts;
 use addresses::Separator;
 use kinds::Ipv4;
 use reader::KeyName;
+use reader::Places;
 use reader::judging::base_of;
 use records::Ipv6;
 use records::JoinRecord;
@@ -60,7 +61,7 @@ fn assemble(
 }
 
 // The record of an accepted iwd file, which has count name servers.
-pub fn iwd_join(name: &[u8], file: &[u8], x: &[u16; 976], count: usize) -> JoinRecord
+pub fn iwd_join(name: &[u8], file: &[u8], x: &Places, count: usize) -> JoinRecord
     requires rows { ⌜ IwdFileRows (now file) (now x) ⌝ }
     requires counted { ⌜ count ≡ serverCountAt Separator.Spaces (now file) (now x) (base Group.Ipv4 0) KeyName.Dns ⌝ }
     ensures { λ r. ⌜ r ≡ laid (iwdFileJoin (now (name .entry)) (now (file .entry))) ⌝ }
@@ -86,7 +87,7 @@ pub fn iwd_join(name: &[u8], file: &[u8], x: &[u16; 976], count: usize) -> JoinR
 }
 
 // The record of a service that has one, by its row, with count name servers.
-pub fn service_join(file: &[u8], x: &[u16; 976], row: usize, count: usize) -> JoinRecord
+pub fn service_join(file: &[u8], x: &Places, row: usize, count: usize) -> JoinRecord
     requires kept { ⌜ RowOf Dialect.ConnMan (now file) (now x) row Group.Service ⌝ }
     requires counted { ⌜ count ≡ serverCountAt Separator.Comma (now file) (now x) row KeyName.Nameservers ⌝ }
     ensures { λ r. ⌜ RowGives Dialect.ConnMan (now (file .entry)) (now (x .entry)) row Group.Service (λ at. laid (serviceJoin at)) r ⌝ }

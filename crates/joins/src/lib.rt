@@ -14,6 +14,8 @@ ghost use Rattle.joins.specs.Places.{IwdFileRows, iwdFileJoin, RowAnswer
 use addresses::Separator;
 use kinds::Method;
 use reader::KeyName;
+use reader::PLACES;
+use reader::Places;
 use reader::judging::base_of;
 use records::Credential;
 use records::Ipv6;
@@ -102,7 +104,7 @@ fn answered(found: JoinRecord) -> RecordAnswer
 }
 
 // The record of an accepted iwd file.
-fn iwd_found(name: &[u8], file: &[u8], x: &[u16; 976], servers: &mut [[u8; 4]; 4]) -> RecordAnswer
+fn iwd_found(name: &[u8], file: &[u8], x: &Places, servers: &mut [[u8; 4]; 4]) -> RecordAnswer
     requires { ⌜ IwdFileRows (now file) (now x) ⌝ }
     ensures { λ r. ⌜ (r ≡ record { answer = Answer.Good; «record» = laid (iwdFileJoin (now (name .entry)) (now (file .entry))) })
         × (now (servers .exit) ≡ laidServers (iwdFileJoin (now (name .entry)) (now (file .entry)))) ⌝ }
@@ -124,7 +126,7 @@ pub fn iwd_record(name: &[u8], file: &[u8], servers: &mut [[u8; 4]; 4]) -> Recor
     ensures { λ r. ⌜ (r ≡ iwdRecord (now (name .entry)) (now (file .entry)))
         × (now (servers .exit) ≡ iwdRecordServers (now (name .entry)) (now (file .entry)) (now (servers .entry))) ⌝ }
 {
-    let mut x = [0; 976];
+    let mut x = [0; PLACES];
     let reading = pass::read(Dialect::Iwd, name, file, &mut x);
     match reading {
         Reading::Accepted(_, _) => iwd_found(name, file, &x, servers),
@@ -135,7 +137,7 @@ pub fn iwd_record(name: &[u8], file: &[u8], servers: &mut [[u8; 4]; 4]) -> Recor
 // The record of a service that there is, by its row, or the line for which it has none.
 fn service_found(
     file: &[u8],
-    x: &[u16; 976],
+    x: &Places,
     row: usize,
     servers: &mut [[u8; 4]; 4],
 ) -> RecordAnswer
@@ -170,7 +172,7 @@ pub fn service_record(
     ensures { λ r. ⌜ (r ≡ serviceRecord (now (name .entry)) (now (file .entry)) service)
         × (now (servers .exit) ≡ serviceRecordServers (now (name .entry)) (now (file .entry)) service (now (servers .entry))) ⌝ }
 {
-    let mut x = [0; 976];
+    let mut x = [0; PLACES];
     let reading = pass::read(Dialect::ConnMan, name, file, &mut x);
     let answer = asking::asked_of(service, reading);
     match answer {

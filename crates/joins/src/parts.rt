@@ -24,6 +24,7 @@ use kinds::PreSharedKey;
 use kinds::Ssid;
 use kinds::Word;
 use reader::KeyName;
+use reader::Places;
 use reader::services::either;
 use reader::services::is_word;
 use reader::services::line_of;
@@ -165,7 +166,7 @@ fn login_of(phrase: Phrase, psk: PreSharedKey) -> Login
 }
 
 // The credential of an iwd file, by the row of its Security.
-pub fn iwd_login(file: &[u8], x: &[u16; 976], row: usize) -> Login
+pub fn iwd_login(file: &[u8], x: &Places, row: usize) -> Login
     requires { ⌜ RowOf Dialect.Iwd (now file) (now x) row Group.Security ⌝ }
     ensures { λ r. ⌜ r ≡ iwdLoginAt (now (file .entry)) (now (x .entry)) row ⌝ }
 {
@@ -175,7 +176,7 @@ pub fn iwd_login(file: &[u8], x: &[u16; 976], row: usize) -> Login
 }
 
 // The credential of a service, by its row.
-pub fn service_login(file: &[u8], x: &[u16; 976], row: usize) -> Login
+pub fn service_login(file: &[u8], x: &Places, row: usize) -> Login
     requires { ⌜ RowOf Dialect.ConnMan (now file) (now x) row Group.Service ⌝ }
     ensures { λ r. ⌜ r ≡ serviceLoginAt (now (file .entry)) (now (x .entry)) row ⌝ }
 {
@@ -193,7 +194,7 @@ pub fn service_login(file: &[u8], x: &[u16; 976], row: usize) -> Login
 }
 
 // The domain that a key of a row gives.
-pub fn domain_at(d: Dialect, file: &[u8], x: &[u16; 976], row: usize, k: KeyName) -> Domain
+pub fn domain_at(d: Dialect, file: &[u8], x: &Places, row: usize, k: KeyName) -> Domain
     requires { ⌜ ValueInFile (now file) (now x) row k ⌝ }
     ensures { λ r. ⌜ r ≡ domainAt d (now (file .entry)) (now (x .entry)) row k ⌝ }
 {
@@ -201,7 +202,7 @@ pub fn domain_at(d: Dialect, file: &[u8], x: &[u16; 976], row: usize, k: KeyName
 }
 
 // Whether a key of a row says that the network is hidden, which it is not where nothing is said.
-pub fn hidden_at(x: &[u16; 976], row: usize, k: KeyName) -> bool
+pub fn hidden_at(x: &Places, row: usize, k: KeyName) -> bool
     requires { ⌜ RowInTable (now x) row ⌝ }
     ensures { λ r. ⌜ r ≡ orFalse (yesAt (now (x .entry)) row k) ⌝ }
 {
@@ -249,7 +250,7 @@ fn numbers_of(a: Address, n: u8, g: Address) -> Ipv4
 }
 
 // The numbers of an iwd file, by the row of its IPv4.
-pub fn iwd_numbers(file: &[u8], x: &[u16; 976], row: usize) -> Ipv4
+pub fn iwd_numbers(file: &[u8], x: &Places, row: usize) -> Ipv4
     requires { ⌜ RowOf Dialect.Iwd (now file) (now x) row Group.Ipv4 ⌝ }
     ensures { λ r. ⌜ r ≡ iwdNumbersAt (now (file .entry)) (now (x .entry)) row ⌝ }
 {
@@ -260,7 +261,7 @@ pub fn iwd_numbers(file: &[u8], x: &[u16; 976], row: usize) -> Ipv4
 }
 
 // IPv6 of an iwd file, by the row of its IPv6.
-pub fn iwd_ipv6(x: &[u16; 976], row: usize) -> Ipv6
+pub fn iwd_ipv6(x: &Places, row: usize) -> Ipv6
     requires { ⌜ RowInTable (now x) row ⌝ }
     ensures { λ r. ⌜ r ≡ enabledIpv6 (yesAt (now (x .entry)) row KeyName.Enabled) ⌝ }
 {
@@ -273,7 +274,7 @@ pub fn iwd_ipv6(x: &[u16; 976], row: usize) -> Ipv6
 }
 
 // IPv6 of a service, by its row.
-pub fn service_ipv6(x: &[u16; 976], row: usize) -> Ipv6
+pub fn service_ipv6(x: &Places, row: usize) -> Ipv6
     requires { ⌜ RowInTable (now x) row ⌝ }
     ensures { λ r. ⌜ r ≡ serviceIpv6At (now (x .entry)) row ⌝ }
 {
@@ -294,7 +295,7 @@ fn name_of(ssid: Ssid, name: Ssid) -> Ssid
 }
 
 // The name of a service's network, by its row: its SSID, or else its Name.
-pub fn service_name(file: &[u8], x: &[u16; 976], row: usize) -> Ssid
+pub fn service_name(file: &[u8], x: &Places, row: usize) -> Ssid
     requires { ⌜ RowOf Dialect.ConnMan (now file) (now x) row Group.Service ⌝ }
     ensures { λ r. ⌜ r ≡ serviceNameAt (now (file .entry)) (now (x .entry)) row ⌝ }
 {
@@ -304,7 +305,7 @@ pub fn service_name(file: &[u8], x: &[u16; 976], row: usize) -> Ssid
 }
 
 // Whether a service's Security is wep or ieee8021x.
-pub fn is_foreign(x: &[u16; 976], row: usize) -> bool
+pub fn is_foreign(x: &Places, row: usize) -> bool
     requires { ⌜ RowInTable (now x) row ⌝ }
     ensures { λ r. ⌜ r ≡ foreignAt (now (x .entry)) row ⌝ }
 {
@@ -315,7 +316,7 @@ pub fn is_foreign(x: &[u16; 976], row: usize) -> bool
 }
 
 // The line for which a service has no record: ethernet, or Security wep or ieee8021x.
-pub fn hindrance_at(x: &[u16; 976], row: usize) -> Hindrance
+pub fn hindrance_at(x: &Places, row: usize) -> Hindrance
     requires { ⌜ RowInTable (now x) row ⌝ }
     ensures { λ r. ⌜ r ≡ hindranceAt (now (x .entry)) row ⌝ }
 {

@@ -1,7 +1,7 @@
 -- The lookups by a key of the table of places; the seven of `Lookups` are these, by their keys.
 use Prim.Native.Nat.{ℕ, _+_}
 use mathlib.Core.Path.{_≡_}
-use mathlib.Core.Bool.{false}
+use mathlib.Core.Bool.{true, false}
 use mathlib.Core.List.{List}
 use lib.ListN.{length}
 use Rattle.text.specs.Parts.{part}
@@ -12,16 +12,24 @@ use Rattle.rules.specs.ListedValues.{groupDialect}
 use Rattle.rules.specs.declared.Answer.{Answer}
 use Rattle.rules.specs.declared.Answer.the-variants.{Good, Refused}
 use Rattle.rules.specs.declared.Group.{Group}
+use Rattle.rules.specs.declared.Group.the-variants.{Service}
 use Rattle.reader.specs.Store.{Slot}
-use Rattle.reader.specs.Keys.{keyGroup}
+use Rattle.reader.specs.Keys.{keyGroup, keyKind}
+use Rattle.reader.specs.Holds.{isText}
 use Rattle.reader.specs.declared.KeyName.{KeyName}
 use Rattle.lookups.specs.declared.TextPlace.{TextPlace}
 
--- a key of a group that stands once in a file of its dialect
+-- a key whose values are texts, of a group that stands once in a file of its dialect
 pub record StandsOnce (d : Dialect) (g : Group) (k : KeyName) : Type 0 where
   pub group : keyGroup k ≡ g
+  pub text : isText (keyKind k) ≡ true
   pub dialect : groupDialect g ≡ d
   pub once : serves g ≡ false
+
+-- a key whose values are texts, of a service
+pub record ServiceText (k : KeyName) : Type 0 where
+  pub group : keyGroup k ≡ Service
+  pub text : isText (keyKind k) ≡ true
 
 -- where the value of the setting that a slot keeps stands
 abbrev pub slotPlace : List ℕ → Slot → TextPlace

@@ -11,9 +11,9 @@ ghost use lib.ListN.{length};
 ghost use Rattle.text.specs.Parts.{part};
 ghost use Rattle.text.specs.Words.{word};
 ghost use Rattle.rules.specs.ListedValues.{groupName};
-ghost use Rattle.reader.specs.Keys.{keyGroup, keyWord};
+ghost use Rattle.reader.specs.Keys.{keyWord};
 ghost use Rattle.lookups.specs.Lookups.{groupLookup, iwdLookup, globalLookup, serviceLookup, Hands, HandsPlace};
-ghost use Rattle.lookups.specs.ByKey.{StandsOnce};
+ghost use Rattle.lookups.specs.ByKey.{StandsOnce, ServiceText};
 use reader::KeyName;
 use rules::Group;
 use text::Dialect;
@@ -63,7 +63,7 @@ fn service_text<'a>(
     number: &mut u8,
     line: &mut usize,
 ) -> &'a [u8]
-    requires { ⌜ keyGroup k ≡ Group.Service ⌝ }
+    requires { ⌜ ServiceText k ⌝ }
     ensures { λ r. ⌜ Hands (now (file .entry)) (serviceLookup service (keyWord k) (now (name .entry)) (now (file .entry))) (now (number .exit)) (now (line .exit)) (now r) ⌝ }
 {
     hand(

@@ -6,13 +6,15 @@ ghost use mathlib.Core.Path.{_≡_};
 ghost use Prim.Native.Nat.{_≤_};
 ghost use Rattle.text.specs.Words.{word};
 ghost use Rattle.rules.specs.ListedValues.{groupName};
-ghost use Rattle.reader.specs.Keys.{keyGroup, keyWord};
+ghost use Rattle.reader.specs.Keys.{keyWord};
 ghost use Rattle.reader.specs.History.{base};
 ghost use Rattle.reader.specs.Closing.{ValueInFile, keySlot};
 ghost use Rattle.lookups.specs.Lookups.{groupLookup, iwdLookup, globalLookup, serviceLookup, ValuePlace};
-ghost use Rattle.lookups.specs.ByKey.{StandsOnce, slotPlace, answeredPlace};
+ghost use Rattle.lookups.specs.ByKey.{StandsOnce, ServiceText, slotPlace, answeredPlace};
 use crate::TextPlace;
 use reader::KeyName;
+use reader::PLACES;
+use reader::Places;
 use reader::judging::base_of;
 use reader::services::line_of;
 use reader::services::start_of;
@@ -23,7 +25,7 @@ use tables::asking;
 use text::Dialect;
 
 // Where the value of a key stands, in the row that starts at a slot.
-fn key_place(file: &[u8], x: &[u16; 976], row: usize, k: KeyName) -> TextPlace
+fn key_place(file: &[u8], x: &Places, row: usize, k: KeyName) -> TextPlace
     requires { ⌜ ValueInFile (now file) (now x) row k ⌝ }
     ensures { λ r. ⌜ r ≡ slotPlace (now (file .entry)) (keySlot (now (x .entry)) row k) ⌝ }
 {
@@ -40,7 +42,7 @@ fn key_place(file: &[u8], x: &[u16; 976], row: usize, k: KeyName) -> TextPlace
 fn answered_place(
     answer: Answer,
     file: &[u8],
-    x: &[u16; 976],
+    x: &Places,
     g: Group,
     n: usize,
     k: KeyName,
@@ -64,7 +66,7 @@ pub fn group_place(d: Dialect, name: &[u8], file: &[u8], g: Group, k: KeyName) -
     requires { ⌜ StandsOnce d g k ⌝ }
     ensures { λ r. ⌜ ValuePlace (now (file .entry)) (groupLookup d (groupName g) (keyWord k) (now (name .entry)) (now (file .entry))) r ⌝ }
 {
-    let mut places = [0; 976];
+    let mut places = [0; PLACES];
     let read = pass::read(d, name, file, &mut places);
     let answer = asking::asked(read);
     answered_place(answer, file, &places, g, 0, k)
@@ -72,10 +74,10 @@ pub fn group_place(d: Dialect, name: &[u8], file: &[u8], g: Group, k: KeyName) -
 
 // The place of a key of a service, by its number, from 1.
 pub fn service_place(name: &[u8], file: &[u8], service: usize, k: KeyName) -> TextPlace
-    requires { ⌜ keyGroup k ≡ Group.Service ⌝ }
+    requires { ⌜ ServiceText k ⌝ }
     ensures { λ r. ⌜ ValuePlace (now (file .entry)) (serviceLookup service (keyWord k) (now (name .entry)) (now (file .entry))) r ⌝ }
 {
-    let mut places = [0; 976];
+    let mut places = [0; PLACES];
     let read = pass::read(Dialect::ConnMan, name, file, &mut places);
     let answer = asking::asked_of(service, read);
     answered_place(answer, file, &places, Group::Service, service, k)

@@ -9,6 +9,8 @@ ghost use Rattle.mover.specs.Demand.{Moves};
 ghost use Rattle.mover.specs.Places.{MovesBy};
 use addresses::Separator;
 use reader::KeyName;
+use reader::PLACES;
+use reader::Places;
 use reader::judging::base_of;
 use rules::Answer;
 use rules::Group;
@@ -21,7 +23,7 @@ use writer::Written;
 // The move of a service that there is, by its row.
 fn move_found(
     file: &[u8],
-    x: &[u16; 976],
+    x: &Places,
     row: usize,
     name_out: &mut [u8],
     file_out: &mut [u8],
@@ -57,7 +59,7 @@ pub fn move_service(
 ) -> Written
     ensures { λ a. ⌜ Moves (now (name .entry)) (now (file .entry)) service (now («name_out» .entry)) (now («file_out» .entry)) (now («name_out» .exit)) (now («file_out» .exit)) a ⌝ }
 {
-    let mut x = [0; 976];
+    let mut x = [0; PLACES];
     let reading = pass::read(Dialect::ConnMan, name, file, &mut x);
     let answer = asking::asked_of(service, reading);
     match answer {

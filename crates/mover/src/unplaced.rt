@@ -10,6 +10,7 @@ use kinds::Ipv4;
 use kinds::Method;
 use kinds::Word;
 use reader::KeyName;
+use reader::Places;
 use reader::services::is_word;
 use reader::services::line_of;
 use rules::Group;
@@ -33,7 +34,7 @@ fn earlier(a: usize, b: usize) -> usize
 }
 
 // The line of a key, where a test of its value holds.
-fn line_if(holds: bool, x: &[u16; 976], row: usize, k: KeyName) -> usize
+fn line_if(holds: bool, x: &Places, row: usize, k: KeyName) -> usize
     requires { ⌜ RowInTable (now x) row ⌝ }
     ensures { λ r. ⌜ r ≡ slotLineIf holds (now (x .entry)) row k ⌝ }
 {
@@ -59,7 +60,7 @@ fn is_unrouted(numbers: Ipv4) -> bool
 }
 
 // MAC, IPv6.Privacy, SearchDomains and Timeservers, whatever they say.
-fn given_line(x: &[u16; 976], row: usize) -> usize
+fn given_line(x: &Places, row: usize) -> usize
     requires { ⌜ RowInTable (now x) row ⌝ }
     ensures { λ r. ⌜ GivenLine (now (x .entry)) row r ⌝ }
 {
@@ -70,7 +71,7 @@ fn given_line(x: &[u16; 976], row: usize) -> usize
 }
 
 // The earliest of them all: those given, IPv4, Security wep or ieee8021x, and Type ethernet.
-pub fn unplaced_line(file: &[u8], x: &[u16; 976], row: usize) -> usize
+pub fn unplaced_line(file: &[u8], x: &Places, row: usize) -> usize
     requires { ⌜ RowOf Dialect.ConnMan (now file) (now x) row Group.Service ⌝ }
     ensures { λ r. ⌜ RowLine (now (file .entry)) (now (x .entry)) row (λ at. earliest (unplaced at)) r ⌝ }
 {

@@ -13,6 +13,7 @@ pub mod version;
 
 ghost use Rattle.qewaris.specs.Telling.{Checks};
 pub use records::is_well_formed;
+use reader::PLACES;
 use rules::Reading;
 use text::Dialect;
 
@@ -21,6 +22,6 @@ use text::Dialect;
 pub fn check(d: Dialect, name: &[u8], file: &[u8]) -> Reading
     ensures { λ r. ⌜ Checks d (now (name .entry)) (now (file .entry)) r ⌝ }
 {
-    let mut places = [0; 976];
+    let mut places = [0; PLACES];
     pass::read(d, name, file, &mut places)
 }

@@ -37,6 +37,7 @@ use Rattle.settings.specs.declared.Ipv4Settings.{Ipv4Settings}
 use Rattle.settings.specs.declared.IwdSettings.{IwdSettings}
 use Rattle.settings.proofs.Rowwise.{key-in, row-read, flag-by, addresses-none}
 use Rattle.reader.specs.Store.{lastRow, tableLength}
+use Rattle.reader.specs.History.{base}
 
 -- ---- the rows
 
