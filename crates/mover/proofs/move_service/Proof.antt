@@ -1,4 +1,5 @@
 -- There is such a service, or it is refused; demand 3 is the definition's.
+use native.Mathlib.Omega.{arith}
 use Rattle.settings.proofs.ServiceFile.{row-few, found-kept}
 use Rattle.mover.proofs.Moving.{move-good, move-refused}
 use borrow.Author.Needs.{needs}
@@ -12,7 +13,7 @@ move-service-spec =
     (λ c κs. search needs)
     (λ c κs. search needs)
     (λ c. search needs)
-    (λ c κs. row-few (c .before .before .before .before .before .before .before .before .before .args .service) (c .before .before .before .read .ensures) (c .before .before .asked-of .ensures) (c .enum-told .given .1))
+    (λ c κs. omega (arith, row-few (c .before .before .before .before .before .before .before .before .before .args .service) (c .before .before .before .read .ensures) (c .before .before .asked-of .ensures) (c .enum-told .given .1)))
     (λ c κs. found-kept (c .before .before .before .before .before .before .before .before .before .before .before .before .before .args .service) (c .before .before .before .before .before .before .before .read .ensures) (c .before .before .before .before .before .before .asked-of .ensures) (c .before .before .before .before .enum-told .given .1) (c .before .before .before .base-of .ensures))
     (λ c. search needs)
     (λ c κs. search needs)
