@@ -135,12 +135,7 @@ pub fn iwd_record(name: &[u8], file: &[u8], servers: &mut [[u8; 4]; 4]) -> Recor
 }
 
 // The record of a service that there is, by its row, or the line for which it has none.
-fn service_found(
-    file: &[u8],
-    x: &Places,
-    row: usize,
-    servers: &mut [[u8; 4]; 4],
-) -> RecordAnswer
+fn service_found(file: &[u8], x: &Places, row: usize, servers: &mut [[u8; 4]; 4]) -> RecordAnswer
     requires { ⌜ RowOf Dialect.ConnMan (now file) (now x) row Group.Service ⌝ }
     ensures { λ r. ⌜ RowAnswered (now (file .entry)) (now (x .entry)) row (now (servers .entry)) (now (servers .exit)) r ⌝ }
 {

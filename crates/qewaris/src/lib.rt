@@ -12,8 +12,8 @@ pub mod typed;
 pub mod version;
 
 ghost use Rattle.qewaris.specs.Telling.{Checks};
-pub use records::is_well_formed;
 use reader::PLACES;
+pub use records::is_well_formed;
 use rules::Reading;
 use text::Dialect;
 
