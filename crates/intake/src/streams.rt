@@ -1,6 +1,8 @@
 // Standard input and output: the whole input into its buffers, and what a program answers.
 //
-// Where reading fails nothing is whole, so that no file is judged that was cut off.
+// Where reading fails nothing is whole, so that no file is judged that was cut off. What is written is no part of a contract, so
+// each `say` says only that it answers nothing.
+ghost use mathlib.Core.Path.{_≡_};
 ghost use Rattle.intake.specs.Input.{SomeInput};
 use crate::FileBuffer;
 use crate::Input;
@@ -12,16 +14,22 @@ use libc::STDIN_FILENO;
 use libc::STDOUT_FILENO;
 use rules::Refusal;
 
-pub fn say(s: &[u8]) {
+pub fn say(s: &[u8])
+    ensures { λ r. ⌜ r ≡ tt ⌝ }
+{
     io::write_all(STDOUT_FILENO, s);
 }
 
-pub fn say_number(n: usize) {
+pub fn say_number(n: usize)
+    ensures { λ r. ⌜ r ≡ tt ⌝ }
+{
     io::print_decimal(STDOUT_FILENO, n as u64);
 }
 
 // A word, two numbers with a blank between, and the end of the line.
-pub fn say_numbers(word: &[u8], first: usize, second: usize) {
+pub fn say_numbers(word: &[u8], first: usize, second: usize)
+    ensures { λ r. ⌜ r ≡ tt ⌝ }
+{
     say(word);
     say_number(first);
     say(b" ");
@@ -30,13 +38,17 @@ pub fn say_numbers(word: &[u8], first: usize, second: usize) {
 }
 
 // The line of a refusal.
-pub fn say_refused(refusal: Refusal, line: usize) {
+pub fn say_refused(refusal: Refusal, line: usize)
+    ensures { λ r. ⌜ r ≡ tt ⌝ }
+{
     let number = tables::numbers::number_of(refusal);
     say_numbers(b"refused ", number as usize, line);
 }
 
 // A file name as a line, and then the file.
-pub fn say_file(name: &[u8], file: &[u8]) {
+pub fn say_file(name: &[u8], file: &[u8])
+    ensures { λ r. ⌜ r ≡ tt ⌝ }
+{
     say(name);
     say(b"\n");
     say(file);

@@ -1,2 +1,2 @@
--- ---- for proofs only: what one pass answers, which is what rules `Reading` says, and what it leaves in the table of places
+-- ---- for proofs only: what one pass answers (what rules `Reading` says), and what it leaves in the table of places
 pub mod Pass

@@ -27,7 +27,7 @@ use Rattle.rules.specs.Sections.{Entry, given, entryOf}
 use Rattle.rules.specs.WordNumbers.{isWord, wordNumber}
 use Rattle.tables.specs.KeyPlaces.{keyNames}
 use Rattle.reader.specs.Store.{Slot, slot}
-use Rattle.reader.specs.Keys.{keyPlace, keyGroup, keyWord as nameOf, keyKind}
+use Rattle.reader.specs.Keys.{keyPlace, keyGroup, keyWord, keyKind}
 use Rattle.reader.specs.KeyLaws.{listed-kind, listed-placed, listed-few}
 use Rattle.reader.specs.Holds.{flagCode, codeOf, Coded, SlotKeeps, RowKeeps}
 use Rattle.reader.specs.Closing.{RowInTable, ValueInFile, keySlot, isTaken, slotIs, slotsRule}
@@ -38,16 +38,19 @@ use Rattle.reader.proofs.Rows.{given-entry, kept-given}
 -- ---- what a row keeps of a key
 
 module _ {d : Dialect} {file x : List ℕ} {b : ℕ} (k : KeyName) {es : List Entry} (h : RowKeeps d file x b (keyGroup k) es) where
-  pub row-key : SlotKeeps d (some (keyKind k)) file (slot (b + keyPlace k) x) (entryOf (nameOf k) es)
-  row-key = rw (← listed-placed k, ← listed-kind k) (h .each (nameOf k) (λ z. let p = listed-few k .0 in omega (arith, z, p, listed-placed k)))
+  key-kept : SlotKeeps d (some (keyKind k)) file (slot (b + place (keyWord k) (keyNames (keyGroup k))) x) (entryOf (keyWord k) es)
+  key-kept = rw (← listed-kind k) (h .each (keyWord k) (λ z. let p = listed-few k .0 in omega (arith, z, p, listed-placed k)))
+
+  pub row-key : SlotKeeps d (some (keyKind k)) file (slot (b + keyPlace k) x) (entryOf (keyWord k) es)
+  row-key = rw (← listed-placed k) key-kept
 
   -- a slot of a row is taken where its key is given
-  pub taken-given : isTaken x b k ≡ given (nameOf k) es
-  taken-given = sym (kept-given d (some (keyKind k)) file (slot (b + keyPlace k) x) (entryOf (nameOf k) es) row-key refl) ∙ sym (given-entry (nameOf k) es)
+  pub taken-given : isTaken x b k ≡ given (keyWord k) es
+  taken-given = sym (kept-given d (some (keyKind k)) file (slot (b + place (keyWord k) (keyNames (keyGroup k))) x) (entryOf (keyWord k) es) key-kept refl) ∙ sym (given-entry (keyWord k) es)
 
   -- what a row keeps of a key lies in the file
   pub row-in : RowInTable x b → ValueInFile file x b k
-  row-in t = go (entryOf (nameOf k) es) row-key
+  row-in t = go (entryOf (keyWord k) es) row-key
     where
       go : (o : Option Entry) → SlotKeeps d (some (keyKind k)) file (keySlot x b k) o → ValueInFile file x b k
       go none q = record { table = t; low = rw (ap (λ (s : Slot). s .start) q, ap (λ (s : Slot). s .end) q) (le-refl 0); high = rw (ap (λ (s : Slot). s .end) q) (omega arith) }

@@ -44,5 +44,6 @@ endAnswer P.Nothing n m = Accepted n m
 endAnswer (P.At r l) n m = Refused r l
 
 pub record EndSays (k : FileKind) (st : State) (x : List ℕ) (r : Reading) : Type 0 where
-  pub reading : (n : Name) → k ≡ kindOfName (some n) → {file : List ℕ} (gs : List Section) → HoldsGroups (nameDialect n) file st x gs → r ≡ verdict (groupsFault n (reverse gs)) (reverse gs)
+  pub reading : (n : Name) → k ≡ kindOfName (some n) → {file : List ℕ} (gs : List Section)
+      → HoldsGroups (nameDialect n) file st x gs → r ≡ verdict (groupsFault n (reverse gs)) (reverse gs)
   pub counted : {n m : ℕ} → r ≡ Accepted n m → m ≡ st .services

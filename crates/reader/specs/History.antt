@@ -39,7 +39,12 @@ abbrev pub nameBase : ℕ
 nameBase = lastRow + rowLength
 
 unfoldable pub groupAt : ℕ → Group
-groupAt r = cond (eqb r 0) Settings (cond (eqb r 1) Security (cond (eqb r 2) Ipv4 (cond (eqb r 3) Ipv6 (cond (eqb r 4) Global Service))))
+groupAt r =
+    cond (eqb r 0) Settings
+    (cond (eqb r 1) Security
+    (cond (eqb r 2) Ipv4
+    (cond (eqb r 3) Ipv6
+    (cond (eqb r 4) Global Service))))
 
 -- the row of a group that stands after others
 abbrev pub rowAfter : Section → List Section → ℕ
@@ -57,4 +62,5 @@ latest r (s ∷ gs) = cond (eqb r (rowAfter s gs)) (s .entries) (latest r gs)
 
 abbrev pub headSlot : ℕ → List Section → Slot
 headSlot r [] = emptySlot
-headSlot r (s ∷ gs) = cond (eqb r (rowAfter s gs)) (record { start = s .start; end = s .start; line = s .line; code = 0 }) (headSlot r gs)
+headSlot r (s ∷ gs) =
+    cond (eqb r (rowAfter s gs)) (record { start = s .start; end = s .start; line = s .line; code = 0 }) (headSlot r gs)

@@ -82,12 +82,14 @@ SlotKeeps d k file s (some x) = SlotSays d k file s x
 
 -- a row from b on: of each key of the group g, by its place there, the setting among es
 pub record RowKeeps (d : Dialect) (file x : List ℕ) (b : ℕ) (g : Group) (es : List Entry) : Type 0 where
-  pub each : (k : List ℕ) → (place k (keyNames g) ≡ 0 → ⊥) → SlotKeeps d (kindOf g k) file (slot (b + place k (keyNames g)) x) (entryOf k es)
+  pub each : (k : List ℕ) → (place k (keyNames g) ≡ 0 → ⊥)
+      → SlotKeeps d (kindOf g k) file (slot (b + place k (keyNames g)) x) (entryOf k es)
 
 -- each group is the one that its name names, has a line, and was not named before
 abbrev pub WellNamed : Dialect → List Section → Type 0
 WellNamed d [] = Unit
-WellNamed d (s ∷ gs) = (groupOf d (s .name) ≡ some (s .group)) × (0 < s .line) × (nameGiven (s .name) gs ≡ false) × WellNamed d gs
+WellNamed d (s ∷ gs) =
+    (groupOf d (s .name) ≡ some (s .group)) × (0 < s .line) × (nameGiven (s .name) gs ≡ false) × WellNamed d gs
 
 -- all rows
 pub record RowsKeep (d : Dialect) (file x : List ℕ) (gs : List Section) : Type 0 where
@@ -98,11 +100,13 @@ pub record RowsKeep (d : Dialect) (file x : List ℕ) (gs : List Section) : Type
 -- the names of the first n services: that they lie in the file, and whether w is one of them
 pub record Spans (file x : List ℕ) (n : ℕ) : Type 0 where
   pub few : n ≤ 8
-  pub each : (i : ℕ) → i < n → (slot (nameBase + i) x .start ≤ slot (nameBase + i) x .end) × (slot (nameBase + i) x .end ≤ length file)
+  pub each : (i : ℕ) → i < n
+      → (slot (nameBase + i) x .start ≤ slot (nameBase + i) x .end) × (slot (nameBase + i) x .end ≤ length file)
 
 abbrev pub among : List ℕ → List ℕ → ℕ → List ℕ → Bool
 among file x zero w = false
-among file x (suc i) w = same w (part (slot (nameBase + i) x .start) (slot (nameBase + i) x .end) file) || among file x i w
+among file x (suc i) w =
+    same w (part (slot (nameBase + i) x .start) (slot (nameBase + i) x .end) file) || among file x i w
 
 -- where the settings and the header of each group stand
 pub record TableKeeps (d : Dialect) (file x : List ℕ) (gs : List Section) : Type 0 where

@@ -1,4 +1,4 @@
--- The keys that document 01 lists, by name: each with its group, its word, its kind, and its place in the row of its group.
+-- The keys that document 01 lists, by name: each with its group, its word, its kind, and its place in the group's row.
 use Prim.Native.Nat.{ℕ}
 use mathlib.Core.List.{List}
 use Rattle.text.specs.Words.{word}
@@ -23,7 +23,8 @@ pub record NamedKey : Type 0 where
 abbrev pub keyNamed : KeyName → NamedKey
 keyNamed N.AutoConnect = record { group = G.Settings; name = word "AutoConnect"; kind = Flag; slot = 1 }
 keyNamed N.IwdHidden = record { group = G.Settings; name = word "Hidden"; kind = Flag; slot = 2 }
-keyNamed N.AlwaysRandomizeAddress = record { group = G.Settings; name = word "AlwaysRandomizeAddress"; kind = Flag; slot = 3 }
+keyNamed N.AlwaysRandomizeAddress =
+    record { group = G.Settings; name = word "AlwaysRandomizeAddress"; kind = Flag; slot = 3 }
 keyNamed N.AddressOverride = record { group = G.Settings; name = word "AddressOverride"; kind = Mac; slot = 4 }
 keyNamed N.IwdPassphrase = record { group = G.Security; name = word "Passphrase"; kind = Passphrase; slot = 1 }
 keyNamed N.PreSharedKey = record { group = G.Security; name = word "PreSharedKey"; kind = Kinds.PreSharedKey; slot = 2 }

@@ -44,7 +44,9 @@ abbrev pub SettingIs : Dialect → List ℕ → List Section → Place → Place
 SettingIs d file gs key value Blank = ⊥
 SettingIs d file gs key value Comment = ⊥
 SettingIs d file gs key value (Header p) = ⊥
-SettingIs d file gs key value (Setting i v) = (fault d gs (setting (partAt file key) (partAt file value)) ≡ none) × NewSetting d gs (partAt file key) (partAt file value) i value v
+SettingIs d file gs key value (Setting i v) =
+    (fault d gs (setting (partAt file key) (partAt file value)) ≡ none)
+    × NewSetting d gs (partAt file key) (partAt file value) i value v
 SettingIs d file gs key value (Refused r) = fault d gs (setting (partAt file key) (partAt file value)) ≡ some r
 
 -- the code of a value

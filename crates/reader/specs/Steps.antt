@@ -1,4 +1,4 @@
--- What one line does: its fault after groups for which the state and the table hold, and what they hold after a good one.
+-- What one line does: its fault after groups which the state and the table hold, and what they hold after a good one.
 use Prim.Native.Nat.{ℕ, _+_}
 use mathlib.Core.Path.{_≡_}
 use mathlib.Core.Bool.{true, false}
@@ -30,7 +30,8 @@ use Rattle.reader.specs.declared.Stepped.the-variants.{Goes, Stops}
 -- ---- what the line l is, which starts at s in the file
 
 -- a good setting: its value, which stands at a place of the file, is v, and i is its key's slot
-pub record GoodSetting (d : Dialect) (file : List ℕ) (gs : List Section) (s : ℕ) (l : List ℕ) (i : ℕ) (v : Value) : Type 0 where
+pub record GoodSetting (d : Dialect) (file : List ℕ) (gs : List Section) (s : ℕ) (l : List ℕ) (i : ℕ) (v : Value)
+    : Type 0 where
   pub key : List ℕ
   pub place : Place
   pub is : lineOf d l ≡ setting key (partAt file place)
@@ -57,9 +58,14 @@ headerSlot s l = record { start = s; end = s; line = l; code = 0 }
 abbrev pub nameSlot : Place → ℕ → Slot
 nameSlot p l = record { start = p .start; end = p .end; line = l; code = 0 }
 
-pub record Opened (st : State) (x : List ℕ) (g : Group) (s : ℕ) (p : Place) (l : ℕ) (r : State) (y : List ℕ) : Type 0 where
-  pub plain : serves g ≡ false → (y ≡ stored (base g (st .services)) (headerSlot s l) x) × (r ≡ record { current = In g (base g (st .services)); services = st .services; settings = st .settings })
-  pub service : serves g ≡ true → (y ≡ stored (nameBase + st .services) (nameSlot p l) (stored (base g (st .services + 1)) (headerSlot s l) x)) × (r ≡ record { current = In g (base g (st .services + 1)); services = st .services + 1; settings = st .settings })
+pub record Opened (st : State) (x : List ℕ) (g : Group) (s : ℕ) (p : Place) (l : ℕ) (r : State) (y : List ℕ)
+    : Type 0 where
+  pub plain : serves g ≡ false
+      → (y ≡ stored (base g (st .services)) (headerSlot s l) x)
+      × (r ≡ record { current = In g (base g (st .services)); services = st .services; settings = st .settings })
+  pub service : serves g ≡ true
+      → (y ≡ stored (nameBase + st .services) (nameSlot p l) (stored (base g (st .services + 1)) (headerSlot s l) x))
+      × (r ≡ record { current = In g (base g (st .services + 1)); services = st .services + 1; settings = st .settings })
 
 -- ---- a line p, whose number is n, which starts at s and in which a value starts at v
 
@@ -72,5 +78,6 @@ abbrev pub StepIs : Dialect → List ℕ → List Section → ℕ → ℕ → �
 StepIs d file gs n s v p y (Goes st) = (fault d gs p ≡ none) × HoldsGroups d file st y (withLine d n s v p gs)
 StepIs d file gs n s v p y (Stops r) = fault d gs p ≡ some r
 
-pub record StepSays (d : Dialect) (file : List ℕ) (st : State) (x : List ℕ) (n s v : ℕ) (p : Lines.Line) (y : List ℕ) (r : Stepped) : Type 0 where
+pub record StepSays (d : Dialect) (file : List ℕ) (st : State) (x : List ℕ) (n s v : ℕ) (p : Lines.Line)
+    (y : List ℕ) (r : Stepped) : Type 0 where
   pub says : (gs : List Section) → HoldsGroups d file st x gs → StepIs d file gs n s v p y r

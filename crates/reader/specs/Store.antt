@@ -36,14 +36,21 @@ pub record Slot : Type 0 where
   pub code : ℕ
 
 abbrev pub slot : ℕ → List ℕ → Slot
-slot i x = record { start = getD x i 0; end = getD x (slotCount + i) 0; line = getD x (linesFrom + i) 0; code = getD x (codesFrom + i) 0 }
+slot i x =
+    record {
+      start = getD x i 0;
+      end = getD x (slotCount + i) 0;
+      line = getD x (linesFrom + i) 0;
+      code = getD x (codesFrom + i) 0;
+    }
 
 abbrev pub emptySlot : Slot
 emptySlot = record { start = 0; end = 0; line = 0; code = 0 }
 
 -- a table with one slot anew
 unfoldable pub stored : ℕ → Slot → List ℕ → List ℕ
-stored i s x = set (set (set (set x i (s .start)) (slotCount + i) (s .end)) (linesFrom + i) (s .line)) (codesFrom + i) (s .code)
+stored i s x =
+    set (set (set (set x i (s .start)) (slotCount + i) (s .end)) (linesFrom + i) (s .line)) (codesFrom + i) (s .code)
 
 -- a place and its line fit the table
 pub record FitsSlot (start end line : ℕ) : Type 0 where

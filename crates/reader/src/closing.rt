@@ -2,7 +2,7 @@
 ghost use mathlib.Core.Path.{_≡_};
 ghost use Prim.Native.Nat.{_≤_};
 ghost use lib.ListN.{length};
-ghost use Rattle.reader.specs.Closing.{RowInTable, slotsUnnamed, slotsKeyless, slotsLack, slotsWireless, slotsClash, slotsRule, ruleAnswer, pendingOf, slotsFault};
+ghost use Rattle.reader.specs.Closing.{RowInTable, slotsNameless, slotsKeyless, slotsLack, slotsWireless, slotsClash, slotsRule, ruleAnswer, pendingOf, slotsFault};
 ghost use Rattle.reader.specs.Store.{tableLength};
 use crate::KeyName;
 use crate::LINES;
@@ -19,9 +19,9 @@ use kinds::Word;
 use rules::Refusal;
 
 // Whether a wireless service has neither a name nor an SSID.
-fn unnamed(x: &Places, row: usize) -> bool
+fn nameless(x: &Places, row: usize) -> bool
     requires { ⌜ RowInTable (now x) row ⌝ }
-    ensures { λ r. ⌜ r ≡ slotsUnnamed (now (x .entry)) row ⌝ }
+    ensures { λ r. ⌜ r ≡ slotsNameless (now (x .entry)) row ⌝ }
 {
     let wifi = is_word(x, row, KeyName::Type, Word::Wifi);
     both(
@@ -46,7 +46,7 @@ fn lacks(x: &Places, row: usize) -> bool
 {
     either(
         !taken(x, row, KeyName::Type),
-        either(unnamed(x, row), keyless(x, row)),
+        either(nameless(x, row), keyless(x, row)),
     )
 }
 

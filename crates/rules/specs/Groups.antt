@@ -34,24 +34,40 @@ typeIs w es = isWord w (wordGiven W.ServiceType (word "Type") es)
 abbrev pub securityIs : Word → List Entry → Bool
 securityIs w es = isWord w (wordGiven W.Security (word "Security") es)
 
+-- The rules are said over any way to tell which keys are given, and whether Type and Security are a word: by the settings
+-- below, by the table of places in reader.
+
 -- "ConnMan 14: Type missing; wifi with neither Name nor SSID; Security psk without Passphrase."
-abbrev pub lacks : List Entry → Bool
-lacks es =
-    not (given (word "Type") es)
-    || ((typeIs Wifi es && not (given (word "Name") es || given (word "SSID") es))
-    || (securityIs Psk es && not (given (word "Passphrase") es)))
+abbrev pub namelessBy : (List ℕ → Bool) → (Word → Bool) → Bool
+namelessBy has type = type Wifi && not (has (word "Name") || has (word "SSID"))
+
+abbrev pub keylessBy : (List ℕ → Bool) → (Word → Bool) → Bool
+keylessBy has security = security Psk && not (has (word "Passphrase"))
+
+abbrev pub lacksBy : (List ℕ → Bool) → (Word → Bool) → (Word → Bool) → Bool
+lacksBy has type security = not (has (word "Type")) || (namelessBy has type || keylessBy has security)
 
 -- "ConnMan 15: ethernet with Name, SSID, Passphrase, Security or Hidden; Security none with Passphrase."
+abbrev pub wirelessBy : (List ℕ → Bool) → Bool
+wirelessBy has =
+    has (word "Name")
+    || (has (word "SSID")
+    || (has (word "Passphrase")
+    || (has (word "Security")
+    || has (word "Hidden"))))
+
+abbrev pub clashesBy : (List ℕ → Bool) → (Word → Bool) → (Word → Bool) → Bool
+clashesBy has type security = (type Ethernet && wirelessBy has) || (security None && has (word "Passphrase"))
+
+-- by the settings
+abbrev pub lacks : List Entry → Bool
+lacks es = lacksBy (λ k. given k es) (λ w. typeIs w es) (λ w. securityIs w es)
+
 abbrev pub wireless : List Entry → Bool
-wireless es =
-    given (word "Name") es
-    || (given (word "SSID") es
-    || (given (word "Passphrase") es
-    || (given (word "Security") es
-    || given (word "Hidden") es)))
+wireless es = wirelessBy (λ k. given k es)
 
 abbrev pub clashes : List Entry → Bool
-clashes es = (typeIs Ethernet es && wireless es) || (securityIs None es && given (word "Passphrase") es)
+clashes es = clashesBy (λ k. given k es) (λ w. typeIs w es) (λ w. securityIs w es)
 
 unfoldable pub serviceFault : List Entry → Option Refusal
 serviceFault es = lackOrClash (lacks es) (clashes es)
@@ -70,23 +86,39 @@ servicesFault (g ∷ gs) = orElse (sectionFault g) (servicesFault gs)
 abbrev pub has : List ℕ → List ℕ → List Section → Bool
 has n k gs = given k (entriesIn n gs)
 
-abbrev pub hasSecret : List Section → Bool
-hasSecret gs = has (word "Security") (word "Passphrase") gs || has (word "Security") (word "PreSharedKey") gs
-
 abbrev pub isOpen : Suffix → Bool
 isOpen S.Open = true
 isOpen S.Psk = false
 
 -- "iwd 14: .psk with neither key ..; Address without Gateway; Gateway, Netmask or Broadcast without Address."
-abbrev pub fileLacks : Suffix → List Section → Bool
-fileLacks s gs =
-    (not (isOpen s) && not (hasSecret gs))
-    || ((has (word "IPv4") (word "Address") gs && not (has (word "IPv4") (word "Gateway") gs))
-    || ((has (word "IPv4") (word "Gateway") gs || (has (word "IPv4") (word "Netmask") gs || has (word "IPv4") (word "Broadcast") gs)) && not (has (word "IPv4") (word "Address") gs)))
+-- Of the groups Security and IPv4 is told which keys are given.
+abbrev pub secretBy : (List ℕ → Bool) → Bool
+secretBy security = security (word "Passphrase") || security (word "PreSharedKey")
+
+abbrev pub gatewaylessBy : (List ℕ → Bool) → Bool
+gatewaylessBy ipv4 = ipv4 (word "Address") && not (ipv4 (word "Gateway"))
+
+abbrev pub addresslessBy : (List ℕ → Bool) → Bool
+addresslessBy ipv4 =
+    (ipv4 (word "Gateway") || (ipv4 (word "Netmask") || ipv4 (word "Broadcast"))) && not (ipv4 (word "Address"))
+
+abbrev pub fileLacksBy : Suffix → (List ℕ → Bool) → (List ℕ → Bool) → Bool
+fileLacksBy s security ipv4 =
+    (not (isOpen s) && not (secretBy security)) || (gatewaylessBy ipv4 || addresslessBy ipv4)
 
 -- "iwd 15: .open with either key."
+abbrev pub fileClashesBy : Suffix → (List ℕ → Bool) → Bool
+fileClashesBy s security = isOpen s && secretBy security
+
+-- by the settings
+abbrev pub hasSecret : List Section → Bool
+hasSecret gs = secretBy (λ k. has (word "Security") k gs)
+
+abbrev pub fileLacks : Suffix → List Section → Bool
+fileLacks s gs = fileLacksBy s (λ k. has (word "Security") k gs) (λ k. has (word "IPv4") k gs)
+
 abbrev pub fileClashes : Suffix → List Section → Bool
-fileClashes s gs = isOpen s && hasSecret gs
+fileClashes s gs = fileClashesBy s (λ k. has (word "Security") k gs)
 
 -- "iwd 0": the line
 unfoldable pub fileFault : Suffix → List Section → Option Fault

@@ -37,11 +37,13 @@ serviceAnswerOf Good es = record { answer = Good; settings = serviceSettings (λ
 serviceAnswerOf (Refused r l) es = record { answer = Refused r l; settings = serviceSettings (λ k. none) }
 
 abbrev pub serviceAnswered : List ℕ → List ℕ → ℕ → ServiceAnswer
-serviceAnswered name file w = serviceAnswerOf (askedOf w (reading ConnMan name file)) (serviceAt w (sectionsOf ConnMan file))
+serviceAnswered name file w =
+    serviceAnswerOf (askedOf w (reading ConnMan name file)) (serviceAt w (sectionsOf ConnMan file))
 
 abbrev pub serviceServersOf : Answer → List Entry → List (List ℕ) → List (List ℕ)
 serviceServersOf Good es old = serviceServers (λ k. entryOf k es)
 serviceServersOf (Refused r l) es old = old
 
 abbrev pub serviceServersAfter : List ℕ → List ℕ → ℕ → List (List ℕ) → List (List ℕ)
-serviceServersAfter name file w old = serviceServersOf (askedOf w (reading ConnMan name file)) (serviceAt w (sectionsOf ConnMan file)) old
+serviceServersAfter name file w old =
+    serviceServersOf (askedOf w (reading ConnMan name file)) (serviceAt w (sectionsOf ConnMan file)) old

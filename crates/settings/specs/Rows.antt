@@ -31,7 +31,8 @@ pub record MaskIn (x : List ℕ) (b : ℕ) (k : KeyName) : Type 0 where
   pub small : keySlot x b k .code ≤ 32
 
 -- what is read by a row is what is read of the settings that it keeps
-pub record RowGives {A : Type 0} (d : Dialect) (file x : List ℕ) (b : ℕ) (g : Group) (f : (List ℕ → Option Entry) → A) (r : A) : Type 0 where
+pub record RowGives {A : Type 0} (d : Dialect) (file x : List ℕ) (b : ℕ) (g : Group)
+    (f : (List ℕ → Option Entry) → A) (r : A) : Type 0 where
   pub is : (es : List Entry) → RowKeeps d file x b g es → r ≡ f (λ k. entryOf k es)
 
 -- ---- an iwd file

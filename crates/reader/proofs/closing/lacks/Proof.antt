@@ -12,4 +12,4 @@ lacks-spec =
     (λ c κs. search needs)
     (λ c κs. search needs)
     (λ c κs. search needs)
-    (λ c. rw (c .either2 .ensures, c .before .either .ensures, c .before .before .keyless .ensures, c .before .before .before .unnamed .ensures, c .before .before .before .before .taken .ensures)))
+    (λ c. rw (c .either2 .ensures, c .before .either .ensures, c .before .before .keyless .ensures, c .before .before .before .nameless .ensures, c .before .before .before .before .taken .ensures)))

@@ -1,7 +1,7 @@
 -- The line at the slot.
 use native.Mathlib.Omega.{arith}
 use mathlib.Core.Path.{refl, sym}
-use Rattle.reader.specs.KeyLaws.{listed-few}
+use Rattle.reader.specs.KeyLaws.{listed-few, listed-placed}
 use borrow.Author.Needs.{needs}
 use Rattle.reader.proofs.services.taken.Statement.{statement}
 use Rattle.reader.proofs.services.taken.Tie as tie
@@ -15,4 +15,4 @@ taken-spec =
     (λ c. omega (arith, c .key-place .ensures, listed-few (c .before .args .k) .1, c .before .pre .row))
     (λ c. omega (arith, c .key-place .ensures, listed-few (c .before .args .k) .1, c .before .pre .row))
     (λ c. omega (arith, c .key-place .ensures, listed-few (c .before .args .k) .1, c .before .pre .row, c .before .pre .long))
-    (λ c. rw (sym (c .before .key-place .ensures)) refl))
+    (λ c. rw (listed-placed (c .before .before .args .k), sym (c .before .key-place .ensures)) refl))

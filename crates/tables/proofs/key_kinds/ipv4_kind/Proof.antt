@@ -2,7 +2,7 @@
 use mathlib.Core.Path.{ap, sym}
 use Rattle.rules.specs.Tables.{keysOf}
 use Rattle.tables.specs.KeyPlaces.{kindAnswer}
-use Rattle.tables.proofs.KindPlaces.{at-place-out, past}
+use Rattle.tables.proofs.KindPlaces.{at-place-none}
 use Rattle.rules.specs.declared.Group.the-variants.{Ipv4}
 use borrow.Author.Needs.{needs}
 use Rattle.tables.proofs.key_kinds.ipv4_kind.Statement.{statement}
@@ -20,4 +20,4 @@ ipv4-kind-spec =
     (λ c. rw (c .match .keys5))
     (λ c. rw (c .match .keys6))
     (λ c. rw (c .match .keys7))
-    (λ c. ap kindAnswer (sym (at-place-out (c .before .args .n) (keysOf Ipv4) (λ h. past _ 7 (past _ 6 (past _ 5 (past _ 4 (past _ 3 (past _ 2 (past _ 1 h (c .match .rest .0 .0 .0 .0 .0 .0 .1)) (c .match .rest .0 .0 .0 .0 .0 .1)) (c .match .rest .0 .0 .0 .0 .1)) (c .match .rest .0 .0 .0 .1)) (c .match .rest .0 .0 .1)) (c .match .rest .0 .1)) (c .match .rest .1))))))
+    (λ c. ap kindAnswer (sym (at-place-none (c .before .args .n) (keysOf Ipv4) (c .match .rest)))))

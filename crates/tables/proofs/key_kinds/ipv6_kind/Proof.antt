@@ -2,7 +2,7 @@
 use mathlib.Core.Path.{ap, sym}
 use Rattle.rules.specs.Tables.{keysOf}
 use Rattle.tables.specs.KeyPlaces.{kindAnswer}
-use Rattle.tables.proofs.KindPlaces.{at-place-out, past}
+use Rattle.tables.proofs.KindPlaces.{at-place-none}
 use Rattle.rules.specs.declared.Group.the-variants.{Ipv6}
 use borrow.Author.Needs.{needs}
 use Rattle.tables.proofs.key_kinds.ipv6_kind.Statement.{statement}
@@ -14,4 +14,4 @@ ipv6-kind-spec =
     tie.close
     (tie.spec
     (λ c. rw (c .match .keys1))
-    (λ c. ap kindAnswer (sym (at-place-out (c .before .args .n) (keysOf Ipv6) (λ h. past _ 1 h (c .match .rest .1))))))
+    (λ c. ap kindAnswer (sym (at-place-none (c .before .args .n) (keysOf Ipv6) (c .match .rest)))))

@@ -2,7 +2,7 @@
 use mathlib.Core.Path.{ap, sym}
 use Rattle.rules.specs.Tables.{keysOf}
 use Rattle.tables.specs.KeyPlaces.{kindAnswer}
-use Rattle.tables.proofs.KindPlaces.{at-place-out, past}
+use Rattle.tables.proofs.KindPlaces.{at-place-none}
 use Rattle.rules.specs.declared.Group.the-variants.{Service}
 use borrow.Author.Needs.{needs}
 use Rattle.tables.proofs.key_kinds.service_kind.Statement.{statement}
@@ -27,4 +27,4 @@ service-kind-spec =
     (λ c. rw (c .match .keys12))
     (λ c. rw (c .match .keys13))
     (λ c. rw (c .match .keys14))
-    (λ c. ap kindAnswer (sym (at-place-out (c .before .args .n) (keysOf Service) (λ h. past _ 14 (past _ 13 (past _ 12 (past _ 11 (past _ 10 (past _ 9 (past _ 8 (past _ 7 (past _ 6 (past _ 5 (past _ 4 (past _ 3 (past _ 2 (past _ 1 h (c .match .rest .0 .0 .0 .0 .0 .0 .0 .0 .0 .0 .0 .0 .0 .1)) (c .match .rest .0 .0 .0 .0 .0 .0 .0 .0 .0 .0 .0 .0 .1)) (c .match .rest .0 .0 .0 .0 .0 .0 .0 .0 .0 .0 .0 .1)) (c .match .rest .0 .0 .0 .0 .0 .0 .0 .0 .0 .0 .1)) (c .match .rest .0 .0 .0 .0 .0 .0 .0 .0 .0 .1)) (c .match .rest .0 .0 .0 .0 .0 .0 .0 .0 .1)) (c .match .rest .0 .0 .0 .0 .0 .0 .0 .1)) (c .match .rest .0 .0 .0 .0 .0 .0 .1)) (c .match .rest .0 .0 .0 .0 .0 .1)) (c .match .rest .0 .0 .0 .0 .1)) (c .match .rest .0 .0 .0 .1)) (c .match .rest .0 .0 .1)) (c .match .rest .0 .1)) (c .match .rest .1))))))
+    (λ c. ap kindAnswer (sym (at-place-none (c .before .args .n) (keysOf Service) (c .match .rest)))))

@@ -1,10 +1,10 @@
 -- The rules by the answers over their parts.
 use borrow.Author.Needs.{needs}
-use Rattle.reader.proofs.closing.unnamed.Statement.{statement}
-use Rattle.reader.proofs.closing.unnamed.Tie as tie
+use Rattle.reader.proofs.closing.nameless.Statement.{statement}
+use Rattle.reader.proofs.closing.nameless.Tie as tie
 
-pub unnamed-spec : {M : Type 1} → statement M
-unnamed-spec =
+pub nameless-spec : {M : Type 1} → statement M
+nameless-spec =
     tie.close
     (tie.spec
     (λ c κs. search needs)
