@@ -17,7 +17,6 @@ use Rattle.rules.specs.Tables.{keysOf}
 use Rattle.rules.specs.Asking.{readAs, askedOf, entryLine}
 use Rattle.rules.specs.Sections.{Entry, entryOf}
 use Rattle.rules.specs.WordNumbers.{isWord}
-use Rattle.tables.specs.KeyPlaces.{keyNames}
 use Rattle.rules.specs.declared.Group.the-variants as G
 use Rattle.rules.specs.declared.Refusal.{Refusal}
 use Rattle.rules.specs.declared.Refusal.the-variants.{NoPlace}

@@ -23,14 +23,13 @@ use Rattle.kinds.specs.declared.WordList.the-variants as L
 use Rattle.names.specs.Names.{Network, networkOf, iwdNameAnswer}
 use Rattle.names.specs.declared.IwdName.{IwdName}
 use Rattle.rules.specs.Tables.{keysOf}
-use Rattle.rules.specs.Sections.{Entry, entryOf}
+use Rattle.rules.specs.Sections.{entryOf}
 use Rattle.rules.specs.Asking.{iwdEntry, readAs}
 use Rattle.rules.specs.Reading.{sectionsOf}
 use Rattle.rules.specs.declared.Group.the-variants as G
 use Rattle.reader.specs.History.{base}
 use Rattle.reader.specs.Closing.{keySlot, bytesOf}
 use Rattle.reader.specs.declared.KeyName.the-variants as N
-use Rattle.settings.specs.Codes.{choiceBy}
 use Rattle.settings.specs.Rows.{RowOf, RowGives, IwdRows}
 use Rattle.settings.proofs.Rowwise.{address-none, addresses-none, ipv4-none, key-none, ssid-none, row-read, row-word, row-mask}
 use Rattle.settings.proofs.IwdFile.{row-of}
@@ -38,7 +37,7 @@ use Rattle.records.specs.Record.{laid}
 use Rattle.records.specs.declared.Ipv6.{Ipv6}
 use Rattle.records.specs.declared.Ipv6.the-variants as Ipv6
 use Rattle.records.specs.declared.JoinRecord.{JoinRecord}
-use Rattle.joins.specs.Joins.{secretFrom, staticOrDhcp, ipv4OrDhcp, orFalse, enabledIpv6, nameFrom, serviceJoin, networkName}
+use Rattle.joins.specs.Joins.{secretFrom, ipv4OrDhcp, orFalse, enabledIpv6, nameFrom, serviceJoin, networkName}
 use Rattle.joins.specs.Answers.{loginAnswer, numbersAnswer, numbersRead, domainAnswer, nameRead}
 use Rattle.joins.specs.Places.{IwdFileRows, iwdFileJoin, iwdLoginAt, serviceLoginAt, serviceNameAt, iwdNumbersAt, domainAt, serverCountAt, yesAt, serviceIpv6At, assembled}
 use Rattle.joins.specs.declared.Login.{Login}

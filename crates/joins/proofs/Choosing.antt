@@ -5,21 +5,17 @@ use mathlib.Core.Path.{_≡_, refl, ap, ap₂, _∙_}
 use mathlib.Core.Bool.{Bool, true, false}
 use mathlib.Core.List.{List}
 use mathlib.Core.Option.{Option, none, some, Option·none-ne-some}
-use Rattle.addresses.specs.Addresses.{addressAnswer, address, netmask}
-use Rattle.addresses.specs.declared.Address.{Address}
+use Rattle.addresses.specs.Addresses.{addressAnswer, netmask}
 use Rattle.text.specs.declared.Dialect.{Dialect}
 use Rattle.kinds.specs.Kinds.{flag}
 use Rattle.kinds.specs.declared.Kind.the-variants.{Flag}
 use Rattle.kinds.specs.Answers.{preSharedKeyAnswer}
-use Rattle.kinds.specs.declared.Ipv4.{Ipv4}
 use Rattle.rules.specs.Sections.{Entry, entryOf}
 use Rattle.rules.specs.Asking.{readAs}
-use Rattle.rules.specs.WordNumbers.{isWord, wordNumber}
 use Rattle.reader.specs.Keys.{keyGroup, keyWord as nameOf, keyKind}
 use Rattle.reader.specs.Holds.{RowKeeps}
 use Rattle.reader.specs.declared.KeyName.{KeyName}
 use Rattle.settings.specs.Values.{choice, lengthOr0}
-use Rattle.settings.specs.Codes.{choiceBy}
 use Rattle.settings.proofs.Rowwise.{row-flag}
 use Rattle.joins.specs.Joins.{secretFrom, lengthOr24, staticOrDhcp}
 use Rattle.joins.specs.Answers.{phraseAnswer, loginAnswer, or24, numbersAnswer, choiceIn, loginRead, numbersRead}

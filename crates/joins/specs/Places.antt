@@ -15,7 +15,6 @@ use Rattle.kinds.specs.Answers.{ssidAnswer}
 use Rattle.kinds.specs.declared.Ipv4.{Ipv4}
 use Rattle.kinds.specs.declared.Ssid.{Ssid}
 use Rattle.kinds.specs.declared.Word.the-variants as W
-use Rattle.tables.specs.KeyPlaces.{keyNames}
 use Rattle.rules.specs.Sections.{Entry, entryOf, entriesIn}
 use Rattle.rules.specs.Asking.{iwdEntry}
 use Rattle.names.specs.Names.{networkOf}

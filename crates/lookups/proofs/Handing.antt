@@ -13,7 +13,7 @@ use Rattle.text.specs.declared.Dialect.the-variants.{ConnMan}
 use Rattle.kinds.specs.declared.Kind.{Kind}
 use Rattle.rules.specs.Tables as T
 use Rattle.rules.specs.Sections.{entryOf, entriesIn, Entry}
-use Rattle.rules.specs.Reading.{sectionsOf, reading}
+use Rattle.rules.specs.Reading.{sectionsOf}
 use Rattle.rules.specs.Asking.{serviceAt, asked, askedOf}
 use Rattle.rules.specs.ListedValues.{groupName}
 use Rattle.rules.specs.GivenValues.{group-of-name}

@@ -14,9 +14,8 @@ use Rattle.kinds.specs.declared.Ipv4.{Ipv4}
 use Rattle.kinds.specs.declared.Word.the-variants as W
 use Rattle.kinds.specs.declared.WordList.the-variants as L
 use Rattle.rules.specs.Tables.{keysOf}
-use Rattle.tables.specs.KeyPlaces.{keyNames}
 use Rattle.rules.specs.Sections.{Entry, entryOf}
-use Rattle.rules.specs.WordNumbers.{isWord, wordNumber}
+use Rattle.rules.specs.WordNumbers.{isWord}
 use Rattle.rules.specs.Asking.{readAs}
 use Rattle.rules.specs.declared.Group.the-variants as G
 use Rattle.reader.specs.Store.{Slot}

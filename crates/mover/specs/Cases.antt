@@ -1,6 +1,6 @@
 -- Worked cases, by computation: document 01's `shop.config`, whose service 1 becomes `Desk 4.psk`, and what a move refuses.
 use mathlib.Core.Path.{_≡_, refl}
-use mathlib.Core.List.{List, [], _∷_, map}
+use mathlib.Core.List.{List, [], _∷_}
 use Prim.Native.Nat.{ℕ}
 use Prim.Native.String.{String}
 use lib.ListN.{replicate}

@@ -20,7 +20,7 @@ use Rattle.rules.specs.declared.Refusal.{Refusal}
 use Rattle.rules.specs.declared.Refusal.the-variants.{NoPlace, ShortBuffer, NoService, Malformed}
 use Rattle.records.specs.Record.{Join}
 use Rattle.written.specs.Written.{nameText, fileText}
-use Rattle.writer.specs.Writing.{writes, refuses, room, writingOf, writing, writtenAnswer, Writes}
+use Rattle.writer.specs.Writing.{writes, refuses, room, writingOf, writtenAnswer, Writes}
 use Rattle.writer.specs.declared.Written.{Written}
 use Rattle.joins.specs.Joins.{serviceJoin, serviceSetting}
 use Rattle.mover.specs.Moves.{unplaced, earliest, orUnplaced, movedIfGood, movingOf, moving}

@@ -8,7 +8,6 @@ use Rattle.text.specs.declared.Dialect.the-variants.{ConnMan}
 use Rattle.kinds.specs.declared.Method.{Method}
 use Rattle.kinds.specs.declared.Method.the-variants as M
 use Rattle.rules.specs.Sections.{Entry, entryOf}
-use Rattle.tables.specs.KeyPlaces.{keyNames}
 use Rattle.rules.specs.declared.Group.the-variants.{Service}
 use Rattle.reader.specs.Holds.{RowKeeps}
 use Rattle.reader.specs.Closing.{keySlot}

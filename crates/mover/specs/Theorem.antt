@@ -21,7 +21,7 @@ use Rattle.records.specs.Record.{Join, laid, laidServers}
 use Rattle.records.specs.Formed.{WellFormed}
 use Rattle.records.specs.Laws.{laid-formed, joined-laid}
 use Rattle.written.specs.Written.{nameText, fileText, blocksOf, hasPlace}
-use Rattle.writer.specs.Writing.{Writing, writes, refuses, room, writingOf, writing, writingPlaced, writtenAnswer, onFront, nameAfter, fileAfter, Writes}
+use Rattle.writer.specs.Writing.{Writing, writes, refuses, writingOf, writing, writingPlaced, writtenAnswer, onFront, nameAfter, fileAfter, Writes}
 use Rattle.writer.specs.declared.Written.{Written}
 use Rattle.joins.specs.Joins.{Joined, joined, recordAnswer, serversAfter, iwdRecord, iwdRecordServers, serviceRecord, serviceRecordServers, needsKey, noRecord, orNoPlace, serviceJoin, serviceSetting, serviceJoined, iwdJoined}
 use Rattle.joins.specs.Joins as Joins

@@ -3,32 +3,29 @@ use Prim.Native.Nat.{ℕ, _≤_, _<_}
 use native.Mathlib.Omega.{arith}
 use mathlib.Core.Path.{_≡_, refl, ap, sym, _∙_, subst}
 use mathlib.Core.Bool.{Bool, true, false}
-use mathlib.Core.List.{List, [], _∷_, reverse}
+use mathlib.Core.List.{List, [], _∷_}
 use mathlib.Core.Option.{Option, none, some, Option·none-ne-some, Option·some-injective}
 use borrow.Author.Tests.{le-leb, lt-leb}
 use denote.Enum.Declared.{tagOf}
 use types.Run.{OneOf, miss}
 use lib.ListN.{length, replicate}
-use Rattle.text.specs.Options.{orElse, mapped, only}
+use Rattle.text.specs.Options.{mapped, only}
 use Rattle.text.specs.Parts.{lines}
 use Rattle.text.specs.declared.Dialect.{Dialect}
 use Rattle.text.specs.declared.Dialect.the-variants.{Iwd, ConnMan}
 use Rattle.names.specs.Names.{Network, networkOf, connmanName}
-use Rattle.rules.specs.Sections.{Section}
-use Rattle.rules.specs.Faults.{Fault}
-use Rattle.rules.specs.Reading.{Name, iwdName, connmanFile, lineFault, grown, sectionsOf, nameIn, groupsFault, verdict, readingOf, reading}
+use Rattle.rules.specs.Reading.{Name, iwdName, connmanFile, grown, sectionsOf, nameIn, readingOf, reading}
 use Rattle.rules.specs.declared.Reading.{Reading}
 use Rattle.rules.specs.declared.Reading.the-variants.{Accepted, Refused}
 use Rattle.rules.specs.declared.Refusal.{Refusal}
 use Rattle.rules.specs.declared.Refusal.the-variants.{Size, FileName}
 use Rattle.reader.specs.Holds.{HoldsGroups}
-use Rattle.reader.specs.Steps.{Known}
 use Rattle.reader.specs.Ending.{kindOfName, nameDialect, EndSays}
 use Rattle.reader.specs.declared.FileKind.{FileKind}
 use Rattle.reader.specs.declared.FileKind.the-variants as K
 use Rattle.reader.specs.declared.State.{State}
 use Rattle.reader.proofs.FileKind.{the-type}
-use Rattle.pass.specs.Pass.{WalkIs, Walks, Found, ReadsKind, ReadsFile}
+use Rattle.pass.specs.Pass.{WalkIs, Walks, ReadsKind, ReadsFile}
 use Rattle.pass.specs.declared.Walked.{Walked}
 use Rattle.pass.specs.declared.Walked.the-variants.{Through, Stopped}
 use Rattle.reader.specs.Store.{fileLimit, tableLength}

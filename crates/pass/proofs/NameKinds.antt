@@ -1,16 +1,14 @@
 -- What a file's name says: one law for each return.
 use Prim.Native.Nat.{ℕ}
-use native.Mathlib.Omega.{arith}
 use mathlib.Core.Path.{_≡_, refl, ap, sym, _∙_}
-use mathlib.Core.Bool.{Bool, true, false, true≢false}
+use mathlib.Core.Bool.{true, false, true≢false}
 use mathlib.Core.List.{List}
 use mathlib.Core.Option.{Option, none, some}
-use Rattle.text.specs.declared.Dialect.the-variants.{Iwd, ConnMan}
-use Rattle.names.specs.Names.{Network, networkOf, iwdNameAnswer, connmanName}
+use Rattle.text.specs.declared.Dialect.the-variants.{Iwd}
+use Rattle.names.specs.Names.{Network, networkOf, iwdNameAnswer}
 use Rattle.names.specs.declared.IwdName.{IwdName}
 use Rattle.rules.specs.Reading.{iwdName, nameIn}
 use Rattle.reader.specs.Ending.{kindOfName}
-use Rattle.reader.specs.declared.FileKind.{FileKind}
 use Rattle.reader.specs.declared.FileKind.the-variants as K
 use Rattle.text.specs.Options.{mapped}
 

@@ -1,11 +1,11 @@
 -- The walk over the lines: the invariant, and one law for each turn and return.
-use Prim.Native.Nat.{ℕ, suc, _+_, _*_, _-_, _≤_, _<_}
+use Prim.Native.Nat.{ℕ, suc, _+_, _-_, _≤_, _<_}
 use native.Mathlib.Omega.{arith}
 use native.Mathlib.Numerals.{add-one}
-use mathlib.Core.Path.{_≡_, refl, ap, ap₂, sym, _∙_, subst}
+use mathlib.Core.Path.{_≡_, refl, ap, sym, _∙_, subst}
 use mathlib.Core.List.{List, [], _∷_}
 use mathlib.Core.Option.{Option, none, some}
-use lib.ListN.{length, drop, getD, replicate, length-replicate, getD-replicate, drop-of-length-le, length-append}
+use lib.ListN.{length, drop, replicate, length-replicate, getD-replicate, drop-of-length-le, length-append}
 use Rattle.text.specs.Bytes.{inLine}
 use Rattle.text.specs.Parts.{part, lines}
 use Rattle.text.specs.Scans.{Stop, stop-low, lines-at}
@@ -16,12 +16,11 @@ use Rattle.lines.specs.Lines.{Line, blank, comment, header, setting, broken, li
 use Rattle.rules.specs.Tables.{groupOf}
 use Rattle.tables.specs.KeyPlaces.{keyNames}
 use Rattle.rules.specs.Sections.{Entry, Section, withLine, withEntry, withGroup, settings}
-use Rattle.rules.specs.Faults.{fault, Fault}
+use Rattle.rules.specs.Faults.{fault}
 use Rattle.rules.specs.Reading.{afterLine, lineFault, grown}
 use Rattle.rules.specs.declared.Group.{Group}
-use Rattle.rules.specs.declared.Group.the-variants as G
 use Rattle.rules.specs.declared.Refusal.{Refusal}
-use Rattle.reader.specs.Store.{fileLimit, slotCount, linesFrom, codesFrom, tableLength, lastRow, Slot, slot, emptySlot}
+use Rattle.reader.specs.Store.{fileLimit, slotCount, linesFrom, codesFrom, tableLength, lastRow, slot, emptySlot}
 use Rattle.reader.specs.History.{baseAt, groupAt}
 use Rattle.reader.specs.Holds.{RowKeeps, HoldsGroups}
 use Rattle.reader.specs.Steps.{Known, StepIs, StepSays}

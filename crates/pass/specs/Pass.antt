@@ -2,12 +2,12 @@
 use Prim.Native.Nat.{ℕ, _≤_}
 use mathlib.Core.Path.{_≡_}
 use mathlib.Core.List.{List, [], reverse}
-use mathlib.Core.Option.{Option, none, some}
+use mathlib.Core.Option.{none, some}
 use lib.ListN.{replicate}
 use Rattle.text.specs.Parts.{lines}
 use Rattle.text.specs.declared.Dialect.{Dialect}
 use Rattle.rules.specs.Sections.{Section}
-use Rattle.rules.specs.Reading.{Name, lineFault, grown, sectionsOf, nameIn, readingOf, reading}
+use Rattle.rules.specs.Reading.{lineFault, grown, sectionsOf, nameIn, readingOf, reading}
 use Rattle.rules.specs.declared.Reading.{Reading}
 use Rattle.rules.specs.declared.Reading.the-variants.{Accepted, Refused}
 use Rattle.rules.specs.declared.Refusal.{Refusal}

@@ -7,8 +7,8 @@ use Rattle.rules.specs.Numbers.{seenOf, answerNumber, answerLine}
 use Rattle.rules.specs.Reading.{reading}
 use Rattle.rules.specs.declared.Answer.{Answer}
 use Rattle.rules.specs.declared.Reading.{Reading}
-use Rattle.qewaris.specs.Demands.{Call, answerOf}
-use Rattle.qewaris.specs.Telling.{Checks, TellsAnswer}
+use Rattle.demands.specs.Demands.{Call, answerOf}
+use Rattle.demands.specs.Telling.{Checks, TellsAnswer}
 
 pub checks : (d : Dialect) (name file : List ℕ) {r : Reading} → r ≡ reading d name file → Checks d name file r
 checks d name file e = record { is = e; seen = ap seenOf e }

@@ -1,12 +1,2 @@
-pub mod Cases
-pub mod Calls
-pub mod Demands
-pub mod Telling
-pub mod Zeros
-pub mod Exports
-pub mod DemandsHold
-pub mod TableHolds
-pub mod ExportsHold
-pub mod SuccessHolds
-pub mod PlacesHold
+-- The version; what the contracts cite stands in the crates below, and what is demanded of them all in demands
 pub mod Version

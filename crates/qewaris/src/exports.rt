@@ -4,7 +4,7 @@
 // for C. None has a `requires`; a record that is brought in with a code that there is not is refused with 19.
 ghost use mathlib.Core.Path.{_≡_};
 ghost use Rattle.boundary.specs.Answers.{Leaves};
-ghost use Rattle.qewaris.specs.Calls.{checkIwd, checkConnman, iwdSettingsOf, serviceSettingsOf, iwdPassphrase, iwdDomainName, globalName, globalDescription, serviceName, servicePassphrase, serviceDomain, iwdRecordOf, serviceRecordOf, writeIwd, moveService};
+ghost use Rattle.demands.specs.Calls.{checkIwd, checkConnman, iwdSettingsOf, serviceSettingsOf, iwdPassphrase, iwdDomainName, globalName, globalDescription, serviceName, servicePassphrase, serviceDomain, iwdRecordOf, serviceRecordOf, writeIwd, moveService};
 use boundary::CIwdSettings;
 use boundary::CReading;
 use boundary::CRecord;

@@ -1,8 +1,8 @@
 // The iwd file that is written of a join record, and of a ConnMan service.
 ghost use Rattle.writer.specs.Writing.{writing, Writes};
 ghost use Rattle.mover.specs.Demand.{Moves};
-ghost use Rattle.qewaris.specs.Demands as Call;
-ghost use Rattle.qewaris.specs.Telling.{TellsAnswer};
+ghost use Rattle.demands.specs.Demands as Call;
+ghost use Rattle.demands.specs.Telling.{TellsAnswer};
 use records::JoinRecord;
 use writer::Written;
 

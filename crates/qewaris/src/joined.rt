@@ -1,8 +1,8 @@
 // The join record of a file.
 ghost use mathlib.Core.Path.{_≡_};
 ghost use Rattle.joins.specs.Joins.{iwdRecord, iwdRecordServers, serviceRecord, serviceRecordServers};
-ghost use Rattle.qewaris.specs.Demands as Call;
-ghost use Rattle.qewaris.specs.Telling.{TellsAnswer};
+ghost use Rattle.demands.specs.Demands as Call;
+ghost use Rattle.demands.specs.Telling.{TellsAnswer};
 use joins::RecordAnswer;
 
 // The join record of an iwd file, and its name servers in the lent array. A refusal gives a record that is all zero and

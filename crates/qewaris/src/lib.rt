@@ -11,7 +11,7 @@ pub mod strings;
 pub mod typed;
 pub mod version;
 
-ghost use Rattle.qewaris.specs.Telling.{Checks};
+ghost use Rattle.demands.specs.Telling.{Checks};
 use reader::PLACES;
 pub use records::is_well_formed;
 use rules::Reading;

@@ -1,8 +1,8 @@
 // The typed settings of a file.
 ghost use mathlib.Core.Path.{_≡_};
 ghost use Rattle.settings.specs.Asked.{iwdAnswered, iwdServersAfter, serviceAnswered, serviceServersAfter};
-ghost use Rattle.qewaris.specs.Demands as Call;
-ghost use Rattle.qewaris.specs.Telling.{TellsAnswer};
+ghost use Rattle.demands.specs.Demands as Call;
+ghost use Rattle.demands.specs.Telling.{TellsAnswer};
 use settings::IwdAnswer;
 use settings::ServiceAnswer;
 

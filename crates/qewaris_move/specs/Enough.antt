@@ -10,7 +10,6 @@ use lib.ListN.{length, take, length-take}
 use lib.Seq.{take-all}
 use Rattle.text.specs.Words.{word}
 use Rattle.text.specs.declared.Dialect.the-variants.{ConnMan}
-use Rattle.addresses.specs.Addresses.{decimalValue}
 use Rattle.rules.specs.Reading.{reading}
 use Rattle.rules.specs.Asking.{askedOf}
 use Rattle.rules.specs.declared.Reading.{Reading}

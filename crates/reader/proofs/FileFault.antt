@@ -1,5 +1,5 @@
 -- The row of a group that stands once, and the rules over an iwd file by its rows in the table of places.
-use Prim.Native.Nat.{ℕ, _+_}
+use Prim.Native.Nat.{ℕ}
 use native.Mathlib.Omega.{arith}
 use mathlib.Core.Path.{_≡_, refl, sym, _∙_, subst}
 use mathlib.Core.Bool.{false, true≢false}
@@ -9,10 +9,9 @@ use Rattle.text.specs.declared.Dialect.{Dialect}
 use Rattle.text.specs.declared.Dialect.the-variants.{Iwd}
 use Rattle.names.specs.declared.Suffix.{Suffix}
 use Rattle.rules.specs.Tables.{groupOf}
-use Rattle.rules.specs.Sections.{Entry, Section, given, serves, entriesIn}
+use Rattle.rules.specs.Sections.{Entry, Section, serves, entriesIn}
 use Rattle.rules.specs.Faults.{faultAt}
 use Rattle.rules.specs.Groups.{fileFault}
-use Rattle.tables.specs.KeyPlaces.{keyNames}
 use Rattle.rules.specs.declared.Group.{Group}
 use Rattle.rules.specs.declared.Group.the-variants.{Security, Ipv4}
 use Rattle.reader.specs.History.{base, rowNumber, latest}

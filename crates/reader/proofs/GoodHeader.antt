@@ -1,19 +1,19 @@
 -- A header's step: what is held after a good one, and the fault of any other.
-use Prim.Native.Nat.{ℕ, _+_, _≤_, _<_}
+use Prim.Native.Nat.{ℕ, _+_, _<_}
 use native.Mathlib.Omega.{arith}
 use mathlib.Core.Path.{_≡_, refl, ap, sym, _∙_, subst}
 use mathlib.Core.Bool.{Bool, true, false, cond, _&&_, true≢false}
 use mathlib.Core.List.{List, [], _∷_}
 use mathlib.Core.Option.{Option, none, some, Option·none-ne-some}
-use borrow.Author.Tests.{eq-eqb, ne-eqb, eqb-true, eqb-false, leb-false}
-use lib.Dec.{eqb, leb}
+use borrow.Author.Tests.{leb-false}
+use lib.Dec.{leb}
 use lib.ListN.{length}
 use Rattle.text.specs.Parts.{partAt, Inside}
 use Rattle.text.specs.declared.Dialect.{Dialect}
 use Rattle.text.specs.declared.Place.{Place}
 use Rattle.lines.specs.Lines as Lines
 use Rattle.rules.specs.Tables.{groupOf}
-use Rattle.rules.specs.Sections.{Section, nameGiven, serves, services, withLine, withGroup}
+use Rattle.rules.specs.Sections.{Section, nameGiven, serves, services, withLine}
 use Rattle.rules.specs.Faults.{headerFault, fault}
 use Rattle.rules.specs.GoodEntries.{serves-service}
 use Rattle.rules.specs.declared.Group.{Group}
@@ -23,8 +23,8 @@ use Rattle.rules.specs.declared.Refusal.the-variants.{RepeatedGroup, ManyServic
 use Rattle.reader.specs.Store.{stored}
 use Rattle.reader.specs.History.{base, nameBase}
 use Rattle.reader.specs.Holds.{HoldsGroups}
-use Rattle.reader.specs.Headings.{slotsNamed, slotsOpen, slotsHeading}
-use Rattle.reader.specs.Steps.{headerSlot, nameSlot, Opened, StepSays, StepIs}
+use Rattle.reader.specs.Headings.{slotsNamed, slotsHeading}
+use Rattle.reader.specs.Steps.{headerSlot, nameSlot, Opened, StepSays}
 use Rattle.reader.specs.declared.State.{State}
 use Rattle.reader.specs.declared.Current.the-variants.{In}
 use Rattle.reader.specs.declared.Heading.{Heading}

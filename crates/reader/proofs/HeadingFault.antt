@@ -1,5 +1,5 @@
 -- A header's answer by the table of places is the one by the groups that the table holds.
-use Prim.Native.Nat.{ℕ, _*_}
+use Prim.Native.Nat.{ℕ}
 use native.Mathlib.Omega.{arith}
 use mathlib.Core.Path.{_≡_, refl, ap, sym, _∙_}
 use mathlib.Core.Bool.{Bool, true, false, cond, not, _&&_}
@@ -15,7 +15,6 @@ use Rattle.rules.specs.Sections.{Section, nameGiven, serves, services}
 use Rattle.rules.specs.Faults.{headerFault, fault}
 use Rattle.rules.specs.GoodEntries.{serves-service}
 use Rattle.rules.specs.declared.Group.{Group}
-use Rattle.rules.specs.declared.Group.the-variants.{Settings, Security, Ipv4, Ipv6, Global, Service}
 use Rattle.tables.specs.declared.Named.{Named}
 use Rattle.tables.specs.declared.Named.the-variants as N
 use Rattle.rules.specs.declared.Refusal.{Refusal}

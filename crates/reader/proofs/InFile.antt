@@ -1,26 +1,24 @@
 -- What a line is, by places in the file: one law for each return of `line_at`.
 use Prim.Native.Nat.{ℕ, _+_, _≤_}
 use native.Mathlib.Omega.{arith}
-use mathlib.Core.Path.{_≡_, refl, ap, ap₂, sym, _∙_, subst}
+use mathlib.Core.Path.{_≡_, ap, ap₂, sym, _∙_, subst}
 use mathlib.Core.List.{List}
-use mathlib.Core.Option.{none, some}
 use lib.ListN.{length}
 use Rattle.text.specs.Parts.{part, partAt, Inside}
 use Rattle.text.specs.Laws.{part-long, part-part}
 use Rattle.text.specs.declared.Dialect.{Dialect}
 use Rattle.text.specs.declared.Place.{Place}
-use Rattle.lines.specs.Lines.{blank, comment, header, setting, broken, lineOf, valueStart}
+use Rattle.lines.specs.Lines.{header, setting, lineOf, valueStart}
 use Rattle.lines.specs.Forms.{formAt}
 use Rattle.lines.specs.declared.Break.{Break}
 use Rattle.lines.specs.declared.Form.{Form}
 use Rattle.lines.specs.declared.Form.the-variants as F
 use Rattle.lines.proofs.Places.{Forms, lineOfForm, PlacesInside, ValueStarts, form-says}
-use Rattle.kinds.specs.declared.Value.{Value}
 use Rattle.rules.specs.Sections.{Section}
 use Rattle.rules.specs.Faults.{breakOf, fault}
 use Rattle.rules.specs.declared.Refusal.{Refusal}
-use Rattle.reader.specs.Says.{NewSetting, SettingIs, SettingSays}
-use Rattle.reader.specs.Steps.{GoodSetting, LineIs, LineSays}
+use Rattle.reader.specs.Says.{SettingIs, SettingSays}
+use Rattle.reader.specs.Steps.{LineIs, LineSays}
 use Rattle.reader.specs.declared.Current.{Current}
 use Rattle.reader.specs.declared.Line.{Line}
 use Rattle.reader.specs.declared.Line.the-variants as L

@@ -1,5 +1,5 @@
 -- The step over one line: one law for each return of `step`.
-use Prim.Native.Nat.{ℕ, _+_, _*_, _≤_, _<_}
+use Prim.Native.Nat.{ℕ, _+_, _≤_, _<_}
 use native.Mathlib.Omega.{arith}
 use mathlib.Core.Path.{_≡_, refl, ap, ap₂, sym, _∙_, subst}
 use mathlib.Core.Bool.{Bool, true, false, cond, true≢false}
@@ -32,9 +32,9 @@ use Rattle.rules.specs.declared.Group.{Group}
 use Rattle.rules.specs.declared.Refusal.{Refusal}
 use Rattle.rules.specs.declared.Refusal.the-variants.{RepeatedKey}
 use Rattle.reader.specs.Store.{fileLimit, lastRow, Slot, stored, FitsSlot}
-use Rattle.reader.specs.History.{nameBase, baseAt, rowAfter, currentOf}
-use Rattle.reader.specs.Holds.{codeOf, isText, OfText, Coded, SlotSays, RowsKeep, HoldsGroups}
-use Rattle.reader.specs.Says.{valueCode, textPlace, NewSetting, CurrentRow}
+use Rattle.reader.specs.History.{nameBase, baseAt, rowAfter}
+use Rattle.reader.specs.Holds.{codeOf, isText, OfText, SlotSays, RowsKeep, HoldsGroups}
+use Rattle.reader.specs.Says.{valueCode, textPlace, CurrentRow}
 use Rattle.reader.specs.Steps.{GoodSetting, LineIs, LineSays, Known, StepIs, StepSays}
 use Rattle.reader.specs.declared.State.{State}
 use Rattle.reader.specs.declared.Line.{Line}

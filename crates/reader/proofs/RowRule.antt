@@ -1,5 +1,5 @@
 -- The rules over a service, by the row that holds its settings.
-use Prim.Native.Nat.{ℕ, _+_, _<_}
+use Prim.Native.Nat.{ℕ, _+_}
 use native.Mathlib.Omega.{arith}
 use native.Mathlib.Nat.{le-refl}
 use mathlib.Core.Path.{_≡_, refl, ap, sym, _∙_, subst}
@@ -22,7 +22,7 @@ use Rattle.kinds.specs.declared.Kind.{Kind}
 use Rattle.kinds.specs.declared.Kind.the-variants.{Flag, Named, Netmask}
 use Rattle.kinds.specs.declared.WordList.{WordList}
 use Rattle.kinds.specs.declared.WordList.the-variants as W
-use Rattle.rules.specs.Groups.{serviceFault, wordGiven}
+use Rattle.rules.specs.Groups.{serviceFault}
 use Rattle.rules.specs.Sections.{Entry, given, entryOf}
 use Rattle.rules.specs.WordNumbers.{isWord, wordNumber}
 use Rattle.tables.specs.KeyPlaces.{keyNames}
@@ -30,7 +30,7 @@ use Rattle.reader.specs.Store.{Slot, slot}
 use Rattle.reader.specs.Keys.{keyPlace, keyGroup, keyWord, keyKind}
 use Rattle.reader.specs.KeyLaws.{listed-kind, listed-placed, listed-few}
 use Rattle.reader.specs.Holds.{flagCode, codeOf, Coded, SlotKeeps, RowKeeps}
-use Rattle.reader.specs.Closing.{RowInTable, ValueInFile, keySlot, isTaken, slotIs, slotsRule}
+use Rattle.reader.specs.Closing.{RowInTable, ValueInFile, keySlot, isTaken, slotsRule}
 use Rattle.reader.specs.declared.KeyName.{KeyName}
 use Rattle.reader.specs.declared.KeyName.the-variants as N
 use Rattle.reader.proofs.Rows.{given-entry, kept-given}

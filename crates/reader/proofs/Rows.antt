@@ -5,10 +5,9 @@ use mathlib.Core.Path.{_≡_, refl, ap, sym, _∙_, subst}
 use mathlib.Core.Bool.{Bool, true, false, cond, not, _||_, true≢false, false≢true}
 use mathlib.Core.List.{List, [], _∷_, _++_}
 use mathlib.Core.Option.{Option, none, some, Option·none-ne-some, Option·some-injective}
-use borrow.Author.Tests.{eq-eqb, ne-eqb, eqb-true, eqb-false, le-leb, lt-leb}
-use lib.Dec.{eqb, leb}
+use borrow.Author.Tests.{eq-eqb, ne-eqb, le-leb, lt-leb}
+use lib.Dec.{eqb}
 use lib.ListN.{length}
-use Rattle.text.specs.Parts.{part}
 use Rattle.text.specs.Words.{word, same, place, further}
 use Rattle.text.specs.Options.{isSome, only}
 use Rattle.text.specs.Laws.{same-eq, same-refl}
@@ -20,7 +19,7 @@ use Rattle.rules.specs.Sections.{Section, serves, services, Entry, given, entry
 use Rattle.tables.specs.KeyPlaces.{keyNames}
 use Rattle.rules.specs.declared.Group.{Group}
 use Rattle.rules.specs.declared.Group.the-variants.{Settings, Security, Ipv4, Ipv6, Global, Service}
-use Rattle.reader.specs.Store.{lastRow, rowLength, tableLength, Slot, slot, emptySlot, stored}
+use Rattle.reader.specs.Store.{lastRow, rowLength, tableLength, Slot, slot, stored}
 use Rattle.reader.specs.History.{rowNumber, baseAt, OwnRow, groupAt, rowAfter, latest}
 use Rattle.reader.specs.Holds.{SlotSays, SlotKeeps, RowKeeps, RowsKeep}
 use Rattle.reader.proofs.Slots.{stored-here, stored-there}

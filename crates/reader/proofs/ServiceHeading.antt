@@ -1,5 +1,5 @@
 -- A header of a service: what is held after it.
-use Prim.Native.Nat.{ℕ, zero, suc, _+_, _*_, _≤_, _<_}
+use Prim.Native.Nat.{ℕ, suc, _+_, _≤_, _<_}
 use native.Mathlib.Omega.{arith}
 use mathlib.Core.Path.{_≡_, refl, ap, ap₂, sym, _∙_, subst}
 use mathlib.Core.Bool.{Bool, true, false, _||_}
@@ -13,8 +13,7 @@ use Rattle.text.specs.Words.{same}
 use Rattle.text.specs.declared.Dialect.{Dialect}
 use Rattle.text.specs.declared.Place.{Place}
 use Rattle.rules.specs.Tables.{groupOf}
-use Rattle.tables.specs.KeyPlaces.{keyNames}
-use Rattle.rules.specs.Sections.{Entry, Section, nameGiven, serves, services}
+use Rattle.rules.specs.Sections.{Section, nameGiven, services}
 use Rattle.rules.specs.declared.Group.the-variants.{Service}
 use Rattle.reader.specs.Store.{Slot, slot, stored}
 use Rattle.reader.specs.History.{nameBase, rowNumber, baseAt}

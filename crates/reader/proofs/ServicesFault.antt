@@ -19,7 +19,7 @@ use Rattle.rules.specs.declared.Group.{Group}
 use Rattle.rules.specs.declared.Group.the-variants.{Settings, Security, Ipv4, Ipv6, Global, Service}
 use Rattle.rules.specs.declared.Refusal.{Refusal}
 use Rattle.reader.specs.Store.{rowLength, Slot, slot}
-use Rattle.reader.specs.History.{rowNumber, baseAt, groupAt, rowAfter, latest, headSlot}
+use Rattle.reader.specs.History.{rowNumber, baseAt, rowAfter, latest, headSlot}
 use Rattle.reader.specs.Holds.{RowKeeps, TableKeeps}
 use Rattle.reader.specs.Closing.{slotsRule, slotsFaultAt, slotsFault, ruleAnswer, pendingOf}
 use Rattle.reader.specs.declared.Rule.{Rule}

@@ -1,8 +1,8 @@
 -- A setting's line: one law for each return of `setting_line`.
-use Prim.Native.Nat.{ℕ, zero, suc, _+_, _*_, _≤_, _<_}
+use Prim.Native.Nat.{ℕ, _+_, _<_}
 use native.Mathlib.Omega.{arith}
 use mathlib.Core.Path.{_≡_, refl, ap, sym, _∙_, subst}
-use mathlib.Core.Bool.{Bool, true, false, cond, not}
+use mathlib.Core.Bool.{Bool, not}
 use mathlib.Core.List.{List, [], _∷_}
 use mathlib.Core.Option.{Option, none, some, Option·none-ne-some}
 use borrow.Author.Tests.{eq-eqb, ne-eqb}
@@ -10,7 +10,6 @@ use lib.Dec.{eqb}
 use lib.ListN.{getD}
 use Rattle.text.specs.Parts.{partAt}
 use Rattle.text.specs.Words.{place}
-use Rattle.text.specs.Options.{isSome}
 use Rattle.text.specs.declared.Dialect.{Dialect}
 use Rattle.text.specs.declared.Place.{Place}
 use Rattle.kinds.specs.Typed.{Judged, good, brokenText, brokenKind, judged}
@@ -25,14 +24,13 @@ use Rattle.rules.specs.Sections.{Entry, Section, given, entryOf}
 use Rattle.rules.specs.Faults.{fault, keyFault, valueFault}
 use Rattle.tables.specs.KeyPlaces.{atPlace, at-place-zero, at-place-named, keyNames, listedAnswer}
 use Rattle.rules.specs.declared.Group.{Group}
-use Rattle.rules.specs.declared.Group.the-variants.{Settings, Security, Ipv4, Ipv6, Global, Service}
 use Rattle.tables.specs.declared.Listed.{Listed}
 use Rattle.tables.specs.declared.Listed.the-variants as L
 use Rattle.rules.specs.declared.Refusal.the-variants.{NoGroup, UnknownKey, RepeatedKey, ValueText, ValueKind}
 use Rattle.reader.specs.Store.{linesFrom, slot}
 use Rattle.reader.specs.History.{nameBase, baseAt, rowAfter, currentOf}
 use Rattle.reader.specs.Holds.{RowKeeps, RowsKeep}
-use Rattle.reader.specs.Says.{NewSetting, SettingIs, CurrentRow, SettingSays}
+use Rattle.reader.specs.Says.{SettingIs, CurrentRow, SettingSays}
 use Rattle.reader.specs.declared.Current.{Current}
 use Rattle.reader.specs.declared.Current.the-variants.{Outside, In}
 use Rattle.reader.specs.declared.Line.the-variants.{Setting, Refused}

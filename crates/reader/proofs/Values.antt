@@ -1,5 +1,5 @@
 -- What a slot says of the setting that it keeps: what its value reads as, its line and its start; and the settings of a service by its number.
-use Prim.Native.Nat.{ℕ, zero, suc, _+_, _*_, _≤_, _<_}
+use Prim.Native.Nat.{ℕ, zero, suc, _+_, _*_, _≤_}
 use native.Mathlib.Omega.{arith}
 use mathlib.Core.Path.{_≡_, refl, ap, sym, _∙_, subst}
 use mathlib.Core.Bool.{Bool, true, false, cond, _&&_, true≢false}
@@ -7,7 +7,6 @@ use mathlib.Core.List.{List, [], _∷_, _++_, reverse, reverse-cons}
 use mathlib.Core.Option.{Option, none, some}
 use borrow.Author.Tests.{eq-eqb, ne-eqb, eqb-true, eqb-false, le-leb}
 use lib.Dec.{eqb}
-use lib.ListN.{length}
 use Rattle.text.specs.Parts.{part}
 use Rattle.text.specs.Laws.{part-none}
 use Rattle.text.specs.declared.Dialect.{Dialect}

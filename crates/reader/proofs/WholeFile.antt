@@ -7,7 +7,6 @@ use mathlib.Core.Option.{Option, none, some}
 use Rattle.rules.specs.Reading.{Name, iwdName, connmanFile, groupsFault, verdict}
 use Rattle.rules.specs.Sections.{Section, services, settings}
 use Rattle.rules.specs.Faults.{Fault}
-use Rattle.tables.specs.KeyPlaces.{keyNames}
 use Rattle.rules.specs.declared.Reading.{Reading}
 use Rattle.rules.specs.declared.Reading.the-variants.{Accepted}
 use Rattle.reader.specs.Holds.{HoldsGroups}

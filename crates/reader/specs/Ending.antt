@@ -1,17 +1,13 @@
 -- The end of a file: its groups as a whole, and what the table of places then says.
-use Prim.Native.Nat.{ℕ, _+_}
+use Prim.Native.Nat.{ℕ}
 use mathlib.Core.Path.{_≡_}
 use mathlib.Core.List.{List, reverse}
 use mathlib.Core.Option.{Option, none, some}
-use lib.ListN.{length}
 use Rattle.text.specs.declared.Dialect.{Dialect}
 use Rattle.text.specs.declared.Dialect.the-variants as D
-use Rattle.tables.specs.KeyPlaces.{keyNames}
 use Rattle.rules.specs.Sections.{Section}
 use Rattle.rules.specs.Faults.{faultAt}
 use Rattle.rules.specs.Reading.{Name, iwdName, connmanFile, groupsFault, verdict}
-use Rattle.rules.specs.declared.Group.{Group}
-use Rattle.rules.specs.declared.Group.the-variants.{Service}
 use Rattle.rules.specs.declared.Reading.{Reading}
 use Rattle.rules.specs.declared.Reading.the-variants.{Accepted, Refused}
 use Rattle.reader.specs.Holds.{HoldsGroups}

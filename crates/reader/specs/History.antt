@@ -5,8 +5,7 @@ use mathlib.Core.List.{List, [], _∷_}
 use lib.Dec.{eqb, leb}
 use Rattle.text.specs.declared.Dialect.{Dialect}
 use Rattle.text.specs.declared.Dialect.the-variants.{Iwd, ConnMan}
-use Rattle.rules.specs.Sections.{Entry, Section, services, serves}
-use Rattle.rules.specs.Faults.{Fault, faultAt}
+use Rattle.rules.specs.Sections.{Entry, Section, services}
 use Rattle.rules.specs.declared.Group.{Group}
 use Rattle.rules.specs.declared.Group.the-variants.{Settings, Security, Ipv4, Ipv6, Global, Service}
 use Rattle.reader.specs.Store.{rowLength, lastRow, Slot, emptySlot}

@@ -1,7 +1,7 @@
 -- What the state and the table of places hold of the groups before a line.
-use Prim.Native.Nat.{ℕ, zero, suc, _+_, _*_, _≤_, _<_}
+use Prim.Native.Nat.{ℕ, zero, suc, _+_, _≤_, _<_}
 use mathlib.Core.Path.{_≡_}
-use mathlib.Core.Bool.{Bool, true, false, cond, _||_}
+use mathlib.Core.Bool.{Bool, true, false, _||_}
 use mathlib.Core.List.{List, [], _∷_}
 use mathlib.Core.Option.{Option, none, some}
 use lib.ListN.{length}
@@ -15,7 +15,6 @@ use Rattle.kinds.specs.declared.Kind.the-variants as K
 use Rattle.rules.specs.Tables.{groupOf, kindOf}
 use Rattle.rules.specs.WordNumbers.{wordNumber}
 use Rattle.rules.specs.Sections.{Entry, Section, nameGiven, services, entryOf, settings}
-use Rattle.rules.specs.Faults.{Fault}
 use Rattle.tables.specs.KeyPlaces.{keyNames}
 use Rattle.rules.specs.declared.Group.{Group}
 use Rattle.rules.specs.declared.Group.the-variants.{Service}

@@ -1,5 +1,5 @@
 -- The keys by name stand where the tables of the groups have them, with the kinds that those tables say.
-use Prim.Native.Nat.{ℕ, _<_}
+use Prim.Native.Nat.{_<_}
 use native.Mathlib.Omega.{arith}
 use mathlib.Core.Path.{_≡_, refl}
 use mathlib.Core.Option.{some}

@@ -7,7 +7,6 @@ use Rattle.kinds.specs.declared.Kind.{Kind}
 use Rattle.kinds.specs.declared.Kind.the-variants as Kinds
 use Rattle.kinds.specs.declared.Kind.the-variants.{Flag, Named, Address, Netmask, Ipv4, Addresses, Entries, Mac, Ssid, Passphrase, Text}
 use Rattle.kinds.specs.declared.WordList.the-variants as W
-use Rattle.tables.specs.KeyPlaces.{keyNames}
 use Rattle.rules.specs.declared.Group.{Group}
 use Rattle.rules.specs.declared.Group.the-variants as G
 use Rattle.reader.specs.declared.KeyName.{KeyName}

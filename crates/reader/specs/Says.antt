@@ -1,7 +1,7 @@
 -- What the code's answers on a line say of it, after groups gs for which the table of places holds.
-use Prim.Native.Nat.{ℕ, _+_, _≤_, _<_}
+use Prim.Native.Nat.{ℕ, _+_, _≤_}
 use mathlib.Core.Path.{_≡_}
-use mathlib.Core.List.{List, [], _∷_}
+use mathlib.Core.List.{List}
 use mathlib.Core.Option.{none, some}
 use lib.ListN.{length}
 use Rattle.text.specs.Parts.{partAt}
@@ -18,13 +18,13 @@ use Rattle.kinds.specs.declared.Judgement.the-variants as J
 use Rattle.rules.specs.Tables.{kindOf}
 use Rattle.rules.specs.Faults.{fault}
 use Rattle.rules.specs.WordNumbers.{wordNumber}
-use Rattle.rules.specs.Sections.{Section, given}
+use Rattle.rules.specs.Sections.{Section}
 use Rattle.tables.specs.KeyPlaces.{keyNames}
 use Rattle.rules.specs.declared.Group.{Group}
 use Rattle.reader.specs.History.{currentOf}
 use Rattle.reader.specs.Holds.{RowsKeep, flagCode}
 use Rattle.reader.specs.declared.Current.{Current}
-use Rattle.reader.specs.declared.Current.the-variants.{Outside, In}
+use Rattle.reader.specs.declared.Current.the-variants.{In}
 use Rattle.reader.specs.declared.Line.{Line}
 use Rattle.reader.specs.declared.Line.the-variants.{Blank, Comment, Header, Setting, Refused}
 use Rattle.reader.specs.Store.{tableLength, lastRow}

@@ -11,7 +11,6 @@ use Rattle.text.specs.declared.Place.{Place}
 use Rattle.lines.specs.Lines.{blank, comment, setting, lineOf, valueStart}
 use Rattle.lines.specs.Lines as Lines
 use Rattle.kinds.specs.declared.Value.{Value}
-use Rattle.tables.specs.KeyPlaces.{keyNames}
 use Rattle.rules.specs.Sections.{Section, serves, withLine}
 use Rattle.rules.specs.Faults.{fault}
 use Rattle.rules.specs.declared.Group.{Group}

@@ -1,15 +1,13 @@
 -- Four texts, each written at the front of what the ones before it left, where the whole has room.
 use Prim.Native.Nat.{ℕ, _+_, _-_, _≤_}
 use native.Mathlib.Omega.{arith}
-use mathlib.Core.Path.{_≡_, ap, sym, _∙_, subst}
+use mathlib.Core.Path.{_≡_, ap, sym, subst}
 use mathlib.Core.List.{List, _++_}
 use borrow.Rule.Slice.PartMut.{putMid, midOf}
 use lib.ListN.{length, drop, length-append, length-drop}
 use lib.Seq.{take-all}
 use Rattle.put.specs.Put.{Wrote}
 use Rattle.put.specs.Laws.{then-rest}
-use Rattle.records.specs.Record.{joined}
-use Rattle.records.specs.declared.JoinRecord.{JoinRecord}
 
 -- where two texts have room, what the first leaves has room for the second
 rest-room : {t o x : List ℕ} {a : ℕ} → Wrote t 0 o x a → (u : List ℕ) → length (t ++ u) ≤ length o → length u ≤ length (midOf a (length x - a) x)

@@ -2,12 +2,11 @@
 use Prim.Native.Nat.{ℕ, zero, suc, _+_}
 use native.Mathlib.Omega.{arith}
 use mathlib.Core.Path.{_≡_, refl, ap, _∙_}
-use mathlib.Core.Bool.{Bool, true, false, true≢false, false≢true}
+use mathlib.Core.Bool.{Bool, true, false}
 use mathlib.Core.List.{List, [], _∷_, _++_}
 use lib.ListN.{length, take, length-append}
 use Rattle.text.specs.Words.{word}
 use Rattle.escapes.specs.Escapes.{escape}
-use Rattle.hex.specs.Hex.{hex}
 use Rattle.addresses.specs.Addresses.{dotted, maskBytes, listed}
 use Rattle.addresses.specs.declared.Separator.the-variants.{Spaces}
 use Rattle.kinds.specs.declared.Ipv4.{Ipv4}

@@ -1,7 +1,7 @@
 -- An answer and servers that are the same as a record and servers are equal to them.
 use Prim.Native.Nat.{ℕ}
 use mathlib.Core.Path.{_≡_, refl}
-use mathlib.Core.Bool.{true, false, _&&_, false≢true}
+use mathlib.Core.Bool.{true, _&&_, false≢true}
 use mathlib.Core.List.{List}
 use Rattle.text.specs.Laws.{and-true}
 use Rattle.rules.specs.declared.Answer.{Answer}

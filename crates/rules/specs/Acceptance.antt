@@ -2,8 +2,8 @@
 -- at which it fails first. What the rules are, and that the reading keeps to them, is said in `FileRules` and `Exactly`.
 use Prim.Native.Nat.{ℕ, suc, _+_, _≤_, _<_}
 use native.Mathlib.Omega.{arith}
-use mathlib.Core.Path.{_≡_, refl, ap, ap₂, sym, _∙_}
-use mathlib.Core.Bool.{Bool, true, false, cond}
+use mathlib.Core.Path.{_≡_, refl, ap, sym, _∙_}
+use mathlib.Core.Bool.{Bool, true, false}
 use mathlib.Core.List.{List, [], _∷_, _++_}
 use mathlib.Core.Option.{Option, none, some, Option·some-injective, Option·none-ne-some}
 use borrow.Author.Tests.{le-leb, lt-leb, leb-true, leb-false}
@@ -15,10 +15,9 @@ use Rattle.text.specs.declared.Dialect.{Dialect}
 use Rattle.lines.specs.Lines.{lineOf}
 use Rattle.rules.specs.Sections.{Section, services, settings}
 use Rattle.rules.specs.Faults.{fault, Fault, faultAt}
-use Rattle.rules.specs.Reading.{afterLine, lineFault, grown, sectionsOf, Name, nameIn, groupsFault, verdict, readingOf, reading}
+use Rattle.rules.specs.Reading.{afterLine, lineFault, grown, sectionsOf, Name, nameIn, groupsFault, verdict, reading}
 use Rattle.rules.specs.declared.Refusal.{Refusal}
 use Rattle.rules.specs.declared.Refusal.the-variants.{Size, FileName}
-use Rattle.rules.specs.declared.Reading.{Reading}
 use Rattle.rules.specs.declared.Reading.the-variants.{Accepted, Refused}
 
 -- each line has no fault after the good lines before it; the first is line n and starts at s

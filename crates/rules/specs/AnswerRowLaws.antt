@@ -2,20 +2,20 @@
 use Prim.Native.Nat.{ℕ, _+_}
 use native.Mathlib.Omega.{arith}
 use mathlib.Core.Path.{_≡_, refl, ap, sym, _∙_, subst}
-use mathlib.Core.Bool.{Bool, true, false, cond, not, _&&_, _||_, true≢false}
+use mathlib.Core.Bool.{Bool, true, false, cond, _&&_, _||_, true≢false}
 use mathlib.Core.List.{List, [], _∷_, _++_}
 use mathlib.Core.Option.{Option, none, some, Option·none-ne-some, Option·some-injective}
 use lib.Dec.{eqb, leb}
 use lib.ListN.{length, length-append}
-use Rattle.text.specs.Bytes.{between, isBlank, isHeaderByte, isKeyByte}
-use Rattle.text.specs.Parts.{front, after, empty, trimmed, lines}
+use Rattle.text.specs.Bytes.{between}
+use Rattle.text.specs.Parts.{lines}
 use Rattle.text.specs.Laws.{and-true, inside}
 use Rattle.text.specs.Options.{mapped, only, orElse}
 use Rattle.text.specs.OptionLaws.{IfSome, if-some}
 use Rattle.text.specs.Relations.{Each}
 use Rattle.text.specs.declared.Dialect.{Dialect}
 use Rattle.text.specs.declared.Dialect.the-variants.{Iwd, ConnMan}
-use Rattle.lines.specs.Lines.{Line, blank, comment, broken, header, setting, closed, equalOf, bracketOf, settingOf, bodyOf, lineOf}
+use Rattle.lines.specs.Lines.{Line, blank, comment, broken, header, setting, lineOf}
 use Rattle.lines.specs.LineRules.{LineReads}
 use Rattle.lines.specs.LineRuleLaws.{line-reads}
 use Rattle.lines.specs.declared.Break.the-variants as B

@@ -1,6 +1,5 @@
 -- Every setting of an accepted file is listed for its group, and its value is good for its kind.
 use Prim.Native.Nat.{ℕ, zero, suc, _+_}
-use native.Mathlib.Omega.{arith}
 use mathlib.Core.Path.{_≡_, refl, ap, sym, _∙_, subst}
 use mathlib.Core.Bool.{Bool, true, false, cond, true≢false}
 use mathlib.Core.List.{List, [], _∷_, _++_, reverse, reverse-cons}
@@ -10,21 +9,19 @@ use Rattle.text.specs.Parts.{lines}
 use Rattle.text.specs.Words.{word, same}
 use Rattle.text.specs.Laws.{same-eq}
 use Rattle.text.specs.declared.Dialect.{Dialect}
-use Rattle.text.specs.declared.Dialect.the-variants.{Iwd, ConnMan}
+use Rattle.text.specs.declared.Dialect.the-variants.{Iwd}
 use Rattle.kinds.specs.Typed.{judged}
 use Rattle.kinds.specs.declared.Kind.{Kind}
 use Rattle.lines.specs.Lines.{Line, blank, comment, header, setting, broken, lineOf, valueStart}
 use Rattle.rules.specs.Tables.{groupOf, kindOf}
-use Rattle.rules.specs.Sections.{Entry, Section, given, serves, services, withLine, withEntry, withGroup, entryOf, entriesIn}
-use Rattle.rules.specs.Faults.{breakOf, keyFault, valueFault, headerFault, fault}
+use Rattle.rules.specs.Sections.{Entry, Section, given, serves, services, withLine, withGroup, entryOf, entriesIn}
+use Rattle.rules.specs.Faults.{keyFault, valueFault, fault}
 use Rattle.rules.specs.Reading.{afterLine, grown, sectionsOf, reading}
 use Rattle.rules.specs.Asking.{firstOr, serviceAt}
-use Rattle.rules.specs.Acceptance.{LinesObey, Obeys, accepted-obeys}
+use Rattle.rules.specs.Acceptance.{LinesObey, accepted-obeys}
 use Rattle.rules.specs.declared.Group.{Group}
 use Rattle.rules.specs.declared.Group.the-variants.{Settings, Security, Ipv4, Ipv6, Global, Service}
-use Rattle.rules.specs.declared.Refusal.{Refusal}
 use Rattle.rules.specs.declared.Refusal.the-variants.{UnknownKey, RepeatedKey}
-use Rattle.rules.specs.declared.Reading.{Reading}
 use Rattle.rules.specs.declared.Reading.the-variants.{Accepted}
 
 -- a setting in group g

@@ -6,14 +6,14 @@ use mathlib.Core.List.{List}
 use mathlib.Core.Option.{Option, none, some, Option·none-ne-some, Option·some-injective}
 use Rattle.text.specs.declared.Dialect.{Dialect}
 use Rattle.utf8.specs.Utf8.{valueText}
-use Rattle.kinds.specs.Typed.{Typed, Judged, good, brokenText, brokenKind, byKind, typed, stringBroken, kindJudged, judged}
+use Rattle.kinds.specs.Typed.{Typed, good, brokenText, byKind, typed, stringBroken, kindJudged, judged}
 use Rattle.kinds.specs.declared.Kind.{Kind}
 use Rattle.rules.specs.Tables.{groupOf, kindOf}
 use Rattle.rules.specs.Sections.{Entry, entryOf, entriesIn}
 use Rattle.rules.specs.Faults.{valueFault}
 use Rattle.rules.specs.Reading.{sectionsOf, reading}
 use Rattle.rules.specs.Asking.{serviceAt}
-use Rattle.rules.specs.GoodEntries.{GoodEntry, Asked, group-asked, service-asked}
+use Rattle.rules.specs.GoodEntries.{Asked, group-asked, service-asked}
 use Rattle.rules.specs.declared.Group.{Group}
 use Rattle.rules.specs.declared.Group.the-variants.{Service}
 use Rattle.rules.specs.declared.Refusal.the-variants.{ValueText, ValueKind}

@@ -1,6 +1,6 @@
 -- The reading of a file: "Order: 1, 2; then the first faulty line ..; then each service in file order (iwd: the file), 14 before 15 within it."
 use Prim.Native.Nat.{ℕ, suc, _+_}
-use mathlib.Core.Bool.{Bool, true, false, cond}
+use mathlib.Core.Bool.{cond}
 use mathlib.Core.List.{List, [], _∷_, reverse}
 use mathlib.Core.Option.{Option, none, some}
 use lib.Dec.{leb}
@@ -10,7 +10,7 @@ use Rattle.text.specs.Options.{mapped, only, orElse}
 use Rattle.text.specs.declared.Dialect.{Dialect}
 use Rattle.text.specs.declared.Dialect.the-variants.{Iwd, ConnMan}
 use Rattle.lines.specs.Lines.{lineOf, valueStart}
-use Rattle.names.specs.Names.{Network, networkOf, connmanName}
+use Rattle.names.specs.Names.{networkOf, connmanName}
 use Rattle.names.specs.declared.Suffix.{Suffix}
 use Rattle.rules.specs.Sections.{Section, settings, services, withLine}
 use Rattle.rules.specs.Faults.{Fault, faultAt, fault}

@@ -9,8 +9,7 @@ use Rattle.text.specs.declared.Dialect.the-variants.{Iwd}
 use Rattle.addresses.specs.Addresses.{addresses, rows}
 use Rattle.addresses.specs.declared.Separator.the-variants.{Spaces}
 use Rattle.rules.specs.Tables.{groupOf, keysOf}
-use Rattle.tables.specs.KeyPlaces.{keyNames}
-use Rattle.rules.specs.Sections.{Entry, serves, entryOf, entriesIn}
+use Rattle.rules.specs.Sections.{Entry, entryOf, entriesIn}
 use Rattle.rules.specs.Reading.{sectionsOf, reading}
 use Rattle.rules.specs.Asking.{asked}
 use Rattle.rules.specs.declared.Group.{Group}

@@ -32,12 +32,11 @@ use Rattle.rules.specs.Tables.{keysOf}
 use Rattle.rules.specs.WordNumbers.{isWord, wordNumber}
 use Rattle.rules.specs.Asking.{readAs, entryLine, entryStart}
 use Rattle.rules.specs.Sections.{Entry, entryOf}
-use Rattle.tables.specs.KeyPlaces.{keyNames}
 use Rattle.rules.specs.declared.Group.the-variants as G
 use Rattle.reader.specs.Store.{Slot}
 use Rattle.reader.specs.History.{base}
 use Rattle.reader.specs.Holds.{flagCode, isText, Coded, SlotKeeps, RowKeeps}
-use Rattle.reader.specs.Closing.{keySlot, bytesOf, slotIs, RowInTable, ValueInFile}
+use Rattle.reader.specs.Closing.{keySlot, bytesOf, slotIs, ValueInFile}
 use Rattle.reader.specs.Keys.{keyGroup, keyWord as nameOf, keyKind}
 use Rattle.reader.specs.declared.KeyName.{KeyName}
 use Rattle.reader.specs.declared.KeyName.the-variants as N

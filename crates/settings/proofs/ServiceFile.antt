@@ -8,8 +8,6 @@ use Rattle.text.specs.declared.Dialect.the-variants.{ConnMan}
 use Rattle.addresses.specs.Addresses.{addresses, rows}
 use Rattle.addresses.specs.declared.Separator.the-variants.{Comma}
 use Rattle.rules.specs.Tables.{keysOf}
-use Rattle.tables.specs.KeyPlaces.{keyNames}
-use Rattle.rules.specs.Sections.{Entry}
 use Rattle.rules.specs.Reading.{sectionsOf}
 use Rattle.rules.specs.Asking.{serviceAt, askedOf}
 use Rattle.rules.specs.declared.Group.the-variants as G

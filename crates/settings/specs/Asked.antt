@@ -3,8 +3,7 @@ use Prim.Native.Nat.{ℕ}
 use mathlib.Core.List.{List}
 use mathlib.Core.Option.{none}
 use Rattle.text.specs.declared.Dialect.the-variants.{Iwd, ConnMan}
-use Rattle.tables.specs.KeyPlaces.{keyNames}
-use Rattle.rules.specs.Sections.{Entry, Section, entryOf, entriesIn}
+use Rattle.rules.specs.Sections.{Entry, Section, entryOf}
 use Rattle.rules.specs.Reading.{sectionsOf, reading}
 use Rattle.rules.specs.Asking.{iwdEntry, serviceAt, asked, askedOf}
 use Rattle.rules.specs.declared.Answer.{Answer}

@@ -1,9 +1,9 @@
 -- What `Given` says holds: one law for each shape of value, and rules `GivenValues` for every key.
 use Prim.Native.Nat.{ℕ, zero, suc, _≤_}
 use native.Mathlib.Omega.{arith}
-use mathlib.Core.Path.{_≡_, refl, ap, sym, _∙_}
+use mathlib.Core.Path.{_≡_, refl, _∙_}
 use mathlib.Core.Bool.{Bool, true, false}
-use mathlib.Core.List.{List, []}
+use mathlib.Core.List.{List}
 use mathlib.Core.Option.{Option, none, some}
 use lib.ListN.{length}
 use Rattle.text.specs.Laws.{between-low}
@@ -25,7 +25,7 @@ use Rattle.rules.specs.Sections.{Entry, given, entryOf, entriesIn}
 use Rattle.rules.specs.Groups.{has}
 use Rattle.rules.specs.Reading.{sectionsOf, reading}
 use Rattle.rules.specs.Asking.{iwdEntry, serviceAt, readAs, entryLine, asked, askedOf}
-use Rattle.rules.specs.ListedValues.{ValueOf, groupName, valueOf, groupValue}
+use Rattle.rules.specs.ListedValues.{groupName, valueOf, groupValue}
 use Rattle.rules.specs.GivenValues.{read-holds, entry-given, group-given, service-given}
 use Rattle.rules.specs.EntryLines.{group-line, service-line}
 use Rattle.rules.specs.GoodAnswers.{asked-reading, asked-service}
@@ -34,7 +34,6 @@ use Rattle.rules.specs.declared.Group.{Group}
 use Rattle.rules.specs.declared.Group.the-variants.{Settings, Security, Ipv4, Ipv6, Service}
 use Rattle.settings.specs.Asked.{iwdAnswered, serviceAnswered}
 use Rattle.settings.specs.Values.{choice, chosen, lengthOr0}
-use Rattle.settings.specs.Settings.{iwdSettings, serviceSettings}
 use Rattle.settings.specs.Given.{choiceGiven, chosenGiven, nonzero, IwdGiven, ServiceGiven}
 
 -- ---- each shape of value

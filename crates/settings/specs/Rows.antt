@@ -6,7 +6,6 @@ use mathlib.Core.Option.{Option}
 use lib.ListN.{length}
 use Rattle.text.specs.Words.{word}
 use Rattle.text.specs.declared.Dialect.{Dialect}
-use Rattle.tables.specs.KeyPlaces.{keyNames}
 use Rattle.rules.specs.Sections.{Entry, entryOf}
 use Rattle.text.specs.declared.Dialect.the-variants.{Iwd}
 use Rattle.rules.specs.declared.Group.{Group}

@@ -18,7 +18,7 @@ use Rattle.records.specs.Formed.{formed}
 use Rattle.records.specs.declared.JoinRecord.{JoinRecord}
 use Rattle.written.specs.Written.{hasPlace, nameText, fileText}
 use Rattle.written.specs.RecordParts.{recordIpv4, numbersIn, SuffixOf}
-use Rattle.writer.specs.Writing.{room, refuses, writingOf, writingPlaced, writing, writtenAnswer, Writes}
+use Rattle.writer.specs.Writing.{room, refuses, writingOf, writing, writtenAnswer, Writes}
 use Rattle.writer.specs.declared.Written.{Written}
 
 -- the name of a record's file, k being its suffix

@@ -1,18 +1,17 @@
 -- Worked cases: document 01's file of 169 bytes, and records whose file is empty or begins a string with a blank.
 use mathlib.Core.Path.{_≡_, refl}
-use mathlib.Core.Bool.{Bool, true, false}
+use mathlib.Core.Bool.{true, false}
 use mathlib.Core.List.{List, [], _∷_}
 use mathlib.Core.Option.{some}
-use Prim.Native.Nat.{ℕ, _+_}
+use Prim.Native.Nat.{ℕ}
 use lib.ListN.{length}
 use Rattle.text.specs.Bytes.{isPlain}
 use Rattle.text.specs.Words.{word}
 use Rattle.escapes.specs.Escapes.{escapeFrom}
-use Rattle.hex.specs.Hex.{hexDigit, hex}
 use Rattle.addresses.specs.Addresses.{decimal, dotted, maskBytes}
 use Rattle.kinds.specs.Kinds.{IPv4, dhcp, static}
 use Rattle.names.specs.Names.{stem}
-use Rattle.records.specs.Record.{Secret, noSecret, passphrase, key, Join}
+use Rattle.records.specs.Record.{Secret, noSecret, passphrase, Join}
 use Rattle.records.specs.declared.Ipv6.{Ipv6}
 use Rattle.records.specs.declared.Ipv6.the-variants as Ipv6
 use Rattle.written.specs.Written.{fileText, nameText}

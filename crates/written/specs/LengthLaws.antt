@@ -1,19 +1,17 @@
 -- The lines of a written file stand under the table of greatest lengths, so no file is longer than they come to.
-use Prim.Native.Nat.{ℕ, _+_, _*_, _≤_}
+use Prim.Native.Nat.{ℕ, _+_, _≤_}
 use native.Mathlib.Omega.{arith}
-use mathlib.Core.Path.{_≡_, refl, ap, sym, subst}
-use mathlib.Core.Logic.{_⊎_, inl, inr}
+use mathlib.Core.Path.{_≡_, refl, sym, subst}
+use mathlib.Core.Logic.{inl, inr}
 use mathlib.Core.Bool.{Bool, true, false}
 use mathlib.Core.List.{List, [], _∷_, _++_}
 use mathlib.Core.Option.{Option, none, some}
 use lib.ListN.{length, replicate, length-append}
 use Rattle.text.specs.Words.{word}
 use Rattle.text.specs.declared.Dialect.the-variants.{Iwd}
-use Rattle.escapes.specs.Escapes.{escape}
 use Rattle.escapes.specs.Laws.{escape-length}
-use Rattle.hex.specs.Hex.{hex}
 use Rattle.hex.specs.Laws.{hex-length}
-use Rattle.addresses.specs.Addresses.{dotted, maskBytes, listed}
+use Rattle.addresses.specs.Addresses.{maskBytes}
 use Rattle.addresses.specs.Sizes.{dotted-short, listed-short}
 use Rattle.addresses.specs.declared.Separator.the-variants.{Spaces}
 use Rattle.kinds.specs.Kinds.{IPv4, dhcp, off, static}

@@ -1,9 +1,8 @@
 -- A record's parts as the code has them, and the settings that they give.
 use Prim.Native.Nat.{ℕ, _≤_}
 use mathlib.Core.Path.{_≡_}
-use mathlib.Core.Bool.{Bool, true}
+use mathlib.Core.Bool.{true}
 use mathlib.Core.List.{List, _∷_}
-use mathlib.Core.Option.{Option}
 use Rattle.text.specs.Words.{word}
 use Rattle.addresses.specs.Addresses.{dotted, maskBytes}
 use Rattle.kinds.specs.Kinds.{IPv4}

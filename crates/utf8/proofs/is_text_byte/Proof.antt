@@ -1,6 +1,5 @@
 -- A byte of a text, by its tests.
 use borrow.Author.Tests.{eq-eqb, ne-eqb}
-use borrow.Author.Needs.{needs}
 use Rattle.utf8.proofs.is_text_byte.Statement.{statement}
 use Rattle.utf8.proofs.is_text_byte.Tie as tie
 

@@ -1,6 +1,6 @@
 -- What stands at the slot.
 use native.Mathlib.Omega.{arith}
-use mathlib.Core.Path.{refl, sym, _∙_}
+use mathlib.Core.Path.{refl, sym}
 use Rattle.reader.specs.KeyLaws.{listed-few}
 use borrow.Author.Needs.{needs}
 use Rattle.reader.proofs.services.code_of.Statement.{statement}

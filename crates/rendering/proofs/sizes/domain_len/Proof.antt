@@ -7,7 +7,6 @@ use Rattle.escapes.specs.Escapes.{escape}
 use Rattle.escapes.specs.Laws.{escape-length}
 use Rattle.rendering.proofs.ExactSizes.{line-size}
 use Rattle.rendering.proofs.RowTexts.{domain-text, domain-none}
-use borrow.Author.Needs.{needs}
 use Rattle.rendering.proofs.sizes.domain_len.Statement.{statement}
 use Rattle.rendering.proofs.sizes.domain_len.Tie as tie
 

@@ -1,6 +1,5 @@
 -- By whether the network is hidden.
 use Rattle.rendering.proofs.GroupTexts.{settings-text, settings-none}
-use borrow.Author.Needs.{needs}
 use Rattle.rendering.proofs.sizes.settings_len.Statement.{statement}
 use Rattle.rendering.proofs.sizes.settings_len.Tie as tie
 

@@ -1,6 +1,5 @@
 -- An empty row.
 use Rattle.settings.proofs.ServiceFile.{none-kept, none-answer}
-use borrow.Author.Needs.{needs}
 use Rattle.settings.proofs.services.refused.Statement.{statement}
 use Rattle.settings.proofs.services.refused.Tie as tie
 

@@ -1,6 +1,5 @@
 -- The code of a mask is small.
 use native.Mathlib.Omega.{arith}
-use borrow.Author.Needs.{needs}
 use Rattle.settings.proofs.values.netmask_at.Statement.{statement}
 use Rattle.settings.proofs.values.netmask_at.Tie as tie
 

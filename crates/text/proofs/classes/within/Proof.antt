@@ -1,5 +1,4 @@
 use borrow.Author.Tests.{le-leb, lt-leb}
-use borrow.Author.Needs.{needs}
 use Rattle.text.proofs.classes.within.Statement.{statement}
 use Rattle.text.proofs.classes.within.Tie as tie
 

@@ -1,5 +1,4 @@
 -- By the credential.
-use mathlib.Core.Path.{refl}
 use borrow.Author.Needs.{needs}
 use Rattle.written.proofs.parts.suffix_of.Statement.{statement}
 use Rattle.written.proofs.parts.suffix_of.Tie as tie

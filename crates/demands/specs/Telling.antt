@@ -8,7 +8,7 @@ use Rattle.rules.specs.Numbers.{seenOf, answerNumber, answerLine}
 use Rattle.rules.specs.Reading.{reading}
 use Rattle.rules.specs.declared.Answer.{Answer}
 use Rattle.rules.specs.declared.Reading.{Reading}
-use Rattle.qewaris.specs.Demands.{Call, answerOf}
+use Rattle.demands.specs.Demands.{Call, answerOf}
 
 -- the reading r of a file: the definition's, and its number, line and counts
 pub record Checks (d : Dialect) (name file : List ℕ) (r : Reading) : Type 0 where

@@ -7,8 +7,7 @@ use mathlib.Core.Logic.{_↔_}
 use mathlib.Core.List.{List}
 use mathlib.Core.Option.{Option, none, some}
 use borrow.Author.Tests.{le-leb, leb-true, eq-eqb}
-use lib.Dec.{eqb}
-use lib.ListN.{length, take, drop, replicate}
+use lib.ListN.{length, drop, replicate}
 use lib.Seq.{take-append-seam, drop-append-seam}
 use Rattle.text.specs.Laws.{inside}
 use Rattle.text.specs.Words.{word}
@@ -28,28 +27,26 @@ use Rattle.rules.specs.declared.Refusal.the-variants.{NoPlace, NoService, Short
 use Rattle.lookups.specs.Lookups.{lookupOf}
 use Rattle.records.specs.Record.{Join, joined}
 use Rattle.records.specs.Formed.{formed}
-use Rattle.records.specs.declared.JoinRecord.{JoinRecord}
 use Rattle.written.specs.Written.{hasPlace, nameText, fileText}
 use Rattle.writer.specs.Writing.{Writing, writes, refuses, room, writing, writtenAnswer, nameAfter, fileAfter, Writes}
 use Rattle.joins.specs.Joins as J
-use Rattle.joins.specs.Joins.{Joined, noRecord, orNoPlace, iwdJoin, networkName, serviceJoin, serviceSetting, recordAnswer, iwdRecord, iwdRecordServers, serviceRecord}
-use Rattle.joins.specs.declared.RecordAnswer.{RecordAnswer}
+use Rattle.joins.specs.Joins.{Joined, noRecord, orNoPlace, iwdJoin, networkName, serviceJoin, serviceSetting, recordAnswer, iwdRecord, serviceRecord}
 use Rattle.round_trip.specs.Structs.{writing-record, writing-servers}
 use Rattle.mover.specs.Moves.{moving}
 use Rattle.mover.specs.Demand.{Service, Movable}
 use Rattle.mover.specs.Theorem as M
 use Rattle.mover.specs.Order.{good-movable}
-use Rattle.boundary.specs.Answers.{Left, readingAt, leftOf}
-use Rattle.boundary.specs.Records.{lentServers, recordAt, recordAnswerAt, CArrays, known, recordIn, serversIn, writingIn}
+use Rattle.boundary.specs.Answers.{readingAt, leftOf}
+use Rattle.boundary.specs.Records.{lentServers, recordAnswerAt, known, recordIn, serversIn, writingIn}
 use Rattle.boundary.specs.Laws.{brought-back, brought-arrays}
 use Rattle.boundary.specs.declared.CRecord.{CRecord}
 use Rattle.boundary.specs.declared.CRecordAnswer.{CRecordAnswer}
-use Rattle.qewaris.specs.Calls
-use Rattle.qewaris.specs.Demands.{ObeysTheRules}
-use Rattle.qewaris.specs.TableHolds.{settings-answer, service-answer, lookup-answer, joined-answer}
-use Rattle.qewaris.specs.Exports as E
-use Rattle.qewaris.specs.Exports.{WritableBytes, Joinable, newName, newFile, OldBehind, Exported-success, Exported-write, Exported-move}
-use Rattle.qewaris.specs.ExportsHold.{refusal-number}
+use Rattle.demands.specs.Calls
+use Rattle.demands.specs.Demands.{ObeysTheRules}
+use Rattle.demands.specs.TableHolds.{settings-answer, service-answer, lookup-answer, joined-answer}
+use Rattle.demands.specs.Exports as E
+use Rattle.demands.specs.Exports.{WritableBytes, Joinable, newName, newFile, OldBehind, Exported-success, Exported-write, Exported-move}
+use Rattle.demands.specs.ExportsHold.{refusal-number}
 
 -- ---- 0, and nothing else, is the number of what is good
 

@@ -2,26 +2,25 @@
 -- what is behind each answer.
 use Prim.Native.Nat.{ℕ, _<_}
 use native.Mathlib.Omega.{arith}
-use mathlib.Core.Path.{_≡_, refl, ap}
-use mathlib.Core.Bool.{Bool, true, false, cond, _||_}
-use mathlib.Core.List.{List, [], _∷_}
+use mathlib.Core.Path.{_≡_, refl}
+use mathlib.Core.Bool.{Bool, true, false, cond}
+use mathlib.Core.List.{List, _∷_}
 use mathlib.Core.Option.{Option, none, some}
 use lib.Dec.{eqb}
 use lib.ListN.{length}
 use Rattle.text.specs.Parts.{lines}
 use Rattle.text.specs.Words.{word}
-use Rattle.text.specs.Bytes.{between}
 use Rattle.text.specs.Laws.{inside, between-high}
 use Rattle.text.specs.OptionLaws.{IfSome}
 use Rattle.text.specs.declared.Dialect.{Dialect}
 use Rattle.text.specs.declared.Dialect.the-variants.{Iwd, ConnMan}
 use Rattle.rules.specs.Sections.{Entry, Section}
-use Rattle.rules.specs.Numbers.{numberOf, answerNumber, answerLine}
+use Rattle.rules.specs.Numbers.{numberOf}
 use Rattle.rules.specs.Reading.{sectionsOf, reading}
-use Rattle.rules.specs.Asking.{iwdEntry, serviceAt, entryLine, asked, askedOf}
+use Rattle.rules.specs.Asking.{iwdEntry, serviceAt, asked, askedOf}
 use Rattle.rules.specs.Tables.{keysOf}
 use Rattle.rules.specs.EntryPlaces.{EntryStands, group-stands, service-stands}
-use Rattle.rules.specs.AnswerRows.{AnswerRow, bare, placed, isRow, hasRow, ownRows}
+use Rattle.rules.specs.AnswerRows.{AnswerRow, bare, placed, hasRow, ownRows}
 use Rattle.rules.specs.declared.Answer.{Answer}
 use Rattle.rules.specs.declared.Answer.the-variants.{Good, Refused}
 use Rattle.rules.specs.declared.Reading.{Reading}
@@ -37,12 +36,11 @@ use Rattle.mover.specs.Moves.{moving}
 use Rattle.boundary.specs.Answers.{Left, readingAt, textAt, leftOf}
 use Rattle.boundary.specs.Records.{lentServers, recordAnswerAt, known, recordIn, serversIn, writingIn}
 use Rattle.boundary.specs.Settings.{iwdSettingsAt, serviceSettingsAt}
-use Rattle.boundary.specs.declared.CRecord.{CRecord}
-use Rattle.qewaris.specs.Demands as D
-use Rattle.qewaris.specs.Demands.{serviceRefusals, writerRows}
-use Rattle.qewaris.specs.TableHolds.{InRows, asked-given, asked-service-given, write-given, demand-1-table}
-use Rattle.qewaris.specs.Exports as E
-use Rattle.qewaris.specs.Exports.{Answered, reads, says, iwd-settings, service-settings, joins, wrote, exportAnswer, exportNumber, exportLine, zeroed, Unchanged, Exported-table, Exported-refusal}
+use Rattle.demands.specs.Demands as D
+use Rattle.demands.specs.Demands.{serviceRefusals, writerRows}
+use Rattle.demands.specs.TableHolds.{InRows, asked-given, asked-service-given, write-given, demand-1-table}
+use Rattle.demands.specs.Exports as E
+use Rattle.demands.specs.Exports.{reads, says, iwd-settings, service-settings, joins, wrote, zeroed, Exported-table, Exported-refusal}
 
 -- the number of a refusal is not 0
 pub refusal-number : (r : Refusal) → eqb (numberOf r) 0 ≡ false

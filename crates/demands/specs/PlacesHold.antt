@@ -2,24 +2,23 @@
 use Prim.Native.Nat.{ℕ, zero, suc, _+_, _-_, _≤_, _<_}
 use native.Mathlib.Omega.{arith}
 use mathlib.Core.Path.{_≡_, refl, ap, ap₂, sym, _∙_, subst}
-use mathlib.Core.Bool.{Bool, true, false, cond, _&&_, true≢false}
+use mathlib.Core.Bool.{Bool, true, false, cond, true≢false}
 use borrow.Author.Tests.{eq-eqb}
 use mathlib.Core.List.{List, [], _∷_, _++_}
 use mathlib.Core.Option.{Option, none, some, Option·some-injective, Option·none-ne-some}
 use lib.Dec.{eqb}
 use lib.ListN.{length, take, drop, getD, replicate, take-append-drop, List·getD-append}
 use lib.Seq.{drop-drop}
-use Rattle.text.specs.Bytes.{between, isEntryByte}
-use Rattle.text.specs.Parts.{all, onto, part, pieces, padded}
+use Rattle.text.specs.Bytes.{isEntryByte}
+use Rattle.text.specs.Parts.{all, onto, part, pieces}
 use Rattle.text.specs.Words.{word}
 use Rattle.text.specs.Laws.{between-high}
-use Rattle.text.specs.Options.{only, each, andThen, prepend, orEmpty}
+use Rattle.text.specs.Options.{only, each, prepend, orEmpty}
 use Rattle.text.specs.OptionLaws.{IfSome, sized-some, then-some, only-some}
 use Rattle.text.specs.declared.Dialect.{Dialect}
 use Rattle.text.specs.declared.Dialect.the-variants.{Iwd, ConnMan}
 use Rattle.kinds.specs.Kinds.{entry, entries}
 use Rattle.kinds.specs.Answers.{startsFrom, endsFrom, entriesAnswer}
-use Rattle.kinds.specs.declared.Entries.{Entries}
 use Rattle.rules.specs.Sections.{Entry}
 use Rattle.rules.specs.Reading.{sectionsOf, reading}
 use Rattle.rules.specs.Asking.{iwdEntry, serviceAt, readAs, entryStart, asked, askedOf}
@@ -34,9 +33,8 @@ use Rattle.joins.specs.Joins.{serviceSetting}
 use Rattle.boundary.specs.Answers.{textAt}
 use Rattle.boundary.specs.Records.{lentServers}
 use Rattle.boundary.specs.Settings.{entryLength, entriesAt, serviceSettingsAt}
-use Rattle.boundary.specs.declared.CEntries.{CEntries}
-use Rattle.qewaris.specs.Exports.{StringStands, EntryAt, ListStands, entriesOf, Lists, Exported-strings, Exported-lists}
-use Rattle.qewaris.specs.ExportsHold.{refusal-number}
+use Rattle.demands.specs.Exports.{StringStands, EntryAt, ListStands, entriesOf, Lists, Exported-strings, Exported-lists}
+use Rattle.demands.specs.ExportsHold.{refusal-number}
 
 -- ---- strings
 

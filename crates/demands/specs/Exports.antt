@@ -4,7 +4,7 @@ use Prim.Native.Nat.{ℕ, _+_, _≤_, _<_}
 use mathlib.Core.Path.{_≡_}
 use mathlib.Core.Bool.{true}
 use mathlib.Core.Logic.{_↔_}
-use mathlib.Core.List.{List, [], _∷_, _++_}
+use mathlib.Core.List.{List, [], _∷_}
 use mathlib.Core.Option.{none}
 use lib.ListN.{length, take, drop, getD, replicate}
 use Rattle.text.specs.Parts.{part, lines}
@@ -30,9 +30,9 @@ use Rattle.boundary.specs.declared.CRecordAnswer.{CRecordAnswer}
 use Rattle.boundary.specs.declared.CEntries.{CEntries}
 use Rattle.boundary.specs.declared.CIwdSettings.{CIwdSettings}
 use Rattle.boundary.specs.declared.CServiceSettings.{CServiceSettings}
-use Rattle.qewaris.specs.Calls
-use Rattle.qewaris.specs.Zeros.{zeroReading, zeroText, zeroIwd, zeroService, zeroAnswer, zeroWritten}
-use Rattle.qewaris.specs.Demands.{ObeysTheRules, serviceRefusals, serviceRows, serviceRecordRows, writerRows, moveRows}
+use Rattle.demands.specs.Calls
+use Rattle.demands.specs.Zeros.{zeroReading, zeroText, zeroIwd, zeroService, zeroAnswer, zeroWritten}
+use Rattle.demands.specs.Demands.{ObeysTheRules, serviceRefusals, serviceRows, serviceRecordRows, writerRows, moveRows}
 
 -- ==== the calls, and the parts of an answer
 

@@ -39,14 +39,14 @@ use Rattle.records.specs.Record.{Join, joined}
 use Rattle.records.specs.Formed.{formed}
 use Rattle.records.specs.declared.JoinRecord.{JoinRecord}
 use Rattle.written.specs.Written.{hasPlace, nameText, fileText}
-use Rattle.writer.specs.Writing.{Writing, writes, refuses, room, writing, writingOf, writtenAnswer}
+use Rattle.writer.specs.Writing.{writes, refuses, room, writing, writingOf, writtenAnswer}
 use Rattle.joins.specs.Joins as J
 use Rattle.rules.specs.Tables.{keysOf}
 use Rattle.joins.specs.Joins.{ipv4OrDhcp, iwdJoin, networkName, foreign, foreignSecurity, noRecord, serviceJoin, serviceSetting, recordAnswer, iwdRecord, serviceRecord, wired, orNoPlace}
 use Rattle.names.specs.Names.{networkOf}
 use Rattle.mover.specs.Moves.{lineIf, lineGiven, unplaced, least, earliest, orUnplaced, movedIfGood, moving}
-use Rattle.qewaris.specs.Demands as D
-use Rattle.qewaris.specs.Demands.{Call, answerOf, serviceRows, serviceRecordRows, writerRows, moveRows, callRows, callLines, Demand-1-table}
+use Rattle.demands.specs.Demands as D
+use Rattle.demands.specs.Demands.{serviceRows, serviceRecordRows, writerRows, moveRows, Demand-1-table}
 
 -- ---- an answer and its rows
 

@@ -38,8 +38,8 @@ use Rattle.round_trip.specs.Structs.{writing-record, writing-servers}
 use Rattle.mover.specs.GoodMoves.{good-key-kept}
 use Rattle.mover.specs.Moves.{movedIfGood, movingOf, moving}
 use Rattle.mover.specs.Theorem as M
-use Rattle.qewaris.specs.Demands
-use Rattle.qewaris.specs.TableHolds.{settings-answer, service-answer}
+use Rattle.demands.specs.Demands
+use Rattle.demands.specs.TableHolds.{settings-answer, service-answer}
 
 -- ---- demand 1; `TableHolds` has `demand-1-table`
 
