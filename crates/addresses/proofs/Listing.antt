@@ -13,7 +13,8 @@ use Rattle.text.specs.Bytes.{other, memberOf}
 use Rattle.text.specs.Parts.{after, onto, part, pieces}
 use Rattle.text.specs.Options.{orEmpty, sized, each}
 use Rattle.text.specs.Laws.{inside, view-more, view-end, pieces-some}
-use Rattle.text.specs.Scans.{Stop, stop-low, stop-after, pieces-at, pieces-end}
+use Rattle.text.specs.Scans.{Stop}
+use Rattle.text.proofs.ScanLaws.{stop-low, stop-after, pieces-at, pieces-end}
 use Rattle.addresses.specs.declared.Separator.{Separator}
 use Rattle.addresses.specs.declared.Separator.the-variants.{Spaces, Comma}
 use Rattle.addresses.specs.Addresses.{separator, nonEmpty, spaced, fields, address, addresses, noAddress, rows, addressAnswer}

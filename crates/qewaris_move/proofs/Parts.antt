@@ -7,7 +7,8 @@ use native.Mathlib.Omega.{arith}
 use lib.ListN.{length, take, drop, length-take}
 use Rattle.text.specs.Bytes.{inLine}
 use Rattle.text.specs.Parts.{all, part}
-use Rattle.text.specs.Scans.{Stop, stop-all, stop-some}
+use Rattle.text.specs.Scans.{Stop}
+use Rattle.text.proofs.ScanLaws.{stop-all, stop-some}
 use Rattle.intake.specs.declared.Kept.{Kept}
 use Rattle.intake.specs.Input as I
 use Rattle.intake.specs.Steps as S
