@@ -13,12 +13,13 @@ use Rattle.text.specs.Bytes.{other, memberOf}
 use Rattle.text.specs.Parts.{after, onto, part, pieces}
 use Rattle.text.specs.Options.{orEmpty, sized, each}
 use Rattle.text.specs.Laws.{inside, view-more, view-end, pieces-some}
-use Rattle.text.specs.Scans.{Stop, stop-low, stop-after, pieces-at, pieces-end}
+use Rattle.text.specs.Scans.{Stop}
+use Rattle.text.proofs.ScanLaws.{stop-low, stop-after, pieces-at, pieces-end}
 use Rattle.addresses.specs.declared.Separator.{Separator}
 use Rattle.addresses.specs.declared.Separator.the-variants.{Spaces, Comma}
 use Rattle.addresses.specs.Addresses.{separator, nonEmpty, spaced, fields, address, addresses, noAddress, rows, addressAnswer}
 use Rattle.addresses.specs.declared.Address.{Address}
-use Rattle.addresses.specs.Fields.{remaining, FieldAt}
+use Rattle.addresses.specs.Fields.{remaining, FieldAt, Filled}
 use Rattle.put.proofs.Gathering.{Gathered, gathered-first, gathered-turn, gathered-broken, gathered-end, gathered-full}
 use Rattle.addresses.proofs.Reading.{address-refused, address-read}
 
@@ -92,12 +93,8 @@ pub record Addressing (sep : Separator) (s : List ℕ) (x : List (List ℕ)) (at
 pub addressing-first : (sep : Separator) (s : List ℕ) {x : List (List ℕ)} → x ≡ rows none → Addressing sep s x 0 0
 addressing-first sep s e = rw e (record { within = omega arith; gathered = gathered-first })
 
--- r addresses of the list o stand in x, and 0.0.0.0 behind them
-abbrev Listed : Option (List (List ℕ)) → List (List ℕ) → ℕ → Type 0
-Listed o x r = (r ≡ length (orEmpty o)) × (x ≡ rows o)
-
-broken : {o : Option (List (List ℕ))} → o ≡ none → Listed o (rows none) 0
-broken e = rw e (refl, refl)
+broken : {o : Option (List (List ℕ))} {x : List (List ℕ)} → o ≡ none → Filled o x 0
+broken e = record { count = sym (ap (λ (p : Option (List (List ℕ))). length (orEmpty p)) e); array = λ f. absurd (f refl) }
 
 fields-some : (sep : Separator) (s : List ℕ) → 1 ≤ length (fields sep s)
 fields-some Comma s = pieces-some 44 s
@@ -108,12 +105,12 @@ fields-some Spaces s = go (pieces 32 s) (pieces-some 32 s)
     go (p ∷ ps) h = omega arith
 
 module _ {sep : Separator} {s : List ℕ} {x : List (List ℕ)} {at n : ℕ} (h : Addressing sep s x at n) where
-  pub addressing-full : 4 ≤ n → Listed (addresses sep s) (rows none) 0
+  pub addressing-full : 4 ≤ n → Filled (addresses sep s) x 0
   unfolding addresses
   addressing-full k = broken (gathered-full (h .gathered) 1 k (fields-some sep (drop at s)))
 
   module _ {e m : ℕ} (t : FieldAt sep s at e m) {r : Address} (v : r ≡ addressAnswer (address (part at e s))) where
-    pub addressing-broken : not (r .ok) ≡ true → Listed (addresses sep s) (rows none) 0
+    pub addressing-broken : not (r .ok) ≡ true → Filled (addresses sep s) x 0
     unfolding addresses
     addressing-broken b = broken (gathered-broken (h .gathered) 1 (t .is) (address-refused _ v b))
 
@@ -124,8 +121,13 @@ module _ {sep : Separator} {s : List ℕ} {x : List (List ℕ)} {at n : ℕ} (h 
       pub addressing-turn : m ≤ length s → Addressing sep s (set x n (r .bytes)) m (n + 1)
       addressing-turn k = record { within = k; gathered = rw (le-leb m (length s) k) at next }
 
-      pub addressing-end : length s < m → Listed (addresses sep s) (set x n (r .bytes)) (n + 1)
+      pub addressing-end : length s < m → Filled (addresses sep s) (set x n (r .bytes)) (n + 1)
       unfolding addresses
       addressing-end k =
           let w : sized 1 4 (each address (fields sep s)) ≡ some (next .done) = rw (inside {x = n + 1} 1 4 (omega arith) (omega arith)) at (gathered-end next 1 (rw (lt-leb m (length s) k))) in
-          rw w (sym (next .long), next .array ∙ ap (λ (j : ℕ). next .done ++ replicate (4 - j) noAddress) (sym (next .long)))
+          rw w (record { count = sym (next .long); array = λ f. next .array ∙ ap (λ (j : ℕ). next .done ++ replicate (4 - j) noAddress) (sym (next .long)) })
+
+pub filled-none : (o : Option (List (List ℕ))) {x : List (List ℕ)} {r : ℕ} → Filled o x r → r ≡ 0 → rows none ≡ rows o
+filled-none none h e = refl
+filled-none (some []) h e = refl
+filled-none (some (a ∷ l)) h e = absurd (omega (arith, h .count, e))

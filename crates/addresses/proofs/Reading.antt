@@ -14,7 +14,8 @@ use Rattle.text.specs.Bytes.{isDigit, other}
 use Rattle.text.specs.Parts.{part, pieces}
 use Rattle.text.specs.Options.{only}
 use Rattle.text.specs.Laws.{inside, under, over, pieces-some}
-use Rattle.text.specs.Scans.{Stop, pieces-at, pieces-end}
+use Rattle.text.specs.Scans.{Stop}
+use Rattle.text.proofs.ScanLaws.{pieces-at, pieces-end}
 use Rattle.addresses.specs.Addresses.{decimalValue, upTo, number, octet, address, numberAnswer, addressAnswer}
 use Rattle.put.proofs.Gathering.{Gathered, gathered-first, gathered-turn, gathered-broken, gathered-end, gathered-full}
 use Rattle.addresses.specs.declared.Number.{Number}

@@ -1,10 +1,11 @@
 // Lists of addresses, read.
 ghost use mathlib.Core.Path.{_≡_};
+ghost use mathlib.Core.Option.{none};
 ghost use Prim.Native.Nat.{_≤_};
 ghost use lib.ListN.{length};
 ghost use Rattle.text.specs.Options.{orEmpty};
 ghost use Rattle.addresses.specs.Addresses.{separator, addresses, rows};
-ghost use Rattle.addresses.specs.Fields.{FieldAt};
+ghost use Rattle.addresses.specs.Fields.{FieldAt, Filled};
 use crate::Separator;
 use crate::numbers;
 use text::Class;
@@ -51,11 +52,11 @@ fn field_at(s: &[u8], from: usize, sep: Separator) -> Field
     }
 }
 
-// Stores the addresses that s lists, and 0.0.0.0 up to four, and returns how many it lists; 0.0.0.0 alone and 0 where it is broken.
-pub fn read_list(out: &mut [[u8; 4]; 4], s: &[u8], sep: Separator) -> usize
-    ensures { λ r. ⌜ (r ≡ length (orEmpty (addresses sep (now (s .entry))))) × (now (out .exit) ≡ rows (addresses sep (now (s .entry)))) ⌝ }
+// Reads the addresses of s into the front of list, which holds zeros, and returns how many; 0 where s is broken.
+fn fill_addresses(list: &mut [[u8; 4]; 4], s: &[u8], sep: Separator) -> usize
+    requires { ⌜ now list ≡ rows none ⌝ }
+    ensures { λ r. ⌜ Filled (addresses sep (now (s .entry))) (now (list .exit)) r ⌝ }
 {
-    *out = [[0u8; 4]; 4];
     let mut at = 0;
     let mut n = 0;
     while n < 4 {
@@ -63,18 +64,16 @@ pub fn read_list(out: &mut [[u8; 4]; 4], s: &[u8], sep: Separator) -> usize
         let end = f.end;
         let a = numbers::read_address(&s[at..end]);
         if !a.ok {
-            *out = [[0u8; 4]; 4];
             return 0;
         }
         let bytes = a.bytes;
-        out[n] = bytes;
+        list[n] = bytes;
         n += 1;
         if s.len() < f.next {
             return n;
         }
         at = f.next;
     }
-    *out = [[0u8; 4]; 4];
     0
 }
 
@@ -83,7 +82,20 @@ pub fn count_addresses(s: &[u8], sep: Separator) -> usize
     ensures { λ r. ⌜ r ≡ length (orEmpty (addresses sep (now (s .entry)))) ⌝ }
 {
     let mut list = [[0u8; 4]; 4];
-    read_list(&mut list, s, sep)
+    fill_addresses(&mut list, s, sep)
+}
+
+// Stores the addresses that s lists, and 0.0.0.0 up to four, and returns how many it lists; 0.0.0.0 alone and 0 where it is broken.
+pub fn read_list(out: &mut [[u8; 4]; 4], s: &[u8], sep: Separator) -> usize
+    ensures { λ r. ⌜ (r ≡ length (orEmpty (addresses sep (now (s .entry))))) × (now (out .exit) ≡ rows (addresses sep (now (s .entry)))) ⌝ }
+{
+    *out = [[0u8; 4]; 4];
+    let n = fill_addresses(out, s, sep);
+    if n == 0 {
+        *out = [[0u8; 4]; 4];
+        return 0;
+    }
+    n
 }
 
 // The addresses that s lists, and 0.0.0.0 up to four; 0.0.0.0 alone where it is broken.

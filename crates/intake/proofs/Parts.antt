@@ -12,7 +12,8 @@ use lib.Seq.{take-all, drop-drop}
 use Rattle.text.specs.Bytes.{inLine}
 use Rattle.text.specs.Parts.{all, part}
 use Rattle.text.specs.Laws.{all-append}
-use Rattle.text.specs.Scans.{Stop, stop-all, stop-some, stop-front, stop-after}
+use Rattle.text.specs.Scans.{Stop}
+use Rattle.text.proofs.ScanLaws.{stop-all, stop-some, stop-front, stop-after}
 use Rattle.intake.specs.declared.Cut.{Cut}
 use Rattle.intake.specs.declared.Form.{Form}
 use Rattle.intake.specs.declared.Form.the-variants.{Empty}

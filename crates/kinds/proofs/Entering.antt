@@ -15,7 +15,8 @@ use Rattle.text.specs.Options.{isSome, prepend, only, sized, each}
 use Rattle.text.specs.Laws.{inside, over, padded-set, pieces-some}
 use Rattle.text.specs.Relations.{Sized}
 use Rattle.text.specs.OptionLaws.{some-is, none-is, only-some, sized-is, is-sized, unsized}
-use Rattle.text.specs.Scans.{Stop, stop-low, pieces-end, pieces-at}
+use Rattle.text.specs.Scans.{Stop}
+use Rattle.text.proofs.ScanLaws.{stop-low, pieces-end, pieces-at}
 use Rattle.put.proofs.Gathering.{ahead, ahead-none, each-read-append, sized-each}
 use Rattle.kinds.specs.Kinds.{entry, entries}
 use Rattle.kinds.specs.Answers.{startsFrom, endsFrom, entriesAnswer}

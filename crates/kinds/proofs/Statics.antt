@@ -11,7 +11,8 @@ use Rattle.text.specs.Bytes.{other}
 use Rattle.text.specs.Parts.{part, pieces}
 use Rattle.text.specs.Options.{andThen}
 use Rattle.text.specs.Laws.{pieces-some}
-use Rattle.text.specs.Scans.{Stop, pieces-end, pieces-at}
+use Rattle.text.specs.Scans.{Stop}
+use Rattle.text.proofs.ScanLaws.{pieces-end, pieces-at}
 use Rattle.addresses.specs.Addresses.{address, netmask, prefixLength, addressAnswer, netmaskAnswer}
 use Rattle.addresses.proofs.Reading.{address-refused, address-read}
 use Rattle.addresses.specs.declared.Address.{Address}

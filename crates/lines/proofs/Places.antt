@@ -10,7 +10,8 @@ use lib.ListN.{length, take, drop, length-drop}
 use lib.Seq.{take-all, drop-drop}
 use Rattle.text.specs.Bytes.{isBlank, isHeaderByte, isKeyByte}
 use Rattle.text.specs.Parts.{lead, front, after, all, empty, partAt, Inside, trimmed}
-use Rattle.text.specs.Scans.{Stop, stop-low, stop-front, stop-after}
+use Rattle.text.specs.Scans.{Stop}
+use Rattle.text.proofs.ScanLaws.{stop-low, stop-front, stop-after}
 use Rattle.text.specs.declared.Dialect.{Dialect}
 use Rattle.text.specs.declared.Dialect.the-variants.{Iwd, ConnMan}
 use Rattle.lines.specs.Lines.{Line, blank, comment, header, setting, broken, extends, closed, bracketOf, ended, equalOf, behindEqual, settingOf, bodyOf, lineOf, valueStart}

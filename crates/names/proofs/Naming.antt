@@ -15,7 +15,8 @@ use Rattle.text.specs.Parts.{all, after, part, empty, padded}
 use Rattle.text.specs.Words.{word, same, named}
 use Rattle.text.specs.Options.{isSome, andThen, only, sized, orEmpty, ReadsUpTo}
 use Rattle.text.specs.Laws.{inside, over, part-some}
-use Rattle.text.specs.Scans.{Stop, stop-front, stop-after}
+use Rattle.text.specs.Scans.{Stop}
+use Rattle.text.proofs.ScanLaws.{stop-front, stop-after}
 use Rattle.hex.specs.Hex.{unhex, hex}
 use Rattle.hex.specs.Laws.{hex-length, unhex-length}
 use Rattle.names.specs.declared.Suffix.{Suffix}

@@ -8,7 +8,8 @@ use mathlib.Core.Option.{Option, none, some}
 use lib.ListN.{length, drop, replicate, length-replicate, getD-replicate, drop-of-length-le, length-append}
 use Rattle.text.specs.Bytes.{inLine}
 use Rattle.text.specs.Parts.{part, lines}
-use Rattle.text.specs.Scans.{Stop, stop-low, lines-at}
+use Rattle.text.specs.Scans.{Stop}
+use Rattle.text.proofs.ScanLaws.{stop-low, lines-at}
 use Rattle.text.specs.Laws.{part-long}
 use Rattle.text.specs.Words.{place}
 use Rattle.text.specs.declared.Dialect.{Dialect}

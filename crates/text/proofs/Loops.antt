@@ -13,7 +13,8 @@ use lib.Seq.{drop-cons, take-suc, getD-drop, take-all, drop-drop, drop-nil}
 use Rattle.text.specs.Bytes.{isBlank}
 use Rattle.text.specs.Parts.{all, part, trimmed}
 use Rattle.text.specs.Words.{same, further, place, wordsAfter, wordsIn, wholeAfter, Table}
-use Rattle.text.specs.Scans.{Scan, Trim, scan-none, scan-turn}
+use Rattle.text.specs.Scans.{Scan, Trim}
+use Rattle.text.proofs.ScanLaws.{scan-none, scan-turn}
 
 -- ---- a block: the run goes on to j unless there was a hit
 

@@ -14,5 +14,5 @@ pub mod OptionLaws
 pub mod RelationLaws
 pub mod OccurrenceLaws
 pub mod Decides
--- For the proofs only: where a scan stops, by index
+-- For the proofs only: what the scans of the code answer, by index
 pub mod Scans

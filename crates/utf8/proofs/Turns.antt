@@ -11,7 +11,8 @@ use lib.ListN.{length, drop, getD, drop-of-length-le, replicate}
 use lib.Seq.{drop-cons}
 use Rattle.text.specs.Bytes.{between}
 use Rattle.text.specs.Parts.{all}
-use Rattle.text.specs.Scans.{Stop, stop-after}
+use Rattle.text.specs.Scans.{Stop}
+use Rattle.text.proofs.ScanLaws.{stop-after}
 use Rattle.text.specs.Laws.{inside, under, over, and-true, below, below-at}
 use Rattle.utf8.specs.Utf8.{Range, _to_, follow, utf8From, text, textByte}
 use Rattle.utf8.specs.Due.{pending, ranges, StepsOver}

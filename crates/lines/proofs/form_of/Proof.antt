@@ -1,5 +1,5 @@
 -- A line by its first byte that is no blank.
-use Rattle.lines.proofs.Scans.{line-blank, line-comment, line-bracket, line-setting}
+use Rattle.lines.proofs.FormSteps.{line-blank, line-comment, line-bracket, line-setting}
 use borrow.Author.Needs.{needs}
 use Rattle.lines.proofs.form_of.Statement.{statement}
 use Rattle.lines.proofs.form_of.Tie as tie

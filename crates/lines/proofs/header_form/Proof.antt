@@ -1,5 +1,5 @@
 -- A header, by the laws of `Scans`, one for each return.
-use Rattle.lines.proofs.Scans.{header-extension, header-open, header-empty, header-other, header-rest, header-good}
+use Rattle.lines.proofs.FormSteps.{header-extension, header-open, header-empty, header-other, header-rest, header-good}
 use borrow.Author.Needs.{needs}
 use Rattle.lines.proofs.header_form.Statement.{statement}
 use Rattle.lines.proofs.header_form.Tie as tie

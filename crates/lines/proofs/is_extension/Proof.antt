@@ -1,5 +1,5 @@
 -- `[@`, by the dialect.
-use Rattle.lines.proofs.Scans.{extends-end, extends-first}
+use Rattle.lines.proofs.FormSteps.{extends-end, extends-first}
 use borrow.Author.Needs.{needs}
 use Rattle.lines.proofs.is_extension.Statement.{statement}
 use Rattle.lines.proofs.is_extension.Tie as tie

@@ -1,5 +1,5 @@
 -- A setting, by the laws of `Scans`, one for each return.
-use Rattle.lines.proofs.Scans.{setting-end, setting-empty, setting-open, setting-good}
+use Rattle.lines.proofs.FormSteps.{setting-end, setting-empty, setting-open, setting-good}
 use borrow.Author.Needs.{needs}
 use Rattle.lines.proofs.setting_form.Statement.{statement}
 use Rattle.lines.proofs.setting_form.Tie as tie

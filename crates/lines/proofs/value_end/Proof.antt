@@ -1,5 +1,5 @@
 -- The end of a value, by the dialect.
-use Rattle.lines.proofs.Scans.{ends-iwd, ends-connman}
+use Rattle.lines.proofs.FormSteps.{ends-iwd, ends-connman}
 use borrow.Author.Needs.{needs}
 use Rattle.lines.proofs.value_end.Statement.{statement}
 use Rattle.lines.proofs.value_end.Tie as tie

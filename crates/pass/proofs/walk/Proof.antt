@@ -2,7 +2,7 @@
 use Prim.Native.Nat.{_+_, _-_}
 use native.Mathlib.Omega.{arith}
 use lib.ListN.{length}
-use Rattle.text.specs.Scans.{stop-low}
+use Rattle.text.proofs.ScanLaws.{stop-low}
 use Rattle.pass.proofs.Walking.{Running, running-first, running-stop, running-turn, running-end}
 use borrow.Author.Needs.{needs}
 use Rattle.pass.proofs.walk.Statement.{statement}

@@ -1,5 +1,5 @@
 -- The run of zeros from the front ends at the end (`all-run`).
-use Rattle.text.specs.Scans.{all-run}
+use Rattle.text.proofs.ScanLaws.{all-run}
 use borrow.Author.Needs.{needs}
 use Rattle.records.proofs.is_zero.Statement.{statement}
 use Rattle.records.proofs.is_zero.Tie as tie

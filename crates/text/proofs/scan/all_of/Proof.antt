@@ -1,5 +1,5 @@
 -- Every byte is of the class where its run from the front ends at the end (`all-run`).
-use Rattle.text.specs.Scans.{all-run}
+use Rattle.text.proofs.ScanLaws.{all-run}
 use borrow.Author.Needs.{needs}
 use Rattle.text.proofs.scan.all_of.Statement.{statement}
 use Rattle.text.proofs.scan.all_of.Tie as tie

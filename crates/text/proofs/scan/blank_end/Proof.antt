@@ -2,7 +2,8 @@ use Prim.Native.Nat.{_-_}
 use lib.ListN.{length}
 use mathlib.Core.Path.{sym, _∙_}
 use Rattle.text.specs.Bytes.{isBlank}
-use Rattle.text.specs.Scans.{Scan, scan-none, scan-turn, scan-stop, scan-end}
+use Rattle.text.specs.Scans.{Scan}
+use Rattle.text.proofs.ScanLaws.{scan-none, scan-turn, scan-stop, scan-end}
 use borrow.Author.Needs.{needs}
 use Rattle.text.proofs.scan.blank_end.Statement.{statement}
 use Rattle.text.proofs.scan.blank_end.Tie as tie

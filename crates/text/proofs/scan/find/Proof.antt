@@ -1,7 +1,8 @@
 use Prim.Native.Nat.{_-_}
 use lib.ListN.{length}
 use Rattle.text.specs.Bytes.{other}
-use Rattle.text.specs.Scans.{Scan, scan-none, scan-on, scan-then}
+use Rattle.text.specs.Scans.{Scan}
+use Rattle.text.proofs.ScanLaws.{scan-none, scan-on, scan-then}
 use borrow.Author.Needs.{needs}
 use Rattle.text.proofs.scan.find.Statement.{statement}
 use Rattle.text.proofs.scan.find.Tie as tie

@@ -2,7 +2,8 @@ use Prim.Native.Nat.{_-_}
 use lib.ListN.{length}
 use Rattle.text.specs.Bytes.{other}
 use Rattle.text.specs.Laws.{is-other, not-other}
-use Rattle.text.specs.Scans.{Scan, scan-none, scan-turn, scan-stop, scan-end}
+use Rattle.text.specs.Scans.{Scan}
+use Rattle.text.proofs.ScanLaws.{scan-none, scan-turn, scan-stop, scan-end}
 use borrow.Author.Needs.{needs}
 use Rattle.text.proofs.scan.find_near.Statement.{statement}
 use Rattle.text.proofs.scan.find_near.Tie as tie

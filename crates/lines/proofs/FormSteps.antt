@@ -12,7 +12,8 @@ use lib.Seq.{take-all}
 use Rattle.text.specs.Bytes.{isBlank, isHeaderByte, isKeyByte}
 use Rattle.text.specs.Parts.{lead, after, all, part, empty}
 use Rattle.text.specs.Laws.{view-end, view-more, part-none, part-some, part-long}
-use Rattle.text.specs.Scans.{Stop, Trim, stop-front, stop-after, stop-low, stop-all, stop-some}
+use Rattle.text.specs.Scans.{Stop, Trim}
+use Rattle.text.proofs.ScanLaws.{stop-front, stop-after, stop-low, stop-all, stop-some}
 use Rattle.text.specs.declared.Dialect.{Dialect}
 use Rattle.text.specs.declared.Dialect.the-variants.{Iwd, ConnMan}
 use Rattle.lines.specs.Lines.{Line, comment, header, setting, broken, closed, headerOf, bracketOf, ended, equalOf, settingOf, bodyOf, lineOf}

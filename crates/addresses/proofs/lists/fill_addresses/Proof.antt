@@ -1,0 +1,27 @@
+-- The addresses of a list: the loop gathers them field by field (`Addressing`).
+use Prim.Native.Nat.{_-_}
+use Rattle.addresses.proofs.Listing.{Addressing, addressing-first, addressing-broken, addressing-turn, addressing-end, addressing-full}
+use borrow.Author.Needs.{needs}
+use Rattle.addresses.proofs.lists.fill_addresses.Statement.{statement}
+use Rattle.addresses.proofs.lists.fill_addresses.Tie as tie
+
+pub fill-addresses-spec : {M : Type 1} → statement M
+fill-addresses-spec =
+    tie.close
+    (tie.spec
+    (λ list₀ s sep at₀ n₀ list at n. Addressing sep s list at n)
+    (λ list₀ s sep at₀ n₀ list at n. 4 - n)
+    (λ c. search addressing-first)
+    (λ c κs. search needs)
+    (λ c. search needs)
+    (λ c. search needs)
+    (λ c. search needs)
+    (λ c κs. search needs)
+    (λ c. search addressing-broken)
+    (λ c. search needs)
+    (λ c. search needs)
+    (λ c. search needs)
+    (λ c. search addressing-end)
+    (λ c. search needs)
+    (λ c. search addressing-turn)
+    (λ c. search addressing-full))
