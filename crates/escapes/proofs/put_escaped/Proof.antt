@@ -1,10 +1,9 @@
 use Rattle.escapes.proofs.Loops.{Putting, one-room, two-room, putting-one, putting-two, putting-end}
 use Rattle.put.specs.Laws.{wrote-none}
-use lib.ListN.{length-set}
+use lib.ListN.{length-set, length}
 use mathlib.Core.List.{[]}
 use native.Mathlib.Omega.{arith}
 use mathlib.Core.Path.{refl}
-use lib.ListN.{length}
 use Prim.Native.Nat.{_-_}
 use borrow.Author.Needs.{needs}
 use Rattle.escapes.proofs.put_escaped.Statement.{statement}
