@@ -1,14 +1,20 @@
--- What the reading, the lookups, the writer and the move answer, in the C boundary's structs: document 01's number and line, and what else is given.
+-- What the reading, the lookups, the joins, the writer and the move answer, in the C boundary's structs: document 01's number and line, and what else is given.
 use Prim.Native.Nat.{ℕ, _-_}
 use mathlib.Core.Path.{_≡_}
+use mathlib.Core.Bool.{cond}
 use mathlib.Core.List.{List}
 use lib.ListN.{replicate}
 use Rattle.rules.specs.Numbers.{Seen, seenOf, answerNumber, answerLine}
 use Rattle.rules.specs.declared.Reading.{Reading}
-use Rattle.writer.specs.Writing.{Writing, writtenAnswer, nameAfter, fileAfter}
+use Rattle.rules.specs.declared.Refusal.the-variants.{Malformed}
+use Rattle.record_layout.specs.Records.{recordAt, known, recordIn, serversIn}
+use Rattle.record_layout.specs.declared.CRecord.{CRecord}
+use Rattle.joins.specs.declared.RecordAnswer.{RecordAnswer}
+use Rattle.writer.specs.Writing.{Writing, refuses, writing, writtenAnswer, nameAfter, fileAfter}
 use Rattle.writer.specs.declared.Written.{Written}
 use Rattle.lookups.specs.declared.TextPlace.{TextPlace}
 use Rattle.boundary.specs.declared.CReading.{CReading}
+use Rattle.boundary.specs.declared.CRecordAnswer.{CRecordAnswer}
 use Rattle.boundary.specs.declared.CText.{CText}
 use Rattle.boundary.specs.declared.CWritten.{CWritten}
 
@@ -33,6 +39,19 @@ writtenAt a =
       number = answerNumber (a .answer);
       reserved = replicate 7 0;
     }
+
+abbrev pub recordAnswerAt : RecordAnswer → List (List ℕ) → CRecordAnswer
+recordAnswerAt a s =
+    record {
+      line = answerLine (a .answer);
+      number = answerNumber (a .answer);
+      «record» = recordAt (a .«record») s;
+      reserved = replicate 1 0;
+    }
+
+-- what is written of a record that is brought in: 19 where a code is that of no case, and what is written of the record else
+abbrev pub writingIn : CRecord → List ℕ → List ℕ → Writing
+writingIn c n f = cond (known c) (writing (recordIn c) (serversIn c) n f) (refuses Malformed 0)
 
 -- what a call that writes leaves: its answer, and what the buffers of the name and of the file then hold
 pub record Left : Type 0 where

@@ -1,7 +1,5 @@
--- What to read beside the header: the codes, the answers, the records and the settings in the C boundary's structs
-pub mod Codes
+-- What to read beside the header: the answers and the settings in the C boundary's structs
 pub mod Answers
-pub mod Records
 pub mod Settings
--- The laws: what is handed out may be brought in again
+-- The laws: what is handed out as a record is written as that record
 pub mod Laws

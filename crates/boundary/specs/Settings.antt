@@ -2,8 +2,12 @@
 use Prim.Native.Nat.{ℕ, _-_}
 use mathlib.Core.List.{List, [], _∷_}
 use lib.ListN.{getD, replicate}
-use Rattle.kinds.specs.declared.Entries.{Entries}
+use Rattle.entry_lists.specs.declared.Entries.{Entries}
 use Rattle.rules.specs.Numbers.{answerNumber, answerLine}
+use Rattle.values.specs.declared.Choice.{Choice}
+use Rattle.values.specs.declared.Choice.the-variants as Choice
+use Rattle.values.specs.declared.Chosen.{Chosen}
+use Rattle.values.specs.declared.Chosen.the-variants as Chosen
 use Rattle.settings.specs.declared.GeneralSettings.{GeneralSettings}
 use Rattle.settings.specs.declared.SecuritySettings.{SecuritySettings}
 use Rattle.settings.specs.declared.Ipv4Settings.{Ipv4Settings}
@@ -11,8 +15,8 @@ use Rattle.settings.specs.declared.NetworkSettings.{NetworkSettings}
 use Rattle.settings.specs.declared.AddressSettings.{AddressSettings}
 use Rattle.settings.specs.declared.IwdAnswer.{IwdAnswer}
 use Rattle.settings.specs.declared.ServiceAnswer.{ServiceAnswer}
-use Rattle.boundary.specs.Codes.{bitOf, choiceCode, chosenCode, givenMethodCode}
-use Rattle.boundary.specs.Records.{sixteen}
+use Rattle.codes.specs.Codes.{bitOf, wordCode, givenMethodCode}
+use Rattle.record_layout.specs.Records.{sixteen}
 use Rattle.boundary.specs.declared.CGeneral.{CGeneral}
 use Rattle.boundary.specs.declared.CSecurity.{CSecurity}
 use Rattle.boundary.specs.declared.CIpv4.{CIpv4}
@@ -21,6 +25,17 @@ use Rattle.boundary.specs.declared.CEntries.{CEntries}
 use Rattle.boundary.specs.declared.CNetwork.{CNetwork}
 use Rattle.boundary.specs.declared.CAddresses.{CAddresses}
 use Rattle.boundary.specs.declared.CServiceSettings.{CServiceSettings}
+
+-- ---- codes of what may be absent
+
+abbrev pub choiceCode : Choice → ℕ
+choiceCode Choice.Absent = 0
+choiceCode Choice.No = 1
+choiceCode Choice.Yes = 2
+
+abbrev pub chosenCode : Chosen → ℕ
+chosenCode Chosen.Absent = 0
+chosenCode (Chosen.Is w) = wordCode w
 
 -- ---- an iwd file, by its groups
 

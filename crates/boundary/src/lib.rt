@@ -1,13 +1,14 @@
-// The C boundary's structs, and the library's answers and records in them.
+// The C boundary's structs, and the library's answers and settings in them.
 //
 // An enum is a code, name servers are 16 bytes, and a part of the file is a start and a length; `include/qewaris.h` has the
 // same structs. Bytes that C would leave as padding are members, `reserved`, and always zero, so that an answer can be compared
-// and kept as bytes. `codes` gives the codes, `answers` lays out what the reading, the lookups, the writer and the move answer,
-// `record_layout` and `settings_layout` records and settings. The definitions are in specs/Codes, specs/Answers, specs/Records and specs/Settings.
-pub mod answers;
-pub mod codes;
-pub mod record_layout;
+// and kept as bytes. `answer_layout` lays out what the reading, the lookups, the joins, the writer and the move answer,
+// `settings_layout` the settings; the codes are crate `codes`'s, and the record with its struct is `record_layout`'s. The
+// definitions are in specs/Answers and specs/Settings.
+pub mod answer_layout;
 pub mod settings_layout;
+
+use record_layout::CRecord;
 
 // What a reading answers.
 #[repr(C)]
@@ -37,28 +38,6 @@ pub struct CWritten {
     pub file_len: usize,
     pub number: u8,
     pub reserved: [u8; 7],
-}
-
-// A join record with its name servers: bytes only, so that it has no padding.
-#[repr(C)]
-pub struct CRecord {
-    pub name_len: u8,
-    pub name: [u8; 32],
-    pub credential: u8,
-    pub passphrase_len: u8,
-    pub passphrase: [u8; 63],
-    pub key: [u8; 32],
-    pub hidden: u8,
-    pub ipv4: u8,
-    pub address: [u8; 4],
-    pub prefix_length: u8,
-    pub has_gateway: u8,
-    pub gateway: [u8; 4],
-    pub server_count: u8,
-    pub servers: [u8; 16],
-    pub domain_len: u8,
-    pub domain: [u8; 253],
-    pub ipv6: u8,
 }
 
 // The answer to a question for a join record.

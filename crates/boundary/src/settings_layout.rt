@@ -1,6 +1,6 @@
 // Typed settings, handed out: those of an iwd file by its groups, and those of a ConnMan service.
 ghost use mathlib.Core.Path.{_≡_};
-ghost use Rattle.boundary.specs.Settings.{generalAt, securityAt, ipv4At, iwdSettingsAt, entriesAt, networkAt, addressesAt, serviceSettingsAt};
+ghost use Rattle.boundary.specs.Settings.{choiceCode, chosenCode, generalAt, securityAt, ipv4At, iwdSettingsAt, entriesAt, networkAt, addressesAt, serviceSettingsAt};
 use crate::CAddresses;
 use crate::CEntries;
 use crate::CGeneral;
@@ -9,10 +9,9 @@ use crate::CIwdSettings;
 use crate::CNetwork;
 use crate::CSecurity;
 use crate::CServiceSettings;
-use crate::answers;
-use crate::codes;
-use crate::record_layout::sixteen;
-use kinds::Entries;
+use crate::answer_layout;
+use entry_lists::Entries;
+use record_layout::sixteen;
 use settings::AddressSettings;
 use settings::GeneralSettings;
 use settings::Ipv4Settings;
@@ -20,6 +19,27 @@ use settings::IwdAnswer;
 use settings::NetworkSettings;
 use settings::SecuritySettings;
 use settings::ServiceAnswer;
+use values::Choice;
+use values::Chosen;
+
+fn choice_code(c: Choice) -> u8
+    ensures { λ r. ⌜ r ≡ choiceCode c ⌝ }
+{
+    match c {
+        Choice::Absent => 0,
+        Choice::No => 1,
+        Choice::Yes => 2,
+    }
+}
+
+fn chosen_code(c: Chosen) -> u8
+    ensures { λ r. ⌜ r ≡ chosenCode c ⌝ }
+{
+    match c {
+        Chosen::Absent => 0,
+        Chosen::Is(w) => codes::word_code(w),
+    }
+}
 
 fn general_at(s: GeneralSettings) -> CGeneral
     ensures { λ c. ⌜ c ≡ generalAt s ⌝ }
@@ -30,9 +50,9 @@ fn general_at(s: GeneralSettings) -> CGeneral
     let mac = s.address_override;
     let bytes = mac.bytes;
     CGeneral {
-        auto_connect: codes::choice_code(auto_connect),
-        hidden: codes::choice_code(hidden),
-        always_randomize_address: codes::choice_code(randomize),
+        auto_connect: choice_code(auto_connect),
+        hidden: choice_code(hidden),
+        always_randomize_address: choice_code(randomize),
         has_address_override: codes::bit_of(mac.ok),
         address_override: bytes,
     }
@@ -73,7 +93,7 @@ fn ipv4_at(s: Ipv4Settings, servers: [[u8; 4]; 4]) -> CIpv4
         has_broadcast: codes::bit_of(broadcast.ok),
         broadcast: broadcast_bytes,
         netmask_length: s.netmask,
-        send_hostname: codes::choice_code(send_hostname),
+        send_hostname: choice_code(send_hostname),
         reserved: [0; 7],
     }
 }
@@ -89,9 +109,9 @@ pub fn iwd_settings_at(a: IwdAnswer, servers: [[u8; 4]; 4]) -> CIwdSettings
     let ipv4 = s.ipv4;
     let enabled = s.enabled;
     CIwdSettings {
-        line: answers::answer_line(answer),
-        number: answers::answer_number(answer),
-        ipv6_enabled: codes::choice_code(enabled),
+        line: answer_layout::answer_line(answer),
+        number: answer_layout::answer_number(answer),
+        ipv6_enabled: choice_code(enabled),
         general: general_at(general),
         reserved: [0; 4],
         security: security_at(security),
@@ -106,10 +126,10 @@ fn entries_at(e: Entries) -> CEntries
     let starts = e.starts;
     let ends = e.ends;
     let length = [
-        answers::distance(starts[0], ends[0]),
-        answers::distance(starts[1], ends[1]),
-        answers::distance(starts[2], ends[2]),
-        answers::distance(starts[3], ends[3]),
+        answer_layout::distance(starts[0], ends[0]),
+        answer_layout::distance(starts[1], ends[1]),
+        answer_layout::distance(starts[2], ends[2]),
+        answer_layout::distance(starts[3], ends[3]),
     ];
     CEntries {
         count: e.count,
@@ -131,9 +151,9 @@ fn network_at(s: NetworkSettings) -> CNetwork
         passphrase_line: s.passphrase,
         ssid_len: ssid.length,
         ssid: ssid_bytes,
-        service_type: codes::chosen_code(service_type),
-        security: codes::chosen_code(security),
-        hidden: codes::choice_code(hidden),
+        service_type: chosen_code(service_type),
+        security: chosen_code(security),
+        hidden: choice_code(hidden),
         reserved: [0; 5],
     }
 }
@@ -163,8 +183,8 @@ fn addresses_at(s: AddressSettings, servers: [[u8; 4]; 4]) -> CAddresses
         prefix_length: ipv4.length,
         has_gateway: codes::bit_of(ipv4.has_gateway),
         gateway,
-        ipv6: codes::chosen_code(ipv6),
-        privacy: codes::chosen_code(privacy),
+        ipv6: chosen_code(ipv6),
+        privacy: chosen_code(privacy),
         has_mac: codes::bit_of(mac.ok),
         mac: mac_bytes,
         reserved: [0; 4],
@@ -180,8 +200,8 @@ pub fn service_settings_at(a: ServiceAnswer, servers: [[u8; 4]; 4]) -> CServiceS
     let network = s.network;
     let addresses = s.addresses;
     CServiceSettings {
-        line: answers::answer_line(answer),
-        number: answers::answer_number(answer),
+        line: answer_layout::answer_line(answer),
+        number: answer_layout::answer_number(answer),
         reserved: [0; 7],
         network: network_at(network),
         addresses: addresses_at(addresses, servers),

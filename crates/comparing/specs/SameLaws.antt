@@ -7,8 +7,8 @@ use borrow.Author.Tests.{eq-eqb, eqb-true}
 use lib.Dec.{eqb}
 use Rattle.text.specs.Words.{same}
 use Rattle.text.specs.Laws.{and-true, same-refl, same-eq}
-use Rattle.kinds.specs.declared.Method.{Method}
-use Rattle.kinds.specs.declared.Method.the-variants as M
+use Rattle.connman_ipv4.specs.declared.Method.{Method}
+use Rattle.connman_ipv4.specs.declared.Method.the-variants as M
 use Rattle.records.specs.declared.Credential.{Credential}
 use Rattle.records.specs.declared.Credential.the-variants as C
 use Rattle.records.specs.declared.Ipv6.{Ipv6}

@@ -5,7 +5,7 @@
 ghost use mathlib.Core.Path.{_≡_};
 ghost use Rattle.text.specs.Words.{same};
 ghost use Rattle.comparing.specs.Same.{sameFlag, credentialCase, methodCase, ipv6Case, sameName, sameCredential, sameNumbers, sameDomain, sameChoices, sameRecord, sameServers};
-use kinds::Method;
+use connman_ipv4::Method;
 use records::Credential;
 use records::Ipv6;
 use records::JoinRecord;

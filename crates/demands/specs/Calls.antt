@@ -9,12 +9,12 @@ use Rattle.lookups.specs.Lookups.{iwdLookup, globalLookup, serviceLookup, looku
 use Rattle.joins.specs.Joins as Joins
 use Rattle.joins.specs.Joins.{iwdRecordServers, serviceRecordServers}
 use Rattle.mover.specs.Moves.{moving}
-use Rattle.boundary.specs.Answers.{readingAt, textAt, Left, leftOf}
-use Rattle.boundary.specs.Records.{lentServers, recordAnswerAt, writingIn}
+use Rattle.record_layout.specs.Records.{lentServers}
+use Rattle.record_layout.specs.declared.CRecord.{CRecord}
+use Rattle.boundary.specs.Answers.{readingAt, textAt, Left, leftOf, recordAnswerAt, writingIn}
 use Rattle.boundary.specs.Settings.{iwdSettingsAt, serviceSettingsAt}
 use Rattle.boundary.specs.declared.CReading.{CReading}
 use Rattle.boundary.specs.declared.CText.{CText}
-use Rattle.boundary.specs.declared.CRecord.{CRecord}
 use Rattle.boundary.specs.declared.CRecordAnswer.{CRecordAnswer}
 use Rattle.boundary.specs.declared.CIwdSettings.{CIwdSettings}
 use Rattle.boundary.specs.declared.CServiceSettings.{CServiceSettings}

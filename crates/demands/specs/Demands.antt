@@ -274,24 +274,24 @@ Demand-3-key =
 -- ==== that Saturday: "A faulty Passphrase line treated as absent, so the service reads as open"
 
 -- the calls that read a file of a dialect under a name
-pub data ReadsFile (name file : List ℕ) : Dialect → Call → Type 0 where
-  by-check : (d : Dialect) → ReadsFile name file d (check d name file)
-  by-iwd-settings : (s : List (List ℕ)) → ReadsFile name file Iwd (iwd-settings name file s)
-  by-service-settings : (w : ℕ) (s : List (List ℕ)) → ReadsFile name file ConnMan (service-settings name file w s)
-  by-iwd-string : (group key : List ℕ) → ReadsFile name file Iwd (iwd-string group key name file)
-  by-global-string : (key : List ℕ) → ReadsFile name file ConnMan (global-string key name file)
-  by-service-string : (w : ℕ) (key : List ℕ) → ReadsFile name file ConnMan (service-string w key name file)
-  by-iwd-record : (s : List (List ℕ)) → ReadsFile name file Iwd (iwd-record name file s)
-  by-service-record : (w : ℕ) (s : List (List ℕ)) → ReadsFile name file ConnMan (service-record name file w s)
-  by-move : (w : ℕ) (n f : List ℕ) → ReadsFile name file ConnMan (move name file w n f)
+pub data ReadingCall (name file : List ℕ) : Dialect → Call → Type 0 where
+  by-check : (d : Dialect) → ReadingCall name file d (check d name file)
+  by-iwd-settings : (s : List (List ℕ)) → ReadingCall name file Iwd (iwd-settings name file s)
+  by-service-settings : (w : ℕ) (s : List (List ℕ)) → ReadingCall name file ConnMan (service-settings name file w s)
+  by-iwd-string : (group key : List ℕ) → ReadingCall name file Iwd (iwd-string group key name file)
+  by-global-string : (key : List ℕ) → ReadingCall name file ConnMan (global-string key name file)
+  by-service-string : (w : ℕ) (key : List ℕ) → ReadingCall name file ConnMan (service-string w key name file)
+  by-iwd-record : (s : List (List ℕ)) → ReadingCall name file Iwd (iwd-record name file s)
+  by-service-record : (w : ℕ) (s : List (List ℕ)) → ReadingCall name file ConnMan (service-record name file w s)
+  by-move : (w : ℕ) (n f : List ℕ) → ReadingCall name file ConnMan (move name file w n f)
 
 -- a refusal, at line n or before it, that every one of them answers, with zeros for all else and every lent byte as it was
 pub record AllRefuse (d : Dialect) (name file : List ℕ) (n : ℕ) : Type 0 where
   pub refusal : Refusal
   pub line : ℕ
   pub early : line ≤ n
-  pub answers : (c : Call) → ReadsFile name file d c → answerOf c ≡ Refused refusal line
-  pub zeros : (c : Call) → ReadsFile name file d c → Zeroed c refusal line
+  pub answers : (c : Call) → ReadingCall name file d c → answerOf c ≡ Refused refusal line
+  pub zeros : (c : Call) → ReadingCall name file d c → Zeroed c refusal line
 
 -- a file whose line n, wherever it stands, is a Passphrase line with broken text or no passphrase
 abbrev pub Saturday : Type 0

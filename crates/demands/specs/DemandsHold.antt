@@ -152,7 +152,7 @@ demand-3-key name file w n f x y a h e = good-key-kept name file w n f h e
 
 -- the refusal of a file is the answer of every call that reads it
 all-refuse : (name file : List ℕ) {d : Dialect} {r : Refusal} {l : ℕ} → reading d name file ≡ R.Refused r l →
-    (c : Demands.Call) → Demands.ReadsFile name file d c → Demands.answerOf c ≡ Refused r l
+    (c : Demands.Call) → Demands.ReadingCall name file d c → Demands.answerOf c ≡ Refused r l
 unfolding iwdRecord serviceRecord moving
 all-refuse name file e c (Demands.by-check d) = ap asked e
 all-refuse name file e c (Demands.by-iwd-settings s) =

@@ -11,7 +11,7 @@ use Rattle.text.specs.Parts.{part, lines}
 use Rattle.text.specs.Words.{word}
 use Rattle.text.specs.Options.{orEmpty}
 use Rattle.text.specs.declared.Dialect.the-variants.{Iwd, ConnMan}
-use Rattle.kinds.specs.Kinds.{entries}
+use Rattle.entry_lists.specs.EntryLists.{entries}
 use Rattle.rules.specs.AnswerRows.{AnswerRow, bare, placed, hasRow, ownRows}
 use Rattle.rules.specs.Asking.{readAs}
 use Rattle.lookups.specs.Lookups.{Lookup, iwdLookup, globalLookup, serviceLookup, settingValue}
@@ -20,12 +20,12 @@ use Rattle.records.specs.Formed.{formed}
 use Rattle.written.specs.Written.{hasPlace, nameText, fileText}
 use Rattle.joins.specs.Joins.{noRecord, serviceSetting}
 use Rattle.mover.specs.Demand.{Service, Movable}
+use Rattle.record_layout.specs.Records.{CArrays, known, recordIn, serversIn}
+use Rattle.record_layout.specs.declared.CRecord.{CRecord}
 use Rattle.boundary.specs.Answers.{Left}
-use Rattle.boundary.specs.Records.{CArrays, known, recordIn, serversIn}
 use Rattle.boundary.specs.declared.CReading.{CReading}
 use Rattle.boundary.specs.declared.CText.{CText}
 use Rattle.boundary.specs.declared.CWritten.{CWritten}
-use Rattle.boundary.specs.declared.CRecord.{CRecord}
 use Rattle.boundary.specs.declared.CRecordAnswer.{CRecordAnswer}
 use Rattle.boundary.specs.declared.CEntries.{CEntries}
 use Rattle.boundary.specs.declared.CIwdSettings.{CIwdSettings}

@@ -33,8 +33,8 @@ use Rattle.joins.specs.Joins as J
 use Rattle.joins.specs.Joins.{Joined, serviceSetting, iwdJoined, serviceJoined, recordAnswer, serversAfter, iwdRecord, iwdRecordServers, serviceRecord, serviceRecordServers}
 use Rattle.writer.specs.Writing.{Writing, writes, refuses, writing, writtenAnswer}
 use Rattle.mover.specs.Moves.{moving}
-use Rattle.boundary.specs.Answers.{Left, readingAt, textAt, leftOf}
-use Rattle.boundary.specs.Records.{lentServers, recordAnswerAt, known, recordIn, serversIn, writingIn}
+use Rattle.record_layout.specs.Records.{lentServers, known, recordIn, serversIn}
+use Rattle.boundary.specs.Answers.{Left, readingAt, textAt, leftOf, recordAnswerAt, writingIn}
 use Rattle.boundary.specs.Settings.{iwdSettingsAt, serviceSettingsAt}
 use Rattle.demands.specs.Demands as D
 use Rattle.demands.specs.Demands.{serviceRefusals, writerRows}

@@ -17,8 +17,8 @@ use Rattle.text.specs.Options.{only, each, prepend, orEmpty}
 use Rattle.text.specs.OptionLaws.{IfSome, sized-some, then-some, only-some}
 use Rattle.text.specs.declared.Dialect.{Dialect}
 use Rattle.text.specs.declared.Dialect.the-variants.{Iwd, ConnMan}
-use Rattle.kinds.specs.Kinds.{entry, entries}
-use Rattle.kinds.specs.Answers.{startsFrom, endsFrom, entriesAnswer}
+use Rattle.entry_lists.specs.EntryLists.{entry, entries}
+use Rattle.entry_lists.specs.Answers.{startsFrom, endsFrom, entriesAnswer}
 use Rattle.rules.specs.Sections.{Entry}
 use Rattle.rules.specs.Reading.{sectionsOf, reading}
 use Rattle.rules.specs.Asking.{iwdEntry, serviceAt, readAs, entryStart, asked, askedOf}
@@ -30,8 +30,8 @@ use Rattle.rules.specs.declared.Answer.the-variants.{Good, Refused}
 use Rattle.settings.specs.Asked.{serviceAnswerOf, serviceServersOf}
 use Rattle.lookups.specs.Lookups.{lookupOf, lookupPlace}
 use Rattle.joins.specs.Joins.{serviceSetting}
+use Rattle.record_layout.specs.Records.{lentServers}
 use Rattle.boundary.specs.Answers.{textAt}
-use Rattle.boundary.specs.Records.{lentServers}
 use Rattle.boundary.specs.Settings.{entryLength, entriesAt, serviceSettingsAt}
 use Rattle.demands.specs.Exports.{StringStands, EntryAt, ListStands, entriesOf, Lists, Exported-strings, Exported-lists}
 use Rattle.demands.specs.ExportsHold.{refusal-number}

@@ -36,10 +36,10 @@ use Rattle.mover.specs.Moves.{moving}
 use Rattle.mover.specs.Demand.{Service, Movable}
 use Rattle.mover.specs.Theorem as M
 use Rattle.mover.specs.Order.{good-movable}
-use Rattle.boundary.specs.Answers.{readingAt, leftOf}
-use Rattle.boundary.specs.Records.{lentServers, recordAnswerAt, known, recordIn, serversIn, writingIn}
-use Rattle.boundary.specs.Laws.{brought-back, brought-arrays}
-use Rattle.boundary.specs.declared.CRecord.{CRecord}
+use Rattle.record_layout.specs.Records.{lentServers, known, recordIn, serversIn}
+use Rattle.record_layout.specs.Laws.{brought-back, brought-arrays}
+use Rattle.record_layout.specs.declared.CRecord.{CRecord}
+use Rattle.boundary.specs.Answers.{readingAt, leftOf, recordAnswerAt, writingIn}
 use Rattle.boundary.specs.declared.CRecordAnswer.{CRecordAnswer}
 use Rattle.demands.specs.Calls
 use Rattle.demands.specs.Demands.{ObeysTheRules}

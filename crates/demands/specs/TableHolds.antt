@@ -16,9 +16,10 @@ use Rattle.text.specs.Relations.{Each}
 use Rattle.text.specs.RelationLaws.{each-append}
 use Rattle.text.specs.declared.Dialect.{Dialect}
 use Rattle.text.specs.declared.Dialect.the-variants.{Iwd, ConnMan}
-use Rattle.kinds.specs.Kinds.{ipv4, wordOf}
-use Rattle.kinds.specs.declared.Word.the-variants as W
-use Rattle.kinds.specs.declared.WordList.the-variants as L
+use Rattle.named_words.specs.NamedWords.{wordOf}
+use Rattle.connman_ipv4.specs.ConnmanIpv4.{ipv4}
+use Rattle.named_words.specs.declared.Word.the-variants as W
+use Rattle.named_words.specs.declared.WordList.the-variants as L
 use Rattle.rules.specs.Sections.{Entry, Section}
 use Rattle.rules.specs.WordNumbers.{isWord}
 use Rattle.rules.specs.Numbers.{numberOf, answerNumber, answerLine}

@@ -1,10 +1,10 @@
 -- Answers with a number n and a line l whose every other byte is zero.
 use Prim.Native.Nat.{ℕ}
 use lib.ListN.{replicate}
+use Rattle.record_layout.specs.declared.CRecord.{CRecord}
 use Rattle.boundary.specs.declared.CReading.{CReading}
 use Rattle.boundary.specs.declared.CText.{CText}
 use Rattle.boundary.specs.declared.CWritten.{CWritten}
-use Rattle.boundary.specs.declared.CRecord.{CRecord}
 use Rattle.boundary.specs.declared.CRecordAnswer.{CRecordAnswer}
 use Rattle.boundary.specs.declared.CEntries.{CEntries}
 use Rattle.boundary.specs.declared.CIwdSettings.{CIwdSettings}

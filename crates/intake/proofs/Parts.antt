@@ -1,6 +1,6 @@
 -- The parts of the input with more behind it, and what is kept of them.
 use mathlib.Core.Path.{_≡_, refl, ap, ap₂, sym, _∙_}
-use mathlib.Core.Bool.{Bool, true, false, true≢false}
+use mathlib.Core.Bool.{Bool, true, false, cond, true≢false}
 use mathlib.Core.List.{List, [], _∷_, _++_, append-assoc, append-nil}
 use Prim.Native.Nat.{ℕ, _+_, _-_}
 use native.Mathlib.Nat.{le-refl}
@@ -125,22 +125,12 @@ nothing-named name file = record {
 }
 
 pub nothing-kept : (e : Bool) (number name file : List ℕ) → SomeInput number name file (record { ended = e; number = 0; rest = record { ended = false; name = 0; form = Empty; file = 0 } })
-nothing-kept true number name file = record {
-  input = 10 ∷ [];
+nothing-kept e number name file = record {
+  input = cond e (10 ∷ []) [];
   keeps = record {
     line = [];
     rest = [];
-    parted = record { is = refl; within = refl; none = λ e. refl };
-    numbered = front-none number;
-    kept = nothing-named name file;
-  };
-}
-nothing-kept false number name file = record {
-  input = [];
-  keeps = record {
-    line = [];
-    rest = [];
-    parted = record { is = refl; within = refl; none = λ e. refl };
+    parted = record { is = refl; within = refl; none = λ z. refl };
     numbered = front-none number;
     kept = nothing-named name file;
   };

@@ -14,12 +14,15 @@ use Rattle.text.specs.declared.Dialect.the-variants.{Iwd, ConnMan}
 use Rattle.escapes.specs.Escapes.{unescapeFrom}
 use Rattle.addresses.specs.Addresses.{address, addressAnswer, addresses}
 use Rattle.addresses.specs.declared.Separator.the-variants.{Spaces, Comma}
-use Rattle.kinds.specs.Kinds.{IPv4, dhcp, off, static, ipv4, ssid, string, passphrase, preSharedKey}
-use Rattle.kinds.specs.Answers.{ssidAnswer, ipv4Answer}
-use Rattle.kinds.specs.declared.Ipv4.{Ipv4}
-use Rattle.kinds.specs.declared.Ssid.{Ssid}
-use Rattle.kinds.specs.declared.Word.the-variants as W
-use Rattle.kinds.specs.declared.WordList.the-variants as L
+use Rattle.connman_ipv4.specs.ConnmanIpv4.{IPv4, dhcp, off, static, ipv4}
+use Rattle.hex_values.specs.HexValues.{ssid, preSharedKey}
+use Rattle.kinds.specs.Kinds.{string, passphrase}
+use Rattle.connman_ipv4.specs.Answers.{ipv4Answer}
+use Rattle.hex_values.specs.Answers.{ssidAnswer}
+use Rattle.connman_ipv4.specs.declared.Ipv4.{Ipv4}
+use Rattle.hex_values.specs.declared.Ssid.{Ssid}
+use Rattle.named_words.specs.declared.Word.the-variants as W
+use Rattle.named_words.specs.declared.WordList.the-variants as L
 use Rattle.names.specs.Names.{Network, networkOf, iwdNameAnswer}
 use Rattle.names.specs.declared.IwdName.{IwdName}
 use Rattle.rules.specs.Tables.{keysOf}
@@ -27,12 +30,11 @@ use Rattle.rules.specs.Sections.{entryOf}
 use Rattle.rules.specs.Asking.{iwdEntry, readAs}
 use Rattle.rules.specs.Reading.{sectionsOf}
 use Rattle.rules.specs.declared.Group.the-variants as G
-use Rattle.reader.specs.History.{base}
-use Rattle.reader.specs.Closing.{keySlot, bytesOf}
-use Rattle.reader.specs.declared.KeyName.the-variants as N
-use Rattle.settings.specs.Rows.{RowOf, RowGives, IwdRows}
-use Rattle.settings.proofs.Rowwise.{address-none, addresses-none, ipv4-none, key-none, ssid-none, row-read, row-word, row-mask}
-use Rattle.settings.proofs.IwdFile.{row-of}
+use Rattle.places.specs.History.{base}
+use Rattle.places.specs.KeySlots.{keySlot, bytesOf}
+use Rattle.places.specs.declared.KeyName.the-variants as N
+use Rattle.values.specs.Rows.{RowOf, RowGives, IwdRows}
+use Rattle.values.proofs.KeptValues.{address-none, addresses-none, ipv4-none, key-none, ssid-none, row-read, row-word, row-mask, row-of}
 use Rattle.records.specs.Record.{laid}
 use Rattle.records.specs.declared.Ipv6.{Ipv6}
 use Rattle.records.specs.declared.Ipv6.the-variants as Ipv6

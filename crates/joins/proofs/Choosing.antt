@@ -2,25 +2,31 @@
 use Prim.Native.Nat.{ℕ, zero, suc, _≤_}
 use native.Mathlib.Omega.{arith}
 use mathlib.Core.Path.{_≡_, refl, ap, ap₂, _∙_}
-use mathlib.Core.Bool.{Bool, true, false}
+use mathlib.Core.Bool.{Bool, true, false, _||_}
 use mathlib.Core.List.{List}
 use mathlib.Core.Option.{Option, none, some, Option·none-ne-some}
 use Rattle.addresses.specs.Addresses.{addressAnswer, netmask}
 use Rattle.text.specs.declared.Dialect.{Dialect}
-use Rattle.kinds.specs.Kinds.{flag}
+use Rattle.text.specs.declared.Dialect.the-variants.{ConnMan}
+use Rattle.named_words.specs.NamedWords.{flag}
 use Rattle.kinds.specs.declared.Kind.the-variants.{Flag}
-use Rattle.kinds.specs.Answers.{preSharedKeyAnswer}
+use Rattle.named_words.specs.declared.Word.the-variants as W
+use Rattle.named_words.specs.declared.WordList.the-variants as L
+use Rattle.hex_values.specs.Answers.{preSharedKeyAnswer}
+use Rattle.rules.specs.Tables.{keysOf}
 use Rattle.rules.specs.Sections.{Entry, entryOf}
+use Rattle.rules.specs.declared.Group.the-variants as G
 use Rattle.rules.specs.Asking.{readAs}
-use Rattle.reader.specs.Keys.{keyGroup, keyWord as nameOf, keyKind}
-use Rattle.reader.specs.Holds.{RowKeeps}
-use Rattle.reader.specs.declared.KeyName.{KeyName}
-use Rattle.settings.specs.Values.{choice, lengthOr0}
-use Rattle.settings.proofs.Rowwise.{row-flag}
-use Rattle.joins.specs.Joins.{secretFrom, lengthOr24, staticOrDhcp}
+use Rattle.places.specs.Keys.{keyGroup, keyWord as nameOf, keyKind}
+use Rattle.places.specs.Holds.{RowKeeps}
+use Rattle.places.specs.declared.KeyName.{KeyName}
+use Rattle.places.specs.declared.KeyName.the-variants as N
+use Rattle.values.specs.Values.{choice, lengthOr0}
+use Rattle.values.proofs.KeptValues.{row-word, row-flag}
+use Rattle.joins.specs.Joins.{secretFrom, lengthOr24, staticOrDhcp, foreign}
 use Rattle.joins.specs.Answers.{phraseAnswer, loginAnswer, or24, numbersAnswer, choiceIn, loginRead, numbersRead}
-use Rattle.joins.specs.Places.{yesAt}
-use Rattle.kinds.specs.declared.PreSharedKey.{PreSharedKey}
+use Rattle.joins.specs.Places.{yesAt, foreignAt}
+use Rattle.hex_values.specs.declared.PreSharedKey.{PreSharedKey}
 use Rattle.addresses.specs.MaskRuleLaws.{netmask-good}
 use Rattle.joins.specs.declared.Phrase.{Phrase}
 use Rattle.joins.specs.declared.Login.{Login}
@@ -68,3 +74,9 @@ choice-back (some false) = refl
 -- the yes/no that a row keeps
 pub row-choice : {d : Dialect} {file x : List ℕ} {b : ℕ} (k : KeyName) {es : List Entry} → RowKeeps d file x b (keyGroup k) es → keyKind k ≡ Flag → yesAt x b k ≡ readAs (flag d) (entryOf (nameOf k) es)
 row-choice k h e = ap choiceIn (row-flag k h e) ∙ choice-back _
+
+-- ---- Security, by the words that a row keeps
+
+pub row-foreign : {file x : List ℕ} {b : ℕ} {es : List Entry} → RowKeeps ConnMan file x b G.Service es → foreignAt x b ≡ foreign (λ k. entryOf k es)
+unfolding keysOf
+row-foreign h = ap₂ (λ (a b : Bool). a || b) (row-word N.Security h L.Security refl W.Wep) (row-word N.Security h L.Security refl W.Ieee8021x)

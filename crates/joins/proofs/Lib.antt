@@ -1,4 +1,3 @@
 pub mod Sizing
 pub mod Choosing
 pub mod Assembling
-pub mod Asked

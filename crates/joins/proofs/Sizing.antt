@@ -14,7 +14,7 @@ use Rattle.text.specs.declared.Dialect.the-variants.{ConnMan}
 use Rattle.escapes.specs.Strings.{stringOf, sizeOf}
 use Rattle.escapes.specs.declared.Size.the-variants.{Long, Broken}
 use Rattle.kinds.specs.Kinds.{string, passphrase}
-use Rattle.kinds.specs.Answers.{ssidAnswer}
+use Rattle.hex_values.specs.Answers.{ssidAnswer}
 use Rattle.joins.specs.Answers.{phraseAnswer, domainAnswer}
 use Rattle.joins.specs.declared.Phrase.{Phrase}
 use Rattle.joins.specs.declared.Domain.{Domain}

@@ -15,19 +15,25 @@ use Rattle.escapes.specs.Strings.{stringOf}
 use Rattle.addresses.specs.Addresses.{address, isAddress, netmask, addresses}
 use Rattle.addresses.specs.declared.Separator.{Separator}
 use Rattle.addresses.specs.declared.Separator.the-variants.{Spaces, Comma}
+use Rattle.hex_values.specs.HexValues as HexValues
 use Rattle.kinds.specs.Kinds as K
-use Rattle.kinds.specs.Kinds.{IPv4, dhcp, off, static, wordOf, ipv4, ssid, string}
+use Rattle.named_words.specs.NamedWords.{wordOf}
+use Rattle.connman_ipv4.specs.ConnmanIpv4.{IPv4, dhcp, off, static, ipv4}
+use Rattle.hex_values.specs.HexValues.{ssid}
+use Rattle.kinds.specs.Kinds.{string}
 use Rattle.kinds.specs.Typed as T
 use Rattle.kinds.specs.Typed.{typed}
 use Rattle.addresses.specs.Laws.{address-bytes, addresses-good}
 use Rattle.utf8.specs.ByteLaws.{text-bytes}
 use Rattle.escapes.specs.TextLaws.{string-text}
 use Rattle.addresses.specs.MaskRuleLaws.{netmask-good}
-use Rattle.kinds.specs.ValueLaws.{string-size, pre-shared-key-size, ssid-size, Ipv4Good, ipv4-good}
+use Rattle.connman_ipv4.specs.Laws.{Ipv4Good, ipv4-good}
+use Rattle.hex_values.specs.Laws.{pre-shared-key-size, ssid-size}
+use Rattle.kinds.specs.ValueRuleLaws.{string-size}
 use Rattle.kinds.specs.declared.Kind.the-variants as Kind
-use Rattle.kinds.specs.declared.Word.{Word}
-use Rattle.kinds.specs.declared.Word.the-variants as W
-use Rattle.kinds.specs.declared.WordList.the-variants as L
+use Rattle.named_words.specs.declared.Word.{Word}
+use Rattle.named_words.specs.declared.Word.the-variants as W
+use Rattle.named_words.specs.declared.WordList.the-variants as L
 use Rattle.names.specs.Names.{NetworkName, Network, networkOf}
 use Rattle.names.specs.Laws.{network-bytes}
 use Rattle.rules.specs.Tables.{groupOf, keysOf}
@@ -59,7 +65,7 @@ good-passphrase d v h e =
     let s = string-size d 8 63 v e in
     record { low = s .0; high = s .1; text = string-text d v h (string-of d 8 63 v e) }
 
-good-key : (v : List ℕ) {k : List ℕ} → K.preSharedKey v ≡ some k → GoodKey k
+good-key : (v : List ℕ) {k : List ℕ} → HexValues.preSharedKey v ≡ some k → GoodKey k
 good-key v e = let s = pre-shared-key-size v e in record { long = s .0; bytes = s .1 }
 
 good-domain : (d : Dialect) (v : List ℕ) {t : List ℕ} → valueText v ≡ true → string d 1 253 v ≡ some t → GoodDomain t
@@ -103,9 +109,9 @@ module _ (name file : List ℕ) {n m : ℕ} (a : reading D.Iwd name file ≡ Acc
   iwd-secret-formed : GoodSecret (iwdJoin (networkName (networkOf name)) (iwdEntry (sectionsOf D.Iwd file)) .credential)
   unfolding groupOf keysOf
   iwd-secret-formed =
-      secret-formed (readAs (K.passphrase D.Iwd) (iwdEntry (sectionsOf D.Iwd file) (word "Security") (word "Passphrase"))) (readAs K.preSharedKey (iwdEntry (sectionsOf D.Iwd file) (word "Security") (word "PreSharedKey")))
+      secret-formed (readAs (K.passphrase D.Iwd) (iwdEntry (sectionsOf D.Iwd file) (word "Security") (word "Passphrase"))) (readAs HexValues.preSharedKey (iwdEntry (sectionsOf D.Iwd file) (word "Security") (word "PreSharedKey")))
       (read-holds GoodPassphrase (K.passphrase D.Iwd) (iwdEntry (sectionsOf D.Iwd file) (word "Security") (word "Passphrase")) (λ e q x r. good-passphrase D.Iwd (e .value) (group-value D.Iwd name file a (word "Security") (word "Passphrase") refl refl q .text) r))
-      (read-holds GoodKey K.preSharedKey (iwdEntry (sectionsOf D.Iwd file) (word "Security") (word "PreSharedKey")) (λ e q x r. good-key (e .value) r))
+      (read-holds GoodKey HexValues.preSharedKey (iwdEntry (sectionsOf D.Iwd file) (word "Security") (word "PreSharedKey")) (λ e q x r. good-key (e .value) r))
 
   iwd-domain-formed : GoodDomain (iwdJoin (networkName (networkOf name)) (iwdEntry (sectionsOf D.Iwd file)) .domain)
   unfolding groupOf keysOf

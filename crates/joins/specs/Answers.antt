@@ -8,13 +8,13 @@ use Rattle.text.specs.Parts.{padded}
 use Rattle.text.specs.Options.{isSome, orEmpty}
 use Rattle.addresses.specs.Addresses.{noAddress}
 use Rattle.addresses.specs.declared.Address.{Address}
-use Rattle.kinds.specs.Kinds.{IPv4}
-use Rattle.kinds.specs.declared.Ipv4.{Ipv4}
-use Rattle.kinds.specs.declared.PreSharedKey.{PreSharedKey}
-use Rattle.kinds.specs.declared.Ssid.{Ssid}
-use Rattle.kinds.specs.declared.Method.the-variants.{Dhcp, Static}
-use Rattle.settings.specs.declared.Choice.{Choice}
-use Rattle.settings.specs.declared.Choice.the-variants as Choice
+use Rattle.connman_ipv4.specs.ConnmanIpv4.{IPv4}
+use Rattle.connman_ipv4.specs.declared.Ipv4.{Ipv4}
+use Rattle.hex_values.specs.declared.PreSharedKey.{PreSharedKey}
+use Rattle.hex_values.specs.declared.Ssid.{Ssid}
+use Rattle.connman_ipv4.specs.declared.Method.the-variants.{Dhcp, Static}
+use Rattle.values.specs.declared.Choice.{Choice}
+use Rattle.values.specs.declared.Choice.the-variants as Choice
 use Rattle.records.specs.Record.{Secret, credentialOf, passphraseOf, keyOf, methodOf, addressOf, lengthOf, hasGateway, gatewayOf}
 use Rattle.records.specs.declared.Credential.the-variants as C
 use Rattle.joins.specs.declared.Phrase.{Phrase}

@@ -1,6 +1,6 @@
 -- Worked join records: document 01's service and iwd file, defaults, and what has no record.
 use mathlib.Core.Path.{_≡_, refl}
-use mathlib.Core.Bool.{true, false}
+use mathlib.Core.Bool.{false}
 use mathlib.Core.List.{List, [], _∷_, map}
 use mathlib.Core.Option.{none, some}
 use Prim.Native.Nat.{ℕ}
@@ -12,7 +12,11 @@ use Rattle.utf8.specs.Utf8.{follow, utf8From, text}
 use Rattle.escapes.specs.Escapes.{unescapeFrom}
 use Rattle.hex.specs.Hex.{nibble, unhex}
 use Rattle.addresses.specs.Addresses.{decimalValue, number, address, prefixLength, lengthUpTo, maskLength, netmask, addresses}
-use Rattle.kinds.specs.Kinds.{IPv4, dhcp, static, flag, wordOf, ipv4, entries, colonPairs, mac, preSharedKey, ssid, string}
+use Rattle.named_words.specs.NamedWords.{flag, wordOf}
+use Rattle.connman_ipv4.specs.ConnmanIpv4.{IPv4, dhcp, static, ipv4}
+use Rattle.hex_values.specs.HexValues.{colonPairs, mac, preSharedKey, ssid}
+use Rattle.entry_lists.specs.EntryLists.{entries}
+use Rattle.kinds.specs.Kinds.{string}
 use Rattle.kinds.specs.Typed.{typed, kindJudged, judged}
 use Rattle.lines.specs.Lines.{bracketOf, settingOf, lineOf, valueStart}
 use Rattle.names.specs.Names.{nameOf, networkOf}
@@ -24,25 +28,13 @@ use Rattle.rules.specs.Reading.{lineFault, grown, sectionsOf, reading}
 use Rattle.rules.specs.declared.Refusal.the-variants.{Missing, NoPlace, NoService}
 use Rattle.records.specs.Record.{Secret, noSecret, passphrase, Join}
 use Rattle.records.specs.Record as R
+use Rattle.records.specs.Cases.{worked}
 use Rattle.records.specs.declared.Ipv6.the-variants as Ipv6
 use Rattle.joins.specs.Joins.{Joined, joined, refused, iwdJoined, serviceJoined}
 
 -- a record that is all defaults but for its name and credential
 abbrev plainJoin : String → Secret → Join
 plainJoin n c = record { name = word n; credential = c; hidden = false; ipv4 = dhcp; servers = []; domain = []; ipv6 = Ipv6.Auto }
-
--- document 01's worked service, which is also the record of the iwd file that it becomes
-abbrev worked : Join
-worked =
-    record {
-      name = word "Desk 4";
-      credential = passphrase (word "low\\tide 88");
-      hidden = true;
-      ipv4 = static (10 ∷ 20 ∷ 0 ∷ 14 ∷ []) 24 (some (10 ∷ 20 ∷ 0 ∷ 1 ∷ []));
-      servers = (10 ∷ 20 ∷ 0 ∷ 2 ∷ []) ∷ (10 ∷ 20 ∷ 0 ∷ 3 ∷ []) ∷ [];
-      domain = [];
-      ipv6 = Ipv6.Off;
-    }
 
 -- an open network whose addresses are given
 abbrev withNumbers : IPv4 → Join

@@ -9,10 +9,10 @@ use Rattle.text.specs.Words.{word}
 use Rattle.text.specs.Options.{only, orElse, orEmpty}
 use Rattle.text.specs.declared.Dialect.the-variants as D
 use Rattle.addresses.specs.Addresses.{noAddress}
-use Rattle.kinds.specs.Kinds.{IPv4, dhcp, static}
-use Rattle.kinds.specs.declared.Method.the-variants as M
-use Rattle.kinds.specs.declared.Word.{Word}
-use Rattle.kinds.specs.declared.Word.the-variants as W
+use Rattle.connman_ipv4.specs.ConnmanIpv4.{IPv4, dhcp, static}
+use Rattle.connman_ipv4.specs.declared.Method.the-variants as M
+use Rattle.named_words.specs.declared.Word.{Word}
+use Rattle.named_words.specs.declared.Word.the-variants as W
 use Rattle.names.specs.Names.{Network, networkOf}
 use Rattle.rules.specs.Tables.{keysOf}
 use Rattle.rules.specs.Sections.{Entry, entryOf}

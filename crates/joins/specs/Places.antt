@@ -1,6 +1,5 @@
 -- What the table of places must say before a record is read from it.
 use Prim.Native.Nat.{ℕ}
-use mathlib.Core.Path.{_≡_}
 use mathlib.Core.Bool.{Bool, cond, _||_}
 use mathlib.Core.List.{List}
 use mathlib.Core.Option.{Option, none}
@@ -10,33 +9,32 @@ use Rattle.text.specs.declared.Dialect.{Dialect}
 use Rattle.text.specs.declared.Dialect.the-variants.{Iwd, ConnMan}
 use Rattle.addresses.specs.Addresses.{address, addressAnswer, addresses}
 use Rattle.addresses.specs.declared.Separator.{Separator}
-use Rattle.kinds.specs.Kinds.{preSharedKey, ssid, string, passphrase}
-use Rattle.kinds.specs.Answers.{ssidAnswer}
-use Rattle.kinds.specs.declared.Ipv4.{Ipv4}
-use Rattle.kinds.specs.declared.Ssid.{Ssid}
-use Rattle.kinds.specs.declared.Word.the-variants as W
-use Rattle.rules.specs.Sections.{Entry, entryOf, entriesIn}
+use Rattle.hex_values.specs.HexValues.{preSharedKey, ssid}
+use Rattle.kinds.specs.Kinds.{string, passphrase}
+use Rattle.hex_values.specs.Answers.{ssidAnswer}
+use Rattle.connman_ipv4.specs.declared.Ipv4.{Ipv4}
+use Rattle.hex_values.specs.declared.Ssid.{Ssid}
+use Rattle.named_words.specs.declared.Word.the-variants as W
+use Rattle.rules.specs.Sections.{entriesIn}
 use Rattle.rules.specs.Asking.{iwdEntry}
 use Rattle.names.specs.Names.{networkOf}
 use Rattle.rules.specs.Reading.{sectionsOf}
 use Rattle.rules.specs.declared.Group.the-variants as G
-use Rattle.reader.specs.History.{base}
-use Rattle.reader.specs.Holds.{RowKeeps}
-use Rattle.reader.specs.Closing.{RowInTable, keySlot, slotIs, bytesOf}
-use Rattle.reader.specs.declared.KeyName.{KeyName}
-use Rattle.reader.specs.declared.KeyName.the-variants as N
-use Rattle.settings.specs.Rows.{FourRows}
-use Rattle.settings.specs.Codes.{choiceBy}
+use Rattle.places.specs.History.{base}
+use Rattle.places.specs.KeySlots.{RowInTable, keySlot, slotIs, bytesOf}
+use Rattle.places.specs.declared.KeyName.{KeyName}
+use Rattle.places.specs.declared.KeyName.the-variants as N
+use Rattle.values.specs.Rows.{FourRows}
+use Rattle.values.specs.Codes.{choiceBy}
 use Rattle.records.specs.Record.{Join}
 use Rattle.records.specs.declared.Ipv6.{Ipv6}
 use Rattle.records.specs.declared.Ipv6.the-variants as Ipv6
 use Rattle.records.specs.declared.JoinRecord.{JoinRecord}
-use Rattle.joins.specs.Joins.{secretFrom, iwdJoin, networkName, Joined, orNoPlace, noRecord, serviceJoin, recordAnswer, serversAfter}
+use Rattle.joins.specs.Joins.{secretFrom, iwdJoin, networkName}
 use Rattle.joins.specs.Answers.{domainAnswer, loginAnswer, numbersRead, nameRead, choiceIn, hindrance}
 use Rattle.joins.specs.declared.Login.{Login}
 use Rattle.joins.specs.declared.Domain.{Domain}
 use Rattle.joins.specs.declared.Hindrance.{Hindrance}
-use Rattle.joins.specs.declared.RecordAnswer.{RecordAnswer}
 
 -- the rows of iwd's groups, which lie in the table to the last, keep the settings of the file
 pub record IwdFileRows (file x : List ℕ) : Type 0 where
@@ -110,12 +108,3 @@ assembled n name login hidden numbers servers domain ipv6 =
       domain = domain .bytes;
       ipv6 = ipv6;
     }
-
--- what is answered of a service: the answer, and the lent servers after it
-abbrev pub ofService : (List ℕ → Option Entry) → Joined
-ofService at = orNoPlace (noRecord at) (serviceJoin at)
-
--- the same of the service whose settings the row from b on keeps
-pub record RowAnswered (file x : List ℕ) (b : ℕ) (old new : List (List ℕ)) (r : RecordAnswer) : Type 0 where
-  pub is : (es : List Entry) → RowKeeps ConnMan file x b G.Service es → r ≡ recordAnswer (ofService (λ k. entryOf k es))
-  pub servers : (es : List Entry) → RowKeeps ConnMan file x b G.Service es → new ≡ serversAfter (ofService (λ k. entryOf k es)) old

@@ -14,13 +14,10 @@ use Rattle.lines.specs.Lines.{setting, lineOf}
 use Rattle.kinds.specs.Kinds as K
 use Rattle.rules.specs.Sections.{Entry}
 use Rattle.rules.specs.Reading.{reading}
-use Rattle.rules.specs.declared.Answer.the-variants as A
 use Rattle.rules.specs.declared.Reading.the-variants.{Refused}
 use Rattle.rules.specs.declared.Refusal.{Refusal}
-use Rattle.settings.specs.Absent.{zeroIwdSettings, zeroServiceSettings}
-use Rattle.settings.specs.Asked.{iwdAnswered, iwdServersAfter, serviceAnswered, serviceServersAfter}
 use Rattle.records.specs.Record.{Join, passphrase}
-use Rattle.joins.specs.Joins.{needsKey, zeroRecord, iwdRecord, iwdRecordServers, serviceRecord, serviceRecordServers}
+use Rattle.joins.specs.Joins.{needsKey}
 
 -- ---- a faulty Passphrase line
 
@@ -45,27 +42,13 @@ pub record FaultyPassphrase (d : Dialect) (file : List ℕ) (n : ℕ) : Type 0 w
 
 -- ---- what is answered
 
--- a refusal, that of this line or of one before it, or line 0 where the size or the name is refused
-
+-- a refusal, that of this line or of one before it, or line 0 where the size or the name is refused; what every entry point
+-- then answers is said in `record_answers`
 pub record RefusedBy (d : Dialect) (name file : List ℕ) (n : ℕ) : Type 0 where
   pub refusal : Refusal
   pub line : ℕ
   pub is : reading d name file ≡ Refused refusal line
   pub early : line ≤ n
-
--- by every entry point that reads an iwd file: the same refusal, zeros for all else, and lent name servers as they were
-pub record IwdRefuses (name file : List ℕ) (r : Refusal) (l : ℕ) : Type 0 where
-  pub settings : iwdAnswered name file ≡ record { answer = A.Refused r l; settings = zeroIwdSettings }
-  pub servers : (old : List (List ℕ)) → iwdServersAfter name file old ≡ old
-  pub join-record : iwdRecord name file ≡ record { answer = A.Refused r l; «record» = zeroRecord }
-  pub record-servers : (old : List (List ℕ)) → iwdRecordServers name file old ≡ old
-
--- and by those that read a service of a ConnMan file, whatever the number w
-pub record ServiceRefuses (name file : List ℕ) (w : ℕ) (r : Refusal) (l : ℕ) : Type 0 where
-  pub settings : serviceAnswered name file w ≡ record { answer = A.Refused r l; settings = zeroServiceSettings }
-  pub servers : (old : List (List ℕ)) → serviceServersAfter name file w old ≡ old
-  pub join-record : serviceRecord name file w ≡ record { answer = A.Refused r l; «record» = zeroRecord }
-  pub record-servers : (old : List (List ℕ)) → serviceRecordServers name file w old ≡ old
 
 -- ---- a good Passphrase line
 

@@ -1,5 +1,5 @@
--- What `Saturday` says holds: a file with a faulty Passphrase line is refused, by every entry point alike; and an iwd
--- file or a service with a Passphrase line has that passphrase as its credential.
+-- What `Saturday` says holds: a file with a faulty Passphrase line is refused, and by every entry point alike, as `record_answers`
+-- `Refused` says of every refused file; an iwd file or a service with a Passphrase line has that passphrase as its credential.
 use Prim.Native.Nat.{ℕ, suc, _+_, _≤_}
 use native.Mathlib.Omega.{arith}
 use mathlib.Core.Path.{_≡_, refl, ap, sym, _∙_, subst}
@@ -15,6 +15,7 @@ use Rattle.text.specs.declared.Dialect.{Dialect}
 use Rattle.text.specs.declared.Dialect.the-variants as D
 use Rattle.utf8.specs.Utf8.{valueText}
 use Rattle.lines.specs.Lines.{setting, lineOf}
+use Rattle.hex_values.specs.HexValues as HexValues
 use Rattle.kinds.specs.Kinds as K
 use Rattle.kinds.specs.Typed.{bytes, brokenText, byKind, typed, stringBroken, kindJudged, judged}
 use Rattle.kinds.specs.declared.Kind.{Kind}
@@ -29,14 +30,12 @@ use Rattle.rules.specs.GoodAnswers.{asked-reading}
 use Rattle.rules.specs.GoodValues.{GoodValue, group-value, service-value}
 use Rattle.rules.specs.declared.Group.{Group}
 use Rattle.rules.specs.declared.Group.the-variants.{Settings, Security, Ipv4, Ipv6, Global, Service}
-use Rattle.rules.specs.declared.Reading.the-variants.{Refused}
 use Rattle.rules.specs.declared.Refusal.{Refusal}
 use Rattle.rules.specs.declared.Refusal.the-variants.{Size, FileName, NoGroup, UnknownKey, RepeatedKey, ValueText, ValueKind}
-use Rattle.settings.specs.Absent.{iwd-absent-zero, service-absent-zero}
 use Rattle.records.specs.Record.{Join, passphrase}
-use Rattle.joins.specs.Joins.{joined, secretFrom, secretGiven, networkName, iwdJoin, iwdJoined, serviceSetting, serviceJoined, iwdRecord, iwdRecordServers, serviceRecord, serviceRecordServers}
+use Rattle.joins.specs.Joins.{joined, secretFrom, secretGiven, networkName, iwdJoin, iwdJoined, serviceSetting, serviceJoined}
 use Rattle.joins.specs.Joining.{joined-good, service-joining}
-use Rattle.joins.specs.Saturday.{NoPassphrase, broken-text, no-string, FaultyPassphrase, RefusedBy, IwdRefuses, ServiceRefuses, PassphraseRead, PassphraseKept}
+use Rattle.joins.specs.Saturday.{NoPassphrase, broken-text, no-string, FaultyPassphrase, RefusedBy, PassphraseRead, PassphraseKept}
 
 -- ---- such a value is faulty, wherever the key is listed
 
@@ -116,20 +115,6 @@ faulty-refused d name file {n} p = go (leb (length file) 16384) refl (nameIn d n
     go true e (some x) q =
         record { refusal = k .first .refusal; line = k .first .line; is = rw (e, q, k .is); early = omega (arith, k .early, p .stands .number) }
 
--- ---- a refused file is refused by every entry point, with the same number and line
-
-pub refused-iwd : (name file : List ℕ) {r : Refusal} {l : ℕ} → reading D.Iwd name file ≡ Refused r l →
-    IwdRefuses name file r l
-unfolding iwdRecord iwdRecordServers
-refused-iwd name file e =
-    record { settings = rw (e, ← iwd-absent-zero); servers = λ old. rw e; join-record = rw e; record-servers = λ old. rw e }
-
-pub refused-service : (name file : List ℕ) {r : Refusal} {l : ℕ} → reading D.ConnMan name file ≡ Refused r l →
-    (w : ℕ) → ServiceRefuses name file w r l
-unfolding serviceRecord serviceRecordServers
-refused-service name file e w =
-    record { settings = rw (e, ← service-absent-zero); servers = λ old. rw e; join-record = rw e; record-servers = λ old. rw e }
-
 -- ---- a good one
 
 reads-passphrase : (d : Dialect) (v : List ℕ) → GoodValue d Kind.Passphrase v → PassphraseRead d v
@@ -157,7 +142,7 @@ iwd-passphrase-kept name file {j} a {e} q =
     let at = iwdEntry (sectionsOf D.Iwd file) in
     let h = joined-good (asked (reading D.Iwd name file)) none (iwdJoin (networkName (networkOf name)) at) a in
     let r = asked-reading (reading D.Iwd name file) (h .0) in
-    kept D.Iwd (readAs K.preSharedKey (at (word "Security") (word "PreSharedKey"))) (ap (λ (i : Join). i .credential) (sym (h .1))) q (group-value D.Iwd name file (r .1 .1) (word "Security") (word "Passphrase") refl refl q)
+    kept D.Iwd (readAs HexValues.preSharedKey (at (word "Security") (word "PreSharedKey"))) (ap (λ (i : Join). i .credential) (sym (h .1))) q (group-value D.Iwd name file (r .1 .1) (word "Security") (word "Passphrase") refl refl q)
 
 -- a record that is answered, of a service with a Passphrase line
 pub passphrase-kept : (name file : List ℕ) (w : ℕ) {j : Join} → serviceJoined name file w ≡ joined j → {e : Entry} →

@@ -9,10 +9,10 @@ use mathlib.Core.Option.{Option, none, some}
 use Rattle.text.specs.Options.{isSome}
 use Rattle.text.specs.Words.{word}
 use Rattle.text.specs.declared.Dialect.the-variants as D
-use Rattle.kinds.specs.Kinds.{wordOf}
-use Rattle.kinds.specs.declared.Word.{Word}
-use Rattle.kinds.specs.declared.Word.the-variants as W
-use Rattle.kinds.specs.declared.WordList.the-variants as L
+use Rattle.named_words.specs.NamedWords.{wordOf}
+use Rattle.named_words.specs.declared.Word.{Word}
+use Rattle.named_words.specs.declared.Word.the-variants as W
+use Rattle.named_words.specs.declared.WordList.the-variants as L
 use Rattle.rules.specs.Tables.{keysOf}
 use Rattle.rules.specs.Sections.{Entry, given}
 use Rattle.rules.specs.WordNumbers.{isWord}

@@ -1,8 +1,7 @@
 // A join record from its parts, by the rows of the table of places.
 ghost use mathlib.Core.Path.{_≡_};
-ghost use Rattle.text.specs.Options.{orEmpty};
-ghost use Rattle.reader.specs.History.{base};
-ghost use Rattle.settings.specs.Rows.{RowOf, RowGives};
+ghost use Rattle.places.specs.History.{base};
+ghost use Rattle.values.specs.Rows.{RowOf, RowGives};
 ghost use Rattle.records.specs.Record.{laid};
 ghost use Rattle.joins.specs.Joins.{serviceJoin};
 ghost use Rattle.joins.specs.Places.{IwdFileRows, iwdFileJoin, serverCountAt, assembled};
@@ -10,14 +9,13 @@ use crate::Domain;
 use crate::Login;
 use crate::parts;
 use addresses::Separator;
-use kinds::Ipv4;
-use reader::KeyName;
-use reader::Places;
-use reader::judging::base_of;
+use connman_ipv4::Ipv4;
+use places::KeyName;
+use places::Places;
+use places::rows::base_of;
 use records::Ipv6;
 use records::JoinRecord;
 use rules::Group;
-use settings::values;
 use text::Dialect;
 
 // Lays the parts of a record out.

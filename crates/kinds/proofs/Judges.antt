@@ -22,19 +22,27 @@ use Rattle.addresses.specs.Addresses as A
 use Rattle.addresses.specs.declared.Address.{Address}
 use Rattle.addresses.specs.declared.Netmask.{Netmask}
 use Rattle.addresses.specs.declared.Separator.{Separator}
+use Rattle.named_words.specs.NamedWords as NamedWords
+use Rattle.connman_ipv4.specs.ConnmanIpv4 as ConnmanIpv4
+use Rattle.hex_values.specs.HexValues as HexValues
+use Rattle.entry_lists.specs.EntryLists as EntryLists
 use Rattle.kinds.specs.Kinds as K
 use Rattle.kinds.specs.Typed.{Typed, typed, kindJudged, byKind, bytes}
 use Rattle.kinds.specs.Typed as T
-use Rattle.kinds.specs.Answers.{yesNo, namedWord, ipv4Answer, entriesAnswer, macAnswer, valueAt, judgementAt}
+use Rattle.named_words.specs.Answers.{yesNo, namedWord}
+use Rattle.connman_ipv4.specs.Answers.{ipv4Answer}
+use Rattle.hex_values.specs.Answers.{macAnswer}
+use Rattle.entry_lists.specs.Answers.{entriesAnswer}
+use Rattle.kinds.specs.Answers.{valueAt, judgementAt}
 use Rattle.kinds.specs.Judging.{keptAt, flagJudgement, wordJudgement, maskJudgement}
 use Rattle.kinds.specs.declared.Kind.{Kind}
 use Rattle.kinds.specs.declared.Kind.the-variants.{Flag, Named, Address as AddressKind, Netmask as NetmaskKind, Ipv4 as Ipv4Kind, Addresses, Entries as EntriesKind, Mac as MacKind, PreSharedKey, Ssid, Passphrase, Text}
-use Rattle.kinds.specs.declared.WordList.{WordList}
-use Rattle.kinds.specs.declared.YesNo.{YesNo}
-use Rattle.kinds.specs.declared.NamedWord.{NamedWord}
-use Rattle.kinds.specs.declared.Ipv4.{Ipv4}
-use Rattle.kinds.specs.declared.Entries.{Entries}
-use Rattle.kinds.specs.declared.Mac.{Mac}
+use Rattle.named_words.specs.declared.WordList.{WordList}
+use Rattle.named_words.specs.declared.YesNo.{YesNo}
+use Rattle.named_words.specs.declared.NamedWord.{NamedWord}
+use Rattle.connman_ipv4.specs.declared.Ipv4.{Ipv4}
+use Rattle.entry_lists.specs.declared.Entries.{Entries}
+use Rattle.hex_values.specs.declared.Mac.{Mac}
 use Rattle.kinds.specs.declared.Judgement.{Judgement}
 use Rattle.kinds.specs.declared.Judgement.the-variants.{BrokenText, BrokenKind}
 use Rattle.kinds.specs.declared.Value.the-variants as W
@@ -45,12 +53,12 @@ address-ok : (o : Option (List ℕ)) {x : Address} → x ≡ A.addressAnswer o �
 address-ok none e = ap (λ (x : Address). x .ok) e
 address-ok (some a) e = ap (λ (x : Address). x .ok) e
 
-ipv4-ok : (o : Option K.IPv4) {x : Ipv4} → x ≡ ipv4Answer o → x .ok ≡ isSome o
+ipv4-ok : (o : Option ConnmanIpv4.IPv4) {x : Ipv4} → x ≡ ipv4Answer o → x .ok ≡ isSome o
 ipv4-ok none e = ap (λ (x : Ipv4). x .ok) e
-ipv4-ok (some K.dhcp) e = ap (λ (x : Ipv4). x .ok) e
-ipv4-ok (some K.off) e = ap (λ (x : Ipv4). x .ok) e
-ipv4-ok (some (K.static a n none)) e = ap (λ (x : Ipv4). x .ok) e
-ipv4-ok (some (K.static a n (some g))) e = ap (λ (x : Ipv4). x .ok) e
+ipv4-ok (some ConnmanIpv4.dhcp) e = ap (λ (x : Ipv4). x .ok) e
+ipv4-ok (some ConnmanIpv4.off) e = ap (λ (x : Ipv4). x .ok) e
+ipv4-ok (some (ConnmanIpv4.static a n none)) e = ap (λ (x : Ipv4). x .ok) e
+ipv4-ok (some (ConnmanIpv4.static a n (some g))) e = ap (λ (x : Ipv4). x .ok) e
 
 mac-ok : (o : Option (List ℕ)) {x : Mac} → x ≡ macAnswer o → x .ok ≡ isSome o
 mac-ok none e = ap (λ (x : Mac). x .ok) e
@@ -73,17 +81,17 @@ kept-is p f t none e = rw e
 kept-is p f t (some a) e = rw (e, t a)
 
 module _ (d : Dialect) (v : List ℕ) (p : Place) {k : Kind} {r : Judgement} where
-  pub flag-kind : k ≡ Flag → {y : YesNo} → y ≡ yesNo (K.flag d v) → r ≡ flagJudgement y → r ≡ judgementAt p (kindJudged d k v)
+  pub flag-kind : k ≡ Flag → {y : YesNo} → y ≡ yesNo (NamedWords.flag d v) → r ≡ flagJudgement y → r ≡ judgementAt p (kindJudged d k v)
   unfolding kindJudged typed
-  flag-kind q e h = rw q (h ∙ ap flagJudgement e ∙ go (K.flag d v))
+  flag-kind q e h = rw q (h ∙ ap flagJudgement e ∙ go (NamedWords.flag d v))
     where
       go : (o : Option Bool) → flagJudgement (yesNo o) ≡ judgementAt p (byKind (mapped T.flag o))
       go none = refl
       go (some b) = refl
 
-  pub word-kind : {w : WordList} → k ≡ Named w → {y : NamedWord} → y ≡ namedWord (K.wordOf w v) → r ≡ wordJudgement y → r ≡ judgementAt p (kindJudged d k v)
+  pub word-kind : {w : WordList} → k ≡ Named w → {y : NamedWord} → y ≡ namedWord (NamedWords.wordOf w v) → r ≡ wordJudgement y → r ≡ judgementAt p (kindJudged d k v)
   unfolding kindJudged typed
-  word-kind {w} q e h = rw q (h ∙ ap wordJudgement e ∙ go (K.wordOf w v))
+  word-kind {w} q e h = rw q (h ∙ ap wordJudgement e ∙ go (NamedWords.wordOf w v))
     where
       go : (o : Option _) → wordJudgement (namedWord o) ≡ judgementAt p (byKind (mapped T.word o))
       go none = refl
@@ -101,29 +109,29 @@ module _ (d : Dialect) (v : List ℕ) (p : Place) {k : Kind} {r : Judgement} whe
   unfolding kindJudged typed
   address-kind q e h = rw q (h ∙ kept-is p T.address (λ a. refl) (A.address v) (address-ok (A.address v) e))
 
-  pub ipv4-kind : k ≡ Ipv4Kind → {x : Ipv4} → x ≡ ipv4Answer (K.ipv4 v) → r ≡ keptAt p (x .ok) → r ≡ judgementAt p (kindJudged d k v)
+  pub ipv4-kind : k ≡ Ipv4Kind → {x : Ipv4} → x ≡ ipv4Answer (ConnmanIpv4.ipv4 v) → r ≡ keptAt p (x .ok) → r ≡ judgementAt p (kindJudged d k v)
   unfolding kindJudged typed
-  ipv4-kind q e h = rw q (h ∙ kept-is p T.ipv4 (λ a. refl) (K.ipv4 v) (ipv4-ok (K.ipv4 v) e))
+  ipv4-kind q e h = rw q (h ∙ kept-is p T.ipv4 (λ a. refl) (ConnmanIpv4.ipv4 v) (ipv4-ok (ConnmanIpv4.ipv4 v) e))
 
   pub addresses-kind : {sep : Separator} → k ≡ Addresses sep → {n : ℕ} → n ≡ length (orEmpty (A.addresses sep v)) → r ≡ keptAt p (not (eqb n 0)) → r ≡ judgementAt p (kindJudged d k v)
   unfolding kindJudged typed A.addresses
   addresses-kind {sep} q e h = rw q (h ∙ kept-is p T.addresses (λ a. refl) (A.addresses sep v) (counted 4 (each A.address (A.fields sep v)) e))
 
-  pub entries-kind : k ≡ EntriesKind → {x : Entries} → x ≡ entriesAnswer 0 (K.entries v) → r ≡ keptAt p (not (eqb (x .count) 0)) → r ≡ judgementAt p (kindJudged d k v)
-  unfolding kindJudged typed K.entries
-  entries-kind q e h = rw q (h ∙ kept-is p T.entries (λ a. refl) (K.entries v) (counted 4 (each K.entry (pieces 44 v)) (ap (λ (x : Entries). x .count) e)))
+  pub entries-kind : k ≡ EntriesKind → {x : Entries} → x ≡ entriesAnswer 0 (EntryLists.entries v) → r ≡ keptAt p (not (eqb (x .count) 0)) → r ≡ judgementAt p (kindJudged d k v)
+  unfolding kindJudged typed EntryLists.entries
+  entries-kind q e h = rw q (h ∙ kept-is p T.entries (λ a. refl) (EntryLists.entries v) (counted 4 (each EntryLists.entry (pieces 44 v)) (ap (λ (x : Entries). x .count) e)))
 
-  pub mac-kind : k ≡ MacKind → {x : Mac} → x ≡ macAnswer (K.mac v) → r ≡ keptAt p (x .ok) → r ≡ judgementAt p (kindJudged d k v)
+  pub mac-kind : k ≡ MacKind → {x : Mac} → x ≡ macAnswer (HexValues.mac v) → r ≡ keptAt p (x .ok) → r ≡ judgementAt p (kindJudged d k v)
   unfolding kindJudged typed
-  mac-kind q e h = rw q (h ∙ kept-is p T.bytes (λ a. refl) (K.mac v) (mac-ok (K.mac v) e))
+  mac-kind q e h = rw q (h ∙ kept-is p T.bytes (λ a. refl) (HexValues.mac v) (mac-ok (HexValues.mac v) e))
 
-  pub key-kind : k ≡ PreSharedKey → {x : Bool} → x ≡ isSome (K.preSharedKey v) → r ≡ keptAt p x → r ≡ judgementAt p (kindJudged d k v)
+  pub key-kind : k ≡ PreSharedKey → {x : Bool} → x ≡ isSome (HexValues.preSharedKey v) → r ≡ keptAt p x → r ≡ judgementAt p (kindJudged d k v)
   unfolding kindJudged typed
-  key-kind q e h = rw q (h ∙ kept-is p T.bytes (λ a. refl) (K.preSharedKey v) e)
+  key-kind q e h = rw q (h ∙ kept-is p T.bytes (λ a. refl) (HexValues.preSharedKey v) e)
 
-  pub ssid-kind : k ≡ Ssid → {x : Bool} → x ≡ isSome (K.ssid v) → r ≡ keptAt p x → r ≡ judgementAt p (kindJudged d k v)
+  pub ssid-kind : k ≡ Ssid → {x : Bool} → x ≡ isSome (HexValues.ssid v) → r ≡ keptAt p x → r ≡ judgementAt p (kindJudged d k v)
   unfolding kindJudged typed
-  ssid-kind q e h = rw q (h ∙ kept-is p T.bytes (λ a. refl) (K.ssid v) e)
+  ssid-kind q e h = rw q (h ∙ kept-is p T.bytes (λ a. refl) (HexValues.ssid v) e)
 
   pub passphrase-kind : k ≡ Passphrase → r ≡ judgementAt p (kindJudged d (Text 8 63) v) → r ≡ judgementAt p (kindJudged d k v)
   unfolding kindJudged typed

@@ -1,4 +1,1 @@
-pub mod Pairs
-pub mod Statics
-pub mod Entering
 pub mod Judges

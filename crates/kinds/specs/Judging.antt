@@ -3,10 +3,10 @@ use mathlib.Core.Bool.{Bool, cond}
 use Rattle.text.specs.declared.Place.{Place}
 use Rattle.addresses.specs.declared.Netmask.{Netmask}
 use Rattle.addresses.specs.declared.Netmask.the-variants as M
-use Rattle.kinds.specs.declared.YesNo.{YesNo}
-use Rattle.kinds.specs.declared.YesNo.the-variants as Y
-use Rattle.kinds.specs.declared.NamedWord.{NamedWord}
-use Rattle.kinds.specs.declared.NamedWord.the-variants as N
+use Rattle.named_words.specs.declared.YesNo.{YesNo}
+use Rattle.named_words.specs.declared.YesNo.the-variants as Y
+use Rattle.named_words.specs.declared.NamedWord.{NamedWord}
+use Rattle.named_words.specs.declared.NamedWord.the-variants as N
 use Rattle.kinds.specs.declared.Value.the-variants.{Flag, Mask, Word, Text}
 use Rattle.kinds.specs.declared.Judgement.{Judgement}
 use Rattle.kinds.specs.declared.Judgement.the-variants.{Good, BrokenKind}

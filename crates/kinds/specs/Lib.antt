@@ -4,11 +4,7 @@ pub mod Typed
 pub mod ValueRules
 pub mod Cases
 -- The laws
-pub mod WordRuleLaws
-pub mod HexValueLaws
-pub mod Ipv4RuleLaws
 pub mod ValueRuleLaws
-pub mod ValueLaws
 pub mod Written
 -- For the proofs only: the definitions laid out in the code's types, and what its private steps answer
 pub mod Answers

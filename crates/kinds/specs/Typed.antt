@@ -8,9 +8,13 @@ use Rattle.text.specs.declared.Dialect.{Dialect}
 use Rattle.utf8.specs.Utf8.{valueText}
 use Rattle.escapes.specs.Strings.{stringOf}
 use Rattle.addresses.specs.Addresses as A
+use Rattle.named_words.specs.NamedWords as NamedWords
+use Rattle.connman_ipv4.specs.ConnmanIpv4 as ConnmanIpv4
+use Rattle.hex_values.specs.HexValues as HexValues
+use Rattle.entry_lists.specs.EntryLists as EntryLists
 use Rattle.kinds.specs.Kinds as K
-use Rattle.kinds.specs.Kinds.{IPv4}
-use Rattle.kinds.specs.declared.Word.{Word}
+use Rattle.connman_ipv4.specs.ConnmanIpv4.{IPv4}
+use Rattle.named_words.specs.declared.Word.{Word}
 use Rattle.kinds.specs.declared.Kind.{Kind}
 use Rattle.kinds.specs.declared.Kind.the-variants.{Flag, Named, Address, Netmask, Ipv4, Addresses, Entries, Mac, PreSharedKey, Ssid, Passphrase, Text}
 
@@ -27,16 +31,16 @@ pub data Typed : Type 0 where
 
 -- the value by its kind, none where it breaks it
 unfoldable pub typed : Dialect → Kind → List ℕ → Option Typed
-typed d Flag v = mapped flag (K.flag d v)
-typed d (Named w) v = mapped word (K.wordOf w v)
+typed d Flag v = mapped flag (NamedWords.flag d v)
+typed d (Named w) v = mapped word (NamedWords.wordOf w v)
 typed d Address v = mapped address (A.address v)
 typed d Netmask v = mapped maskLength (A.netmask v)
-typed d Ipv4 v = mapped ipv4 (K.ipv4 v)
+typed d Ipv4 v = mapped ipv4 (ConnmanIpv4.ipv4 v)
 typed d (Addresses sep) v = mapped addresses (A.addresses sep v)
-typed d Entries v = mapped entries (K.entries v)
-typed d Mac v = mapped bytes (K.mac v)
-typed d PreSharedKey v = mapped bytes (K.preSharedKey v)
-typed d Ssid v = mapped bytes (K.ssid v)
+typed d Entries v = mapped entries (EntryLists.entries v)
+typed d Mac v = mapped bytes (HexValues.mac v)
+typed d PreSharedKey v = mapped bytes (HexValues.preSharedKey v)
+typed d Ssid v = mapped bytes (HexValues.ssid v)
 typed d Passphrase v = mapped bytes (K.passphrase d v)
 typed d (Text low high) v = mapped bytes (K.string d low high v)
 

@@ -1,16 +1,14 @@
 -- A value is read by its kind exactly as the rules say, and its text is judged broken exactly where the rules say so.
-use Prim.Native.Nat.{ℕ}
-use mathlib.Core.Path.{_≡_, refl, ap, ap₂, _∙_, subst}
+use Prim.Native.Nat.{ℕ, _≤_}
+use mathlib.Core.Path.{_≡_, refl, ap, subst}
 use mathlib.Core.Bool.{Bool, true, false, not, true≢false}
 use mathlib.Core.List.{List, [], _∷_}
-use mathlib.Core.Option.{Option, some, Option·some-injective}
-use Rattle.text.specs.Bytes.{other, isEntryByte}
-use Rattle.text.specs.Parts.{all, pieces}
-use Rattle.text.specs.Pieces.{Pieces}
-use Rattle.text.specs.PieceLaws.{pieces-are, pieces-only}
-use Rattle.text.specs.Relations.{Each, Pairwise}
-use Rattle.text.specs.Options.{isSome, mapped, only, each}
-use Rattle.text.specs.OptionLaws.{some-is, only-some, sized-is, is-sized, mapped-some, each-pairwise, pairwise-each}
+use mathlib.Core.Option.{Option, some}
+use lib.ListN.{length}
+use Rattle.text.specs.Bytes.{other}
+use Rattle.text.specs.Parts.{all}
+use Rattle.text.specs.Options.{isSome, mapped}
+use Rattle.text.specs.OptionLaws.{some-is, sized-is, is-sized, mapped-some}
 use Rattle.text.specs.Laws.{and-true, all-cons, all-weaken}
 use Rattle.text.specs.declared.Dialect.{Dialect}
 use Rattle.utf8.specs.Utf8.{utf8, text, textByte, valueText}
@@ -21,67 +19,40 @@ use Rattle.escapes.specs.StringRuleLaws.{string-is, is-string}
 use Rattle.addresses.specs.Addresses.{address, netmask, addresses}
 use Rattle.addresses.specs.AddressRuleLaws.{address-is, is-address, addresses-is, is-addresses}
 use Rattle.addresses.specs.MaskRuleLaws.{netmask-is, is-netmask}
-use Rattle.kinds.specs.Kinds as D
+use Rattle.named_words.specs.NamedWords.{flag, wordOf}
+use Rattle.named_words.specs.WordRuleLaws.{flag-means, means-flag, word-means, means-word}
+use Rattle.connman_ipv4.specs.ConnmanIpv4.{ipv4}
+use Rattle.connman_ipv4.specs.Ipv4RuleLaws.{ipv4-is, is-ipv4}
+use Rattle.hex_values.specs.HexValues.{mac, preSharedKey, ssid}
+use Rattle.hex_values.specs.HexValueRuleLaws.{mac-is, is-mac, pre-shared-key-is, is-pre-shared-key, ssid-is, is-ssid}
+use Rattle.entry_lists.specs.EntryLists.{entries}
+use Rattle.entry_lists.specs.EntryRuleLaws.{entries-are, are-entries}
+use Rattle.kinds.specs.Kinds.{string, passphrase}
 use Rattle.kinds.specs.Typed as T
 use Rattle.kinds.specs.Typed.{Typed, typed, escapesBroken, stringBroken}
 use Rattle.kinds.specs.ValueRules as R
-use Rattle.kinds.specs.ValueRules.{EntryIs, EntriesAre, TextIs, ValueIs, IsString, WholeText}
-use Rattle.kinds.specs.WordRuleLaws.{flag-means, means-flag, word-means, means-word}
-use Rattle.kinds.specs.Ipv4RuleLaws.{ipv4-is, is-ipv4}
-use Rattle.kinds.specs.HexValueLaws.{mac-is, is-mac, pre-shared-key-is, is-pre-shared-key, ssid-is, is-ssid}
+use Rattle.kinds.specs.ValueRules.{TextIs, ValueIs, IsString, WholeText}
 use Rattle.kinds.specs.declared.Kind.{Kind}
 use Rattle.kinds.specs.declared.Kind.the-variants as K
 
--- ---- lists of entries
-
--- an entry is read as it stands
-abbrev AsItStands : List ℕ → List ℕ → Type 0
-AsItStands p e = (p ≡ e) × EntryIs e
-
-entry-is : (p e : List ℕ) → D.entry p ≡ some e → AsItStands p e
-entry-is p e i =
-    let s = sized-is 1 253 (only (all isEntryByte p) (some p)) i in
-    let o = only-some (all isEntryByte p) (some p) (s .1) in
-    let q : p ≡ e = Option·some-injective p e (o .1) in
-    (q, record { size = s .0; bytes = rw q at (o .0) })
-
-is-entry : (p e : List ℕ) → AsItStands p e → D.entry p ≡ some e
-is-entry p e h = is-sized 1 253 (only (all isEntryByte p) (some p)) (h .1 .size) (rw (h .0, h .1 .bytes))
-
-read-as : (ps l : List (List ℕ)) → Pairwise AsItStands ps l → (ps ≡ l) × Each EntryIs l
-read-as [] [] h = (refl, tt)
-read-as [] (e ∷ l) h = absurd h
-read-as (p ∷ ps) [] h = absurd h
-read-as (p ∷ ps) (e ∷ l) h = let k = read-as ps l (h .1) in (ap₂ _∷_ (h .0 .0) (k .0), (h .0 .1, k .1))
-
-as-read : (l : List (List ℕ)) → Each EntryIs l → Pairwise AsItStands l l
-as-read [] h = tt
-as-read (e ∷ l) h = ((refl, h .0), as-read l (h .1))
-
-entries-are : (v : List ℕ) {l : List (List ℕ)} → D.entries v ≡ some l → EntriesAre v l
-unfolding D.entries
-entries-are v {l} e =
-    let s = sized-is 1 4 (each D.entry (pieces 44 v)) e in
-    let k = read-as (pieces 44 v) l (each-pairwise D.entry AsItStands entry-is (pieces 44 v) (s .1)) in
-    record { commas = subst (Pieces 44 v) (k .0) (pieces-are 44 v); each = k .1; count = s .0 }
-
-are-entries : (v : List ℕ) {l : List (List ℕ)} → EntriesAre v l → D.entries v ≡ some l
-unfolding D.entries
-are-entries v {l} h =
-    is-sized 1 4 (each D.entry (pieces 44 v)) (h .count)
-    (ap (each D.entry) (pieces-only 44 (h .commas)) ∙ pairwise-each D.entry AsItStands is-entry l l (as-read l (h .each)))
-
 -- ---- strings
 
-text-is : (d : Dialect) (low high : ℕ) (v : List ℕ) {t : List ℕ} → D.string d low high v ≡ some t →
+text-is : (d : Dialect) (low high : ℕ) (v : List ℕ) {t : List ℕ} → string d low high v ≡ some t →
     TextIs d low high v t
-unfolding D.string
+unfolding string
 text-is d low high v e = let s = sized-is low high (stringOf d v) e in record { is = string-is d v (s .1); size = s .0 }
 
 is-text : (d : Dialect) (low high : ℕ) (v : List ℕ) {t : List ℕ} → TextIs d low high v t →
-    D.string d low high v ≡ some t
-unfolding D.string
+    string d low high v ≡ some t
+unfolding string
 is-text d low high v h = is-sized low high (stringOf d v) (h .size) (is-string d v (h .is))
+
+pub string-size : (d : Dialect) (low high : ℕ) (v : List ℕ) {t : List ℕ} → string d low high v ≡ some t →
+    (low ≤ length t) × (length t ≤ high)
+unfolding string
+string-size d low high v {t} e =
+    let h = sized-is low high (stringOf d v) e .0 in
+    (h .least, h .most)
 
 -- ---- every kind
 
@@ -92,21 +63,21 @@ module _ {A : Type 0} (d : Dialect) (k : Kind) (v : List ℕ) (f : A → Typed) 
 
 pub typed-value : (d : Dialect) (k : Kind) (v : List ℕ) {t : Typed} → typed d k v ≡ some t → ValueIs d k v t
 unfolding typed
-typed-value d K.Flag v e = given d K.Flag v T.flag (D.flag d v) (λ b q. R.flag (flag-means d v q)) e
-typed-value d (K.Named l) v e = given d (K.Named l) v T.word (D.wordOf l v) (λ w q. R.named (word-means l v q)) e
+typed-value d K.Flag v e = given d K.Flag v T.flag (flag d v) (λ b q. R.flag (flag-means d v q)) e
+typed-value d (K.Named l) v e = given d (K.Named l) v T.word (wordOf l v) (λ w q. R.named (word-means l v q)) e
 typed-value d K.Address v e = given d K.Address v T.address (address v) (λ a q. R.address (address-is v q)) e
 typed-value d K.Netmask v e = given d K.Netmask v T.maskLength (netmask v) (λ n q. R.netmask (netmask-is v q)) e
-typed-value d K.Ipv4 v e = given d K.Ipv4 v T.ipv4 (D.ipv4 v) (λ i q. R.ipv4 (ipv4-is v q)) e
+typed-value d K.Ipv4 v e = given d K.Ipv4 v T.ipv4 (ipv4 v) (λ i q. R.ipv4 (ipv4-is v q)) e
 typed-value d (K.Addresses sep) v e =
     given d (K.Addresses sep) v T.addresses (addresses sep v) (λ l q. R.addresses (addresses-is sep v q)) e
-typed-value d K.Entries v e = given d K.Entries v T.entries (D.entries v) (λ l q. R.entries (entries-are v q)) e
-typed-value d K.Mac v e = given d K.Mac v T.bytes (D.mac v) (λ b q. R.mac (mac-is v q)) e
-typed-value d K.PreSharedKey v e = given d K.PreSharedKey v T.bytes (D.preSharedKey v) (λ b q. R.preSharedKey (pre-shared-key-is v q)) e
-typed-value d K.Ssid v e = given d K.Ssid v T.bytes (D.ssid v) (λ b q. R.ssid (ssid-is v q)) e
+typed-value d K.Entries v e = given d K.Entries v T.entries (entries v) (λ l q. R.entries (entries-are v q)) e
+typed-value d K.Mac v e = given d K.Mac v T.bytes (mac v) (λ b q. R.mac (mac-is v q)) e
+typed-value d K.PreSharedKey v e = given d K.PreSharedKey v T.bytes (preSharedKey v) (λ b q. R.preSharedKey (pre-shared-key-is v q)) e
+typed-value d K.Ssid v e = given d K.Ssid v T.bytes (ssid v) (λ b q. R.ssid (ssid-is v q)) e
 typed-value d K.Passphrase v e =
-    given d K.Passphrase v T.bytes (D.passphrase d v) (λ b q. R.passphrase (text-is d 8 63 v q)) e
+    given d K.Passphrase v T.bytes (passphrase d v) (λ b q. R.passphrase (text-is d 8 63 v q)) e
 typed-value d (K.Text low high) v e =
-    given d (K.Text low high) v T.bytes (D.string d low high v) (λ b q. R.text (text-is d low high v q)) e
+    given d (K.Text low high) v T.bytes (string d low high v) (λ b q. R.text (text-is d low high v q)) e
 
 pub value-typed : (d : Dialect) (k : Kind) (v : List ℕ) {t : Typed} → ValueIs d k v t → typed d k v ≡ some t
 unfolding typed

@@ -1,102 +1,28 @@
 -- "Settings and their kinds": what a value of each kind is and gives, and which text is whole, said of the bytes.
 -- `ValueRuleLaws` shows that `typed`, `valueText` and `stringBroken` keep to it.
 use Prim.Native.Nat.{ℕ}
-use Prim.Native.String.{String}
 use mathlib.Core.Path.{_≡_}
-use mathlib.Core.Bool.{Bool, true, false}
-use mathlib.Core.List.{List, [], _∷_}
-use mathlib.Core.Logic.{_⊎_}
-use mathlib.Core.Option.{none, some}
-use Rattle.text.specs.Bytes.{other, isEntryByte}
+use mathlib.Core.Bool.{Bool, true}
+use mathlib.Core.List.{List}
+use Rattle.text.specs.Bytes.{other}
 use Rattle.text.specs.Parts.{all}
-use Rattle.text.specs.Pieces.{Pieces}
-use Rattle.text.specs.Relations.{Each, Some, Sized}
-use Rattle.text.specs.Words.{word}
+use Rattle.text.specs.Relations.{Sized}
 use Rattle.text.specs.declared.Dialect.{Dialect}
-use Rattle.text.specs.declared.Dialect.the-variants.{Iwd, ConnMan}
 use Rattle.utf8.specs.WellFormed.{WellFormedUtf8}
 use Rattle.escapes.specs.StringRules.{StringIs}
-use Rattle.hex.specs.HexRules.{HexPair, Hex}
-use Rattle.addresses.specs.AddressRules.{AddressIs, MaskIs, LengthIs, AddressesIs}
+use Rattle.addresses.specs.AddressRules.{AddressIs, MaskIs, AddressesIs}
 use Rattle.addresses.specs.declared.Separator.{Separator}
-use Rattle.kinds.specs.Kinds.{IPv4, dhcp, off, static}
+use Rattle.named_words.specs.WordRules.{Means, flagRows, wordRows}
+use Rattle.named_words.specs.declared.Word.{Word}
+use Rattle.named_words.specs.declared.WordList.{WordList}
+use Rattle.connman_ipv4.specs.ConnmanIpv4.{IPv4}
+use Rattle.connman_ipv4.specs.Ipv4Rules.{Ipv4Is}
+use Rattle.hex_values.specs.HexValueRules.{MacIs, PreSharedKeyIs, SsidIs}
+use Rattle.entry_lists.specs.EntryRules.{EntriesAre}
 use Rattle.kinds.specs.Typed as T
 use Rattle.kinds.specs.Typed.{Typed}
 use Rattle.kinds.specs.declared.Kind.{Kind}
 use Rattle.kinds.specs.declared.Kind.the-variants as K
-use Rattle.kinds.specs.declared.Word.{Word}
-use Rattle.kinds.specs.declared.Word.the-variants as W
-use Rattle.kinds.specs.declared.WordList.{WordList}
-use Rattle.kinds.specs.declared.WordList.the-variants.{ServiceType, Ipv6Method, Privacy, Security}
-
--- ---- yes/no and named words
-
--- the text is the word of a row, and means what the row says
-abbrev pub Means : {A : Type 0} → List (String × A) → List ℕ → A → Type 0
-Means rows v x = Some (λ row. (v ≡ word (row .0)) × (x ≡ row .1)) rows
-
--- "bool": "true, false, 1, 0" in iwd, "true, false" in ConnMan
-abbrev pub flagRows : Dialect → List (String × Bool)
-flagRows Iwd = ("true", true) ∷ ("false", false) ∷ ("1", true) ∷ ("0", false) ∷ []
-flagRows ConnMan = ("true", true) ∷ ("false", false) ∷ []
-
--- "Type (wifi, ethernet)"; "IPv6 (off, auto)";
--- "IPv6.Privacy (disabled, enabled, preferred; prefered reads as preferred)"; "Security (psk, ieee8021x, none, wep)"
-abbrev pub wordRows : WordList → List (String × Word)
-wordRows ServiceType = ("wifi", W.Wifi) ∷ ("ethernet", W.Ethernet) ∷ []
-wordRows Ipv6Method = ("off", W.Off) ∷ ("auto", W.Auto) ∷ []
-wordRows Privacy =
-    ("disabled", W.Disabled) ∷ ("enabled", W.Enabled) ∷ ("preferred", W.Preferred) ∷ ("prefered", W.Preferred) ∷ []
-wordRows Security = ("psk", W.Psk) ∷ ("ieee8021x", W.Ieee8021x) ∷ ("none", W.None) ∷ ("wep", W.Wep) ∷ []
-
--- ---- ConnMan's IPv4
-
--- "ConnMan IPv4 is `off`, `dhcp`, or address `/` mask or length (1 to 32, no leading zero),
--- and optionally `/` gateway."
-pub data Ipv4Is (v : List ℕ) : IPv4 → Type 0 where
-  word-off : v ≡ word "off" → Ipv4Is v off
-  word-dhcp : v ≡ word "dhcp" → Ipv4Is v dhcp
-  without-gateway : {a m x : List ℕ} {n : ℕ}
-      → Pieces 47 v (a ∷ m ∷ []) → AddressIs a x → MaskIs m n ⊎ LengthIs m n → Ipv4Is v (static x n none)
-  with-gateway : {a m g x y : List ℕ} {n : ℕ}
-      → Pieces 47 v (a ∷ m ∷ g ∷ []) → AddressIs a x → MaskIs m n ⊎ LengthIs m n → AddressIs g y
-      → Ipv4Is v (static x n (some y))
-
--- ---- lists of entries
-
--- "entries of 1 to 253 bytes without comma, space or tab"
-pub record EntryIs (p : List ℕ) : Type 0 where
-  pub size : Sized 1 253 p
-  pub bytes : all isEntryByte p ≡ true
-
--- "SearchDomains and Timeservers (1 to 4 entries .., one comma between)"
-pub record EntriesAre (v : List ℕ) (l : List (List ℕ)) : Type 0 where
-  pub commas : Pieces 44 v l
-  pub each : Each EntryIs l
-  pub count : Sized 1 4 l
-
--- ---- hex
-
--- pairs of hex digits with colons between, and the bytes that they write
-pub data ColonPairs : List ℕ → List ℕ → Type 0 where
-  last : {a b byte : ℕ} → HexPair a b byte → ColonPairs (a ∷ b ∷ []) (byte ∷ [])
-  next : {a b byte : ℕ} {s t : List ℕ} → HexPair a b byte → ColonPairs s t → ColonPairs (a ∷ b ∷ 58 ∷ s) (byte ∷ t)
-
--- "A MAC is 17 bytes, six pairs of hex digits with colons."
-pub record MacIs (v bytes : List ℕ) : Type 0 where
-  pub size : Sized 17 17 v
-  pub six : Sized 6 6 bytes
-  pub pairs : ColonPairs v bytes
-
--- "PreSharedKey (64 hex digits)"
-pub record PreSharedKeyIs (v bytes : List ℕ) : Type 0 where
-  pub size : Sized 64 64 v
-  pub digits : Hex v bytes
-
--- "SSID (2 to 64 hex digits, an even count)"
-pub record SsidIs (v bytes : List ℕ) : Type 0 where
-  pub size : Sized 2 64 v
-  pub digits : Hex v bytes
 
 -- ---- strings
 

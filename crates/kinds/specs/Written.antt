@@ -11,7 +11,6 @@ use lib.ListN.{length}
 use Rattle.text.specs.Bytes.{isByte, between, inLine, isBlank, isDigit, isLowerHex}
 use Rattle.text.specs.Parts.{all, after, empty}
 use Rattle.text.specs.Laws.{inside, between-low, between-high, pass-other, all-cons, all-weaken, all-other}
-use Rattle.text.specs.OptionLaws.{is-sized}
 use Rattle.text.specs.declared.Dialect.the-variants.{Iwd}
 use Rattle.utf8.specs.Utf8.{text, valueText, recordText}
 use Rattle.utf8.specs.Laws.{isPrintable, text-printable}
@@ -19,12 +18,12 @@ use Rattle.escapes.specs.Escapes.{escape}
 use Rattle.escapes.specs.Laws.{unescape-escape, escape-line, escape-start}
 use Rattle.escapes.specs.TextLaws.{escape-text}
 use Rattle.hex.specs.Hex.{hex}
-use Rattle.hex.specs.Laws.{unhex-hex, hex-lower, hex-length}
+use Rattle.hex.specs.Laws.{hex-lower}
 use Rattle.addresses.specs.Addresses.{isAddress, areAddresses, dotted, withSeparators, listed, isListByte}
 use Rattle.addresses.specs.Laws.{are-cons}
 use Rattle.addresses.specs.Written.{dotted-bytes, dotted-some, listed-bytes}
 use Rattle.addresses.specs.declared.Separator.the-variants.{Spaces}
-use Rattle.kinds.specs.Kinds.{preSharedKey, string}
+use Rattle.kinds.specs.Kinds.{string}
 
 -- a value's text that stands behind the `=` of a line: no byte 10 in it, and no blank in front
 pub record StandsOnLine (v : List ℕ) : Type 0 where
@@ -75,12 +74,6 @@ pub hex-stands : (t : List ℕ) → all isByte t ≡ true → StandsOnLine (hex 
 hex-stands t b =
     let h = hex-lower t b in
     printable-stands (hex t) (all-weaken isLowerHex isPrintable lower-printable (hex t) h) (start-whole isLowerHex refl refl (hex t) h)
-
-pub pre-shared-key-hex : (k : List ℕ) → length k ≡ 32 → all isByte k ≡ true → preSharedKey (hex k) ≡ some k
-unfolding preSharedKey
-pre-shared-key-hex k n b =
-    let l = hex-length k in
-    rw (is-sized 64 64 (some (hex k)) (record { least = omega arith; most = omega arith }) refl, unhex-hex k b)
 
 -- ---- addresses and lists of them
 

@@ -7,15 +7,11 @@ ghost use Rattle.kinds.specs.Answers.{judgementAt};
 ghost use Rattle.kinds.specs.Judging.{keptAt, flagJudgement, wordJudgement, maskJudgement};
 use crate::Judgement;
 use crate::Kind;
-use crate::NamedWord;
 use crate::Value;
-use crate::YesNo;
-use crate::connman_ipv4;
-use crate::hexes;
-use crate::lists;
-use crate::words;
 use addresses::Netmask;
 use escapes::Size;
+use named_words::NamedWord;
+use named_words::YesNo;
 use text::Dialect;
 use text::Place;
 
@@ -75,8 +71,8 @@ fn judge_kind(d: Dialect, kind: Kind, v: &[u8], at: Place) -> Judgement
     ensures { λ r. ⌜ r ≡ judgementAt at (kindJudged d kind (now (v .entry))) ⌝ }
 {
     match kind {
-        Kind::Flag => flag_judgement(words::read_flag(d, v)),
-        Kind::Named(w) => word_judgement(words::read_word(w, v)),
+        Kind::Flag => flag_judgement(named_words::read_flag(d, v)),
+        Kind::Named(w) => word_judgement(named_words::read_word(w, v)),
         Kind::Address => {
             let a = addresses::numbers::read_address(v);
             kept(a.ok, at)
@@ -88,15 +84,15 @@ fn judge_kind(d: Dialect, kind: Kind, v: &[u8], at: Place) -> Judgement
         }
         Kind::Addresses(sep) => kept(addresses::lists::count_addresses(v, sep) != 0, at),
         Kind::Entries => {
-            let e = lists::read_entries(v, 0);
+            let e = entry_lists::read_entries(v, 0);
             kept(e.count != 0, at)
         }
         Kind::Mac => {
-            let m = hexes::read_mac(v);
+            let m = hex_values::read_mac(v);
             kept(m.ok, at)
         }
-        Kind::PreSharedKey => kept(hexes::is_pre_shared_key(v), at),
-        Kind::Ssid => kept(hexes::is_ssid(v), at),
+        Kind::PreSharedKey => kept(hex_values::is_pre_shared_key(v), at),
+        Kind::Ssid => kept(hex_values::is_ssid(v), at),
         Kind::Passphrase => string_judgement(d, v, 8, 63, at),
         Kind::Text(low, high) => string_judgement(d, v, low, high, at),
     }

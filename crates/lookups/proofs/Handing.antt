@@ -22,14 +22,14 @@ use Rattle.rules.specs.declared.Answer.the-variants.{Good, Refused}
 use Rattle.rules.specs.declared.Group.{Group}
 use Rattle.rules.specs.declared.Group.the-variants.{Service}
 use Rattle.rules.specs.declared.Reading.{Reading}
-use Rattle.reader.specs.Store.{Slot}
-use Rattle.reader.specs.Keys.{keyGroup, keyWord, keyKind}
-use Rattle.reader.specs.History.{base}
-use Rattle.reader.specs.Holds.{isText, OfText, SlotKeeps, RowKeeps}
-use Rattle.reader.specs.Closing.{ValueInFile, keySlot}
-use Rattle.reader.specs.declared.KeyName.{KeyName}
-use Rattle.reader.proofs.RowRule.{row-key, row-in}
-use Rattle.reader.proofs.Values.{base-few}
+use Rattle.places.specs.Store.{Slot}
+use Rattle.places.specs.Keys.{keyGroup, keyWord, keyKind}
+use Rattle.places.specs.History.{base}
+use Rattle.places.specs.Holds.{isText, OfText, SlotKeeps, RowKeeps}
+use Rattle.places.specs.KeySlots.{ValueInFile, keySlot}
+use Rattle.places.specs.declared.KeyName.{KeyName}
+use Rattle.places.proofs.RowKeys.{row-key, row-in}
+use Rattle.places.proofs.Values.{base-few}
 use Rattle.pass.specs.Pass.{ReadsFile}
 use Rattle.pass.proofs.Asking.{found-group, found-service, file-found, service-found, service-few}
 use Rattle.lookups.specs.Lookups.{Lookup, lookupOf, groupLookup, serviceLookup, stretch, settingValue, lookupPlace, ValuePlace, Hands, HandsPlace}

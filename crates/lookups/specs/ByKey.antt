@@ -13,10 +13,10 @@ use Rattle.rules.specs.declared.Answer.{Answer}
 use Rattle.rules.specs.declared.Answer.the-variants.{Good, Refused}
 use Rattle.rules.specs.declared.Group.{Group}
 use Rattle.rules.specs.declared.Group.the-variants.{Service}
-use Rattle.reader.specs.Store.{Slot}
-use Rattle.reader.specs.Keys.{keyGroup, keyKind}
-use Rattle.reader.specs.Holds.{isText}
-use Rattle.reader.specs.declared.KeyName.{KeyName}
+use Rattle.places.specs.Store.{Slot}
+use Rattle.places.specs.Keys.{keyGroup, keyKind}
+use Rattle.places.specs.Holds.{isText}
+use Rattle.places.specs.declared.KeyName.{KeyName}
 use Rattle.lookups.specs.declared.TextPlace.{TextPlace}
 
 -- a key whose values are texts, of a group that stands once in a file of its dialect

@@ -2,8 +2,8 @@
 //
 // None of the public functions has a `requires`. `number` and `line` are result fields, set on every answer: document 01's
 // number, and the line of the refusal or of the setting, 0 where it is absent. A refusal and an absent setting hand back
-// the empty part. `places` has the same lookups by place, and these hand back the part that stands there.
-pub mod places;
+// the empty part. `by_place` has the same lookups by place, and these hand back the part that stands there.
+pub mod by_place;
 
 ghost use mathlib.Core.Path.{_≡_};
 ghost use Prim.Native.Nat.{_≤_};
@@ -11,10 +11,10 @@ ghost use lib.ListN.{length};
 ghost use Rattle.text.specs.Parts.{part};
 ghost use Rattle.text.specs.Words.{word};
 ghost use Rattle.rules.specs.ListedValues.{groupName};
-ghost use Rattle.reader.specs.Keys.{keyWord};
+ghost use Rattle.places.specs.Keys.{keyWord};
 ghost use Rattle.lookups.specs.Lookups.{groupLookup, iwdLookup, globalLookup, serviceLookup, Hands, HandsPlace};
 ghost use Rattle.lookups.specs.ByKey.{StandsOnce, ServiceText};
-use reader::KeyName;
+use places::KeyName;
 use rules::Group;
 use text::Dialect;
 
@@ -51,7 +51,12 @@ fn group_text<'a>(
     requires { ⌜ StandsOnce d g k ⌝ }
     ensures { λ r. ⌜ Hands (now (file .entry)) (groupLookup d (groupName g) (keyWord k) (now (name .entry)) (now (file .entry))) (now (number .exit)) (now (line .exit)) (now r) ⌝ }
 {
-    hand(file, places::group_place(d, name, file, g, k), number, line)
+    hand(
+        file,
+        by_place::group_place(d, name, file, g, k),
+        number,
+        line,
+    )
 }
 
 // The value of a key of a service, by its number, from 1.
@@ -68,7 +73,7 @@ fn service_text<'a>(
 {
     hand(
         file,
-        places::service_place(name, file, service, k),
+        by_place::service_place(name, file, service, k),
         number,
         line,
     )

@@ -8,28 +8,29 @@ use mathlib.Core.List.{List, _++_, append-assoc}
 use mathlib.Core.Option.{Option, none, some}
 use Rattle.text.specs.Words.{word}
 use Rattle.text.specs.declared.Dialect.the-variants.{ConnMan}
-use Rattle.kinds.specs.Kinds.{IPv4, dhcp, off, static, wordOf, ipv4}
-use Rattle.kinds.specs.Answers.{ipv4Answer}
-use Rattle.kinds.specs.declared.Ipv4.{Ipv4}
-use Rattle.kinds.specs.declared.Word.the-variants as W
-use Rattle.kinds.specs.declared.WordList.the-variants as L
+use Rattle.named_words.specs.NamedWords.{wordOf}
+use Rattle.connman_ipv4.specs.ConnmanIpv4.{IPv4, dhcp, off, static, ipv4}
+use Rattle.connman_ipv4.specs.Answers.{ipv4Answer}
+use Rattle.connman_ipv4.specs.declared.Ipv4.{Ipv4}
+use Rattle.named_words.specs.declared.Word.the-variants as W
+use Rattle.named_words.specs.declared.WordList.the-variants as L
 use Rattle.rules.specs.Tables.{keysOf}
 use Rattle.rules.specs.Sections.{Entry, entryOf}
 use Rattle.rules.specs.WordNumbers.{isWord}
 use Rattle.rules.specs.Asking.{readAs}
 use Rattle.rules.specs.declared.Group.the-variants as G
-use Rattle.reader.specs.Store.{Slot}
-use Rattle.reader.specs.Keys.{keyGroup, keyWord as nameOf, keyKind}
-use Rattle.reader.specs.Holds.{SlotKeeps, RowKeeps}
-use Rattle.reader.specs.Closing.{keySlot, bytesOf, slotIs}
-use Rattle.reader.specs.declared.KeyName.{KeyName}
-use Rattle.reader.specs.declared.KeyName.the-variants as N
-use Rattle.reader.proofs.RowRule.{row-key}
-use Rattle.settings.proofs.Rowwise.{ipv4-none, row-read, row-word}
+use Rattle.places.specs.Store.{Slot}
+use Rattle.places.specs.Keys.{keyGroup, keyWord as nameOf, keyKind}
+use Rattle.places.specs.Holds.{SlotKeeps, RowKeeps}
+use Rattle.places.specs.KeySlots.{keySlot, bytesOf, slotIs}
+use Rattle.places.specs.declared.KeyName.{KeyName}
+use Rattle.places.specs.declared.KeyName.the-variants as N
+use Rattle.places.proofs.RowKeys.{row-key}
+use Rattle.values.proofs.KeptValues.{ipv4-none, row-read, row-word}
 use Rattle.written.specs.Written.{hasPlace}
 use Rattle.joins.specs.Joins.{ipv4OrDhcp, wired, foreignSecurity, foreign, serviceJoin}
 use Rattle.joins.specs.Places.{foreignAt}
-use Rattle.joins.proofs.Asked.{row-foreign}
+use Rattle.joins.proofs.Choosing.{row-foreign}
 use Rattle.mover.specs.Moves.{lineIf, lineGiven, unplaced, earliest}
 use Rattle.mover.specs.Places.{lineSaid, earlierOf, Earlier, slotLineIf, unrouted, slotLine, GivenLine, RowLine}
 

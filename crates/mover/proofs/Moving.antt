@@ -15,14 +15,14 @@ use Rattle.rules.specs.declared.Group.the-variants as G
 use Rattle.rules.specs.declared.Reading.{Reading}
 use Rattle.rules.specs.declared.Refusal.{Refusal}
 use Rattle.rules.specs.declared.Refusal.the-variants.{NoPlace}
-use Rattle.reader.specs.History.{base}
-use Rattle.reader.specs.Closing.{bytesOf}
-use Rattle.reader.specs.declared.KeyName.the-variants as N
+use Rattle.places.specs.History.{base}
+use Rattle.places.specs.KeySlots.{bytesOf}
+use Rattle.places.specs.declared.KeyName.the-variants as N
 use Rattle.pass.specs.Pass.{ReadsFile}
 use Rattle.pass.proofs.Asking.{service-answer}
-use Rattle.settings.specs.Rows.{RowOf, RowGives}
+use Rattle.values.specs.Rows.{RowOf, RowGives}
 use Rattle.settings.proofs.ServiceFile.{found-row}
-use Rattle.settings.proofs.Rowwise.{addresses-none, row-read}
+use Rattle.values.proofs.KeptValues.{addresses-none, row-read}
 use Rattle.records.specs.Record.{Join, laid, joined}
 use Rattle.records.specs.Laws.{joined-laid}
 use Rattle.records.specs.declared.JoinRecord.{JoinRecord}

@@ -11,9 +11,13 @@ use Rattle.text.specs.declared.Dialect.the-variants as D
 use Rattle.addresses.specs.Addresses.{addresses}
 use Rattle.addresses.specs.declared.Separator.the-variants.{Comma}
 use Rattle.kinds.specs.Kinds as K
-use Rattle.kinds.specs.Kinds.{IPv4, dhcp, off, static, ipv4, ssid, string}
+use Rattle.connman_ipv4.specs.ConnmanIpv4.{IPv4, dhcp, off, static, ipv4}
+use Rattle.hex_values.specs.HexValues.{ssid}
+use Rattle.kinds.specs.Kinds.{string}
 use Rattle.addresses.specs.Laws.{addresses-good}
-use Rattle.kinds.specs.ValueLaws.{string-size, ssid-size, Ipv4Good, ipv4-good}
+use Rattle.connman_ipv4.specs.Laws.{Ipv4Good, ipv4-good}
+use Rattle.hex_values.specs.Laws.{ssid-size}
+use Rattle.kinds.specs.ValueRuleLaws.{string-size}
 use Rattle.rules.specs.Tables.{keysOf}
 use Rattle.rules.specs.Sections.{Entry}
 use Rattle.rules.specs.Asking.{readAs}

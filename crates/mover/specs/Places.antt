@@ -5,14 +5,14 @@ use mathlib.Core.Bool.{Bool, true, false, cond}
 use mathlib.Core.List.{List}
 use mathlib.Core.Option.{Option, none, some}
 use Rattle.text.specs.declared.Dialect.the-variants.{ConnMan}
-use Rattle.kinds.specs.declared.Method.{Method}
-use Rattle.kinds.specs.declared.Method.the-variants as M
+use Rattle.connman_ipv4.specs.declared.Method.{Method}
+use Rattle.connman_ipv4.specs.declared.Method.the-variants as M
 use Rattle.rules.specs.Sections.{Entry, entryOf}
 use Rattle.rules.specs.declared.Group.the-variants.{Service}
-use Rattle.reader.specs.Holds.{RowKeeps}
-use Rattle.reader.specs.Closing.{keySlot}
-use Rattle.reader.specs.declared.KeyName.{KeyName}
-use Rattle.reader.specs.declared.KeyName.the-variants as N
+use Rattle.places.specs.Holds.{RowKeeps}
+use Rattle.places.specs.KeySlots.{keySlot}
+use Rattle.places.specs.declared.KeyName.{KeyName}
+use Rattle.places.specs.declared.KeyName.the-variants as N
 use Rattle.writer.specs.Writing.{Writes}
 use Rattle.writer.specs.declared.Written.{Written}
 use Rattle.mover.specs.Moves.{least, movingOf}

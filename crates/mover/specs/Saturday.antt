@@ -14,8 +14,9 @@ use Rattle.rules.specs.declared.Refusal.{Refusal}
 use Rattle.writer.specs.Writing.{Writing, refuses, writtenAnswer, nameAfter, fileAfter, Writes}
 use Rattle.writer.specs.declared.Written.{Written}
 use Rattle.joins.specs.Joins.{serviceSetting}
-use Rattle.joins.specs.Saturday.{FaultyPassphrase, ServiceRefuses}
-use Rattle.joins.specs.SaturdayHolds.{faulty-refused, refused-service}
+use Rattle.joins.specs.Saturday.{FaultyPassphrase}
+use Rattle.record_answers.specs.Refused.{ServiceRefuses, refused-service}
+use Rattle.joins.specs.SaturdayHolds.{faulty-refused}
 use Rattle.mover.specs.Moves.{movedIfGood, movingOf, moving}
 
 -- ---- the statement

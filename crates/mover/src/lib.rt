@@ -4,18 +4,17 @@
 // line that iwd has no place for.
 pub mod unplaced;
 
-ghost use Rattle.settings.specs.Rows.{RowOf};
+ghost use Rattle.values.specs.Rows.{RowOf};
 ghost use Rattle.mover.specs.Demand.{Moves};
 ghost use Rattle.mover.specs.Places.{MovesBy};
 use addresses::Separator;
-use reader::KeyName;
-use reader::PLACES;
-use reader::Places;
-use reader::judging::base_of;
+use places::KeyName;
+use places::PLACES;
+use places::Places;
+use places::rows::base_of;
 use rules::Answer;
 use rules::Group;
 use rules::Refusal;
-use settings::values;
 use tables::asking;
 use text::Dialect;
 use writer::Written;

@@ -1,20 +1,19 @@
 // The lines of a service that iwd has no place for, by the row of the table of places that keeps its settings: each answer is
 // a line, or 0 where there is none.
 ghost use mathlib.Core.Path.{_≡_};
-ghost use Rattle.reader.specs.Closing.{RowInTable};
-ghost use Rattle.settings.specs.Rows.{RowOf};
+ghost use Rattle.places.specs.KeySlots.{RowInTable};
+ghost use Rattle.values.specs.Rows.{RowOf};
 ghost use Rattle.mover.specs.Moves.{unplaced, earliest};
 ghost use Rattle.mover.specs.Places.{Earlier, GivenLine, RowLine, slotLineIf, unrouted};
+use connman_ipv4::Ipv4;
+use connman_ipv4::Method;
 use joins::parts::is_foreign;
-use kinds::Ipv4;
-use kinds::Method;
-use kinds::Word;
-use reader::KeyName;
-use reader::Places;
-use reader::services::is_word;
-use reader::services::line_of;
+use named_words::Word;
+use places::KeyName;
+use places::Places;
+use places::rows::is_word;
+use places::rows::line_of;
 use rules::Group;
-use settings::values;
 use text::Dialect;
 
 // The earlier of two lines.

@@ -19,16 +19,16 @@ use Rattle.rules.specs.declared.Reading.{Reading}
 use Rattle.rules.specs.declared.Reading.the-variants.{Accepted, Refused}
 use Rattle.rules.specs.declared.Refusal.{Refusal}
 use Rattle.rules.specs.declared.Refusal.the-variants.{Size, FileName}
-use Rattle.reader.specs.Holds.{HoldsGroups}
-use Rattle.reader.specs.Ending.{kindOfName, nameDialect, EndSays}
-use Rattle.reader.specs.declared.FileKind.{FileKind}
-use Rattle.reader.specs.declared.FileKind.the-variants as K
-use Rattle.reader.specs.declared.State.{State}
-use Rattle.reader.proofs.FileKind.{the-type}
+use Rattle.places.specs.Holds.{HoldsGroups}
+use Rattle.verdicts.specs.Ending.{kindOfName, nameDialect, EndSays}
+use Rattle.verdicts.specs.declared.FileKind.{FileKind}
+use Rattle.verdicts.specs.declared.FileKind.the-variants as K
+use Rattle.places.specs.declared.State.{State}
+use Rattle.verdicts.proofs.FileKind.{the-type}
 use Rattle.pass.specs.Pass.{WalkIs, Walks, ReadsKind, ReadsFile}
 use Rattle.pass.specs.declared.Walked.{Walked}
 use Rattle.pass.specs.declared.Walked.the-variants.{Through, Stopped}
-use Rattle.reader.specs.Store.{fileLimit, tableLength}
+use Rattle.places.specs.Store.{fileLimit, tableLength}
 
 -- ---- the kind of a name
 

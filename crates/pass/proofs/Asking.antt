@@ -18,10 +18,10 @@ use Rattle.rules.specs.declared.Group.the-variants.{Service}
 use Rattle.rules.specs.declared.Answer.{Answer}
 use Rattle.rules.specs.declared.Answer.the-variants.{Good}
 use Rattle.rules.specs.declared.Reading.{Reading}
-use Rattle.reader.specs.History.{base}
-use Rattle.reader.specs.Holds.{RowKeeps}
-use Rattle.reader.proofs.FileFault.{group-row}
-use Rattle.reader.proofs.Values.{numbered-service, numbered-row}
+use Rattle.places.specs.History.{base}
+use Rattle.places.specs.Holds.{RowKeeps}
+use Rattle.places.proofs.GroupRows.{group-row}
+use Rattle.places.proofs.Values.{numbered-service, numbered-row}
 use Rattle.pass.specs.Pass.{Found, ReadsFile}
 
 -- ---- the rows after a reading

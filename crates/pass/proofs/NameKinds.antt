@@ -8,8 +8,8 @@ use Rattle.text.specs.declared.Dialect.the-variants.{Iwd}
 use Rattle.names.specs.Names.{Network, networkOf, iwdNameAnswer}
 use Rattle.names.specs.declared.IwdName.{IwdName}
 use Rattle.rules.specs.Reading.{iwdName, nameIn}
-use Rattle.reader.specs.Ending.{kindOfName}
-use Rattle.reader.specs.declared.FileKind.the-variants as K
+use Rattle.verdicts.specs.Ending.{kindOfName}
+use Rattle.verdicts.specs.declared.FileKind.the-variants as K
 use Rattle.text.specs.Options.{mapped}
 
 module _ (name : List ℕ) {r : IwdName} (e : r ≡ iwdNameAnswer (networkOf name)) where

@@ -21,15 +21,15 @@ use Rattle.rules.specs.Faults.{fault}
 use Rattle.rules.specs.Reading.{afterLine, lineFault, grown}
 use Rattle.rules.specs.declared.Group.{Group}
 use Rattle.rules.specs.declared.Refusal.{Refusal}
-use Rattle.reader.specs.Store.{fileLimit, slotCount, linesFrom, codesFrom, tableLength, lastRow, slot, emptySlot}
-use Rattle.reader.specs.History.{baseAt, groupAt}
-use Rattle.reader.specs.Holds.{RowKeeps, HoldsGroups}
+use Rattle.places.specs.Store.{fileLimit, slotCount, linesFrom, codesFrom, tableLength, lastRow, slot, emptySlot}
+use Rattle.places.specs.History.{baseAt, groupAt}
+use Rattle.places.specs.Holds.{RowKeeps, HoldsGroups}
 use Rattle.reader.specs.Steps.{Known, StepIs, StepSays}
-use Rattle.reader.specs.declared.State.{State}
-use Rattle.reader.specs.declared.Current.the-variants.{Outside}
+use Rattle.places.specs.declared.State.{State}
+use Rattle.places.specs.declared.Current.the-variants.{Outside}
 use Rattle.reader.specs.declared.Stepped.{Stepped}
 use Rattle.reader.specs.declared.Stepped.the-variants.{Goes, Stops}
-use Rattle.reader.proofs.Rows.{keys-few, lies}
+use Rattle.places.proofs.RowLaws.{keys-few, lies}
 use Rattle.pass.specs.Pass.{Walks}
 use Rattle.pass.specs.declared.Walked.the-variants.{Through, Stopped}
 

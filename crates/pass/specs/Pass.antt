@@ -11,12 +11,12 @@ use Rattle.rules.specs.Reading.{lineFault, grown, sectionsOf, nameIn, readingOf
 use Rattle.rules.specs.declared.Reading.{Reading}
 use Rattle.rules.specs.declared.Reading.the-variants.{Accepted, Refused}
 use Rattle.rules.specs.declared.Refusal.{Refusal}
-use Rattle.reader.specs.Holds.{TableKeeps, HoldsGroups}
-use Rattle.reader.specs.Ending.{kindOfName}
-use Rattle.reader.specs.declared.FileKind.{FileKind}
+use Rattle.places.specs.Holds.{TableKeeps, HoldsGroups}
+use Rattle.verdicts.specs.Ending.{kindOfName}
+use Rattle.verdicts.specs.declared.FileKind.{FileKind}
 use Rattle.pass.specs.declared.Walked.{Walked}
 use Rattle.pass.specs.declared.Walked.the-variants.{Through, Stopped}
-use Rattle.reader.specs.Store.{tableLength}
+use Rattle.places.specs.Store.{tableLength}
 
 -- no line is faulty, and the state and the table hold of the groups of the whole file; or the first faulty line
 abbrev pub WalkIs : Dialect → List ℕ → List ℕ → Walked → Type 0

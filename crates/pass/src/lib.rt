@@ -1,25 +1,25 @@
 // The reading of a file of either dialect, in one pass over its lines.
 //
 // The pass stops at the first faulty line; after the last line the groups are judged as a whole. What stands where is left
-// in the lent table of places (`reader::store`).
+// in the lent table of places (`places::store`).
 ghost use mathlib.Core.Path.{_≡_};
 ghost use Prim.Native.Nat.{_≤_};
 ghost use lib.ListN.{length, replicate};
 ghost use Rattle.names.specs.Names.{networkOf, connmanName};
 ghost use Rattle.rules.specs.Reading.{nameIn};
-ghost use Rattle.reader.specs.Ending.{kindOfName};
+ghost use Rattle.verdicts.specs.Ending.{kindOfName};
 ghost use Rattle.pass.specs.Pass.{Walks, ReadsKind, ReadsFile};
-ghost use Rattle.reader.specs.Store.{fileLimit, tableLength};
-use reader::Current;
-use reader::FILE_LIMIT;
-use reader::FileKind;
-use reader::PLACES;
-use reader::Places;
-use reader::State;
+ghost use Rattle.places.specs.Store.{fileLimit, tableLength};
+use places::Current;
+use places::FILE_LIMIT;
+use places::PLACES;
+use places::Places;
+use places::State;
 use reader::Stepped;
 use rules::Reading;
 use rules::Refusal;
 use text::Dialect;
+use verdicts::FileKind;
 
 // What is known after every line, or the first faulty line.
 pub enum Walked {
@@ -98,7 +98,7 @@ fn read_kind(kind: FileKind, d: Dialect, file: &[u8], x: &mut Places) -> Reading
     }
     let walked = walk(d, file, x);
     match walked {
-        Walked::Through(st) => reader::ending::ending(kind, x, st),
+        Walked::Through(st) => verdicts::ending::ending(kind, x, st),
         Walked::Stopped(refusal, line) => Reading::Refused(refusal, line),
     }
 }

@@ -8,9 +8,9 @@ use Rattle.rules.specs.declared.Refusal.the-variants.{Malformed}
 use Rattle.records.specs.declared.JoinRecord.{JoinRecord}
 use Rattle.writer.specs.Writing.{Writing, refuses, writing, writtenAnswer, Writes}
 use Rattle.writer.specs.declared.Written.{Written}
-use Rattle.boundary.specs.Answers.{writtenAt, leftOf, Leaves}
-use Rattle.boundary.specs.Records.{known, recordIn, serversIn, writingIn}
-use Rattle.boundary.specs.declared.CRecord.{CRecord}
+use Rattle.record_layout.specs.Records.{known, recordIn, serversIn}
+use Rattle.record_layout.specs.declared.CRecord.{CRecord}
+use Rattle.boundary.specs.Answers.{writtenAt, leftOf, Leaves, writingIn}
 use Rattle.boundary.specs.declared.CWritten.{CWritten}
 
 pub writes-at : {w : Writing} {n f x y : List ℕ} {b : Written} → Writes w n f x y b → {a : CWritten} → a ≡ writtenAt b → Leaves (leftOf w n f) x y a

@@ -1,4 +1,4 @@
-// The C boundary: the entry points as functions that C and Rust call, with the structs of crate `boundary`.
+// The C boundary: the entry points as functions that C and Rust call, with the structs of `boundary` and `record_layout`.
 //
 // They only translate: each calls the entry point of its name and lays out what it answers. `include/qewaris.h` declares them
 // for C. None has a `requires`; a record that is brought in with a code that there is not is refused with 19.
@@ -7,15 +7,14 @@ ghost use Rattle.boundary.specs.Answers.{Leaves};
 ghost use Rattle.demands.specs.Calls.{checkIwd, checkConnman, iwdSettingsOf, serviceSettingsOf, iwdPassphrase, iwdDomainName, globalName, globalDescription, serviceName, servicePassphrase, serviceDomain, iwdRecordOf, serviceRecordOf, writeIwd, moveService};
 use boundary::CIwdSettings;
 use boundary::CReading;
-use boundary::CRecord;
 use boundary::CRecordAnswer;
 use boundary::CServiceSettings;
 use boundary::CText;
 use boundary::CWritten;
-use boundary::answers;
-use boundary::record_layout;
+use boundary::answer_layout;
 use boundary::settings_layout;
-use lookups::places;
+use lookups::by_place;
+use record_layout::CRecord;
 use rules::Refusal;
 use text::Dialect;
 
@@ -23,14 +22,14 @@ use text::Dialect;
 pub extern "C" fn qewaris_check_iwd(name: &[u8], file: &[u8]) -> CReading
     ensures { λ r. ⌜ r ≡ checkIwd (now (name .entry)) (now (file .entry)) ⌝ }
 {
-    answers::reading_at(crate::check(Dialect::Iwd, name, file))
+    answer_layout::reading_at(crate::check(Dialect::Iwd, name, file))
 }
 
 #[no_mangle]
 pub extern "C" fn qewaris_check_connman(name: &[u8], file: &[u8]) -> CReading
     ensures { λ r. ⌜ r ≡ checkConnman (now (name .entry)) (now (file .entry)) ⌝ }
 {
-    answers::reading_at(crate::check(Dialect::ConnMan, name, file))
+    answer_layout::reading_at(crate::check(Dialect::ConnMan, name, file))
 }
 
 #[no_mangle]
@@ -59,49 +58,49 @@ pub extern "C" fn qewaris_service_settings_of(
 pub extern "C" fn qewaris_iwd_passphrase(name: &[u8], file: &[u8]) -> CText
     ensures { λ r. ⌜ r ≡ iwdPassphrase (now (name .entry)) (now (file .entry)) ⌝ }
 {
-    answers::text_at(places::iwd_passphrase(name, file))
+    answer_layout::text_at(by_place::iwd_passphrase(name, file))
 }
 
 #[no_mangle]
 pub extern "C" fn qewaris_iwd_domain_name(name: &[u8], file: &[u8]) -> CText
     ensures { λ r. ⌜ r ≡ iwdDomainName (now (name .entry)) (now (file .entry)) ⌝ }
 {
-    answers::text_at(places::iwd_domain_name(name, file))
+    answer_layout::text_at(by_place::iwd_domain_name(name, file))
 }
 
 #[no_mangle]
 pub extern "C" fn qewaris_global_name(name: &[u8], file: &[u8]) -> CText
     ensures { λ r. ⌜ r ≡ globalName (now (name .entry)) (now (file .entry)) ⌝ }
 {
-    answers::text_at(places::global_name(name, file))
+    answer_layout::text_at(by_place::global_name(name, file))
 }
 
 #[no_mangle]
 pub extern "C" fn qewaris_global_description(name: &[u8], file: &[u8]) -> CText
     ensures { λ r. ⌜ r ≡ globalDescription (now (name .entry)) (now (file .entry)) ⌝ }
 {
-    answers::text_at(places::global_description(name, file))
+    answer_layout::text_at(by_place::global_description(name, file))
 }
 
 #[no_mangle]
 pub extern "C" fn qewaris_service_name(name: &[u8], file: &[u8], service: usize) -> CText
     ensures { λ r. ⌜ r ≡ serviceName (now (name .entry)) (now (file .entry)) service ⌝ }
 {
-    answers::text_at(places::service_name(name, file, service))
+    answer_layout::text_at(by_place::service_name(name, file, service))
 }
 
 #[no_mangle]
 pub extern "C" fn qewaris_service_passphrase(name: &[u8], file: &[u8], service: usize) -> CText
     ensures { λ r. ⌜ r ≡ servicePassphrase (now (name .entry)) (now (file .entry)) service ⌝ }
 {
-    answers::text_at(places::service_passphrase(name, file, service))
+    answer_layout::text_at(by_place::service_passphrase(name, file, service))
 }
 
 #[no_mangle]
 pub extern "C" fn qewaris_service_domain(name: &[u8], file: &[u8], service: usize) -> CText
     ensures { λ r. ⌜ r ≡ serviceDomain (now (name .entry)) (now (file .entry)) service ⌝ }
 {
-    answers::text_at(places::service_domain(name, file, service))
+    answer_layout::text_at(by_place::service_domain(name, file, service))
 }
 
 #[no_mangle]
@@ -110,7 +109,7 @@ pub extern "C" fn qewaris_iwd_record(name: &[u8], file: &[u8]) -> CRecordAnswer
 {
     let mut servers = [[0; 4]; 4];
     let answer = crate::joined::iwd_record(name, file, &mut servers);
-    record_layout::record_answer_at(answer, servers)
+    answer_layout::record_answer_at(answer, servers)
 }
 
 #[no_mangle]
@@ -119,7 +118,7 @@ pub extern "C" fn qewaris_service_record(name: &[u8], file: &[u8], service: usiz
 {
     let mut servers = [[0; 4]; 4];
     let answer = crate::joined::service_record(name, file, service, &mut servers);
-    record_layout::record_answer_at(answer, servers)
+    answer_layout::record_answer_at(answer, servers)
 }
 
 #[no_mangle]
@@ -131,12 +130,12 @@ pub extern "C" fn qewaris_write_iwd(
     ensures { λ a. ⌜ Leaves (writeIwd brought (now («name_out» .entry)) (now («file_out» .entry))) (now («name_out» .exit)) (now («file_out» .exit)) a ⌝ }
 {
     if !record_layout::is_known(brought) {
-        return answers::written_at(writer::refused(Refusal::Malformed, 0));
+        return answer_layout::written_at(writer::refused(Refusal::Malformed, 0));
     }
     let bytes = brought.servers;
     let servers = record_layout::fours(bytes);
     let record = record_layout::record_in(brought);
-    answers::written_at(crate::files::write_iwd(record, servers, name_out, file_out))
+    answer_layout::written_at(crate::files::write_iwd(record, servers, name_out, file_out))
 }
 
 #[no_mangle]
@@ -149,5 +148,5 @@ pub extern "C" fn qewaris_move_service(
 ) -> CWritten
     ensures { λ a. ⌜ Leaves (moveService (now (name .entry)) (now (file .entry)) service (now («name_out» .entry)) (now («file_out» .entry))) (now («name_out» .exit)) (now («file_out» .exit)) a ⌝ }
 {
-    answers::written_at(crate::files::move_service(name, file, service, name_out, file_out))
+    answer_layout::written_at(crate::files::move_service(name, file, service, name_out, file_out))
 }

@@ -12,7 +12,7 @@ pub fn iwd_record(name: &[u8], file: &[u8], servers: &mut [[u8; 4]; 4]) -> Recor
     ensures { λ r. ⌜ now (servers .exit) ≡ iwdRecordServers (now (name .entry)) (now (file .entry)) (now (servers .entry)) ⌝ }
     ensures { λ r. ⌜ TellsAnswer (Call.iwd-record (now (name .entry)) (now (file .entry)) (now (servers .entry))) (r .answer) ⌝ }
 {
-    joins::iwd_record(name, file, servers)
+    record_answers::iwd_record(name, file, servers)
 }
 
 // The join record of a ConnMan service, counted from 1, and its name servers in the lent array. A refusal gives a record that
@@ -27,5 +27,5 @@ pub fn service_record(
     ensures { λ r. ⌜ now (servers .exit) ≡ serviceRecordServers (now (name .entry)) (now (file .entry)) service (now (servers .entry)) ⌝ }
     ensures { λ r. ⌜ TellsAnswer (Call.service-record (now (name .entry)) (now (file .entry)) service (now (servers .entry))) (r .answer) ⌝ }
 {
-    joins::service_record(name, file, service, servers)
+    record_answers::service_record(name, file, service, servers)
 }

@@ -12,7 +12,7 @@ pub mod typed;
 pub mod version;
 
 ghost use Rattle.demands.specs.Telling.{Checks};
-use reader::PLACES;
+use places::PLACES;
 pub use records::is_well_formed;
 use rules::Reading;
 use text::Dialect;

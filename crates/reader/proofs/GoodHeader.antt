@@ -20,13 +20,13 @@ use Rattle.rules.specs.declared.Group.{Group}
 use Rattle.rules.specs.declared.Group.the-variants.{Service}
 use Rattle.rules.specs.declared.Refusal.{Refusal}
 use Rattle.rules.specs.declared.Refusal.the-variants.{RepeatedGroup, ManyServices}
-use Rattle.reader.specs.Store.{stored}
-use Rattle.reader.specs.History.{base, nameBase}
-use Rattle.reader.specs.Holds.{HoldsGroups}
+use Rattle.places.specs.Store.{stored}
+use Rattle.places.specs.History.{base, nameBase}
+use Rattle.places.specs.Holds.{HoldsGroups}
 use Rattle.reader.specs.Headings.{slotsNamed, slotsHeading}
 use Rattle.reader.specs.Steps.{headerSlot, nameSlot, Opened, StepSays}
-use Rattle.reader.specs.declared.State.{State}
-use Rattle.reader.specs.declared.Current.the-variants.{In}
+use Rattle.places.specs.declared.State.{State}
+use Rattle.places.specs.declared.Current.the-variants.{In}
 use Rattle.reader.specs.declared.Heading.{Heading}
 use Rattle.reader.specs.declared.Heading.the-variants.{Opens, Refused}
 use Rattle.reader.specs.declared.Stepped.the-variants.{Goes, Stops}

@@ -14,12 +14,12 @@ use Rattle.rules.specs.Tables.{kindOf}
 use Rattle.rules.specs.Sections.{services, Entry, Section, given, withEntry, settings}
 use Rattle.tables.specs.KeyPlaces.{keyNames}
 use Rattle.rules.specs.declared.Group.{Group}
-use Rattle.reader.specs.Store.{slotCount, Slot, slot, stored}
-use Rattle.reader.specs.History.{nameBase, baseAt, OwnRow, groupAt, rowAfter, latest}
-use Rattle.reader.specs.Holds.{SlotSays, RowKeeps, Spans, among, HoldsGroups}
-use Rattle.reader.specs.declared.State.{State}
-use Rattle.reader.proofs.Slots.{stored-long, stored-there}
-use Rattle.reader.proofs.Rows.{keys-few, row-kept, row-put, Lies, lies, own-row, group-after, row-here}
+use Rattle.places.specs.Store.{slotCount, Slot, slot, stored}
+use Rattle.places.specs.History.{nameBase, baseAt, OwnRow, groupAt, rowAfter, latest}
+use Rattle.places.specs.Holds.{SlotSays, RowKeeps, Spans, among, HoldsGroups}
+use Rattle.places.specs.declared.State.{State}
+use Rattle.places.proofs.Slots.{stored-long, stored-there}
+use Rattle.places.proofs.RowLaws.{keys-few, row-kept, row-put, Lies, lies, own-row, group-after, row-here}
 
 -- ---- names of services, where their slots are left as they were
 

@@ -19,14 +19,14 @@ use Rattle.tables.specs.declared.Named.{Named}
 use Rattle.tables.specs.declared.Named.the-variants as N
 use Rattle.rules.specs.declared.Refusal.{Refusal}
 use Rattle.rules.specs.declared.Refusal.the-variants.{RepeatedGroup, ManyServices}
-use Rattle.reader.specs.Store.{Slot, slot}
-use Rattle.reader.specs.History.{rowNumber, baseAt, headSlot}
-use Rattle.reader.specs.Holds.{among, HoldsGroups}
+use Rattle.places.specs.Store.{Slot, slot}
+use Rattle.places.specs.History.{rowNumber, baseAt, headSlot}
+use Rattle.places.specs.Holds.{among, HoldsGroups}
 use Rattle.reader.specs.Headings.{slotsHeading}
-use Rattle.reader.specs.declared.State.{State}
+use Rattle.places.specs.declared.State.{State}
 use Rattle.reader.specs.declared.Heading.{Heading}
 use Rattle.reader.specs.declared.Heading.the-variants.{Opens, Refused}
-use Rattle.reader.proofs.Rows.{own-row}
+use Rattle.places.proofs.RowLaws.{own-row}
 use Rattle.reader.proofs.PlainHeading.{unnamed, renamed}
 
 -- ---- the group by its answer

@@ -19,7 +19,7 @@ use Rattle.rules.specs.Faults.{breakOf, fault}
 use Rattle.rules.specs.declared.Refusal.{Refusal}
 use Rattle.reader.specs.Says.{SettingIs, SettingSays}
 use Rattle.reader.specs.Steps.{LineIs, LineSays}
-use Rattle.reader.specs.declared.Current.{Current}
+use Rattle.places.specs.declared.Current.{Current}
 use Rattle.reader.specs.declared.Line.{Line}
 use Rattle.reader.specs.declared.Line.the-variants as L
 

@@ -1,17 +1,8 @@
-pub mod Slots
-pub mod Rows
-pub mod RowRule
-pub mod ServicesFault
 pub mod ServiceHeading
 pub mod HeadingFault
-pub mod Backwards
-pub mod FileFault
 pub mod GoodHeader
 pub mod InFile
 pub mod OneLine
-pub mod WholeFile
-pub mod Values
 pub mod SettingLine
 pub mod Growing
 pub mod PlainHeading
-pub mod Seeking

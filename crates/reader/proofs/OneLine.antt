@@ -17,6 +17,9 @@ use Rattle.lines.specs.Lines as Lines
 use Rattle.lines.specs.Lines.{setting, lineOf, valueStart}
 use Rattle.kinds.specs.Typed as T
 use Rattle.kinds.specs.Typed.{Typed, typed, Judged, judged}
+use Rattle.connman_ipv4.specs.ConnmanIpv4 as ConnmanIpv4
+use Rattle.hex_values.specs.HexValues as HexValues
+use Rattle.entry_lists.specs.EntryLists as EntryLists
 use Rattle.kinds.specs.Kinds as Kinds
 use Rattle.addresses.specs.Addresses as A
 use Rattle.kinds.specs.Answers.{valueAt, judgementAt}
@@ -31,20 +34,21 @@ use Rattle.tables.specs.KeyPlaces.{keyNames}
 use Rattle.rules.specs.declared.Group.{Group}
 use Rattle.rules.specs.declared.Refusal.{Refusal}
 use Rattle.rules.specs.declared.Refusal.the-variants.{RepeatedKey}
-use Rattle.reader.specs.Store.{fileLimit, lastRow, Slot, stored, FitsSlot}
-use Rattle.reader.specs.History.{nameBase, baseAt, rowAfter}
-use Rattle.reader.specs.Holds.{codeOf, isText, OfText, SlotSays, RowsKeep, HoldsGroups}
-use Rattle.reader.specs.Says.{valueCode, textPlace, CurrentRow}
+use Rattle.places.specs.Store.{fileLimit, lastRow, Slot, stored, FitsSlot}
+use Rattle.places.specs.History.{nameBase, baseAt, rowAfter}
+use Rattle.places.specs.Holds.{codeOf, isText, OfText, SlotSays, RowsKeep, HoldsGroups}
+use Rattle.places.specs.ValueCodes.{valueCode, textPlace}
+use Rattle.reader.specs.Says.{CurrentRow}
 use Rattle.reader.specs.Steps.{GoodSetting, LineIs, LineSays, Known, StepIs, StepSays}
-use Rattle.reader.specs.declared.State.{State}
+use Rattle.places.specs.declared.State.{State}
 use Rattle.reader.specs.declared.Line.{Line}
 use Rattle.reader.specs.declared.Line.the-variants as L
 use Rattle.reader.specs.declared.Stepped.{Stepped}
 use Rattle.reader.specs.declared.Stepped.the-variants.{Goes, Stops}
 use Rattle.reader.proofs.Line.{the-type}
-use Rattle.reader.proofs.Rows.{keys-few, lies, own-row}
+use Rattle.places.proofs.RowLaws.{keys-few, lies, own-row}
 use Rattle.reader.proofs.SettingLine.{Head, head}
-use Rattle.reader.proofs.RowRule.{good-typed}
+use Rattle.places.proofs.RowKeys.{good-typed}
 use Rattle.reader.proofs.Growing.{holds-setting}
 
 -- a place in a file of allowed size fits the table
@@ -105,12 +109,12 @@ module _ (p : Place) where
   typed-placed d (K.Named l) b w e = absurd (true≢false (sym w))
   typed-placed d K.Netmask b w e = absurd (true≢false (sym w))
   typed-placed d K.Address b w e = mapped-placed T.address (A.address b) e (λ a. refl)
-  typed-placed d K.Ipv4 b w e = mapped-placed T.ipv4 (Kinds.ipv4 b) e (λ a. refl)
+  typed-placed d K.Ipv4 b w e = mapped-placed T.ipv4 (ConnmanIpv4.ipv4 b) e (λ a. refl)
   typed-placed d (K.Addresses s) b w e = mapped-placed T.addresses (A.addresses s b) e (λ a. refl)
-  typed-placed d K.Entries b w e = mapped-placed T.entries (Kinds.entries b) e (λ a. refl)
-  typed-placed d K.Mac b w e = mapped-placed T.bytes (Kinds.mac b) e (λ a. refl)
-  typed-placed d K.PreSharedKey b w e = mapped-placed T.bytes (Kinds.preSharedKey b) e (λ a. refl)
-  typed-placed d K.Ssid b w e = mapped-placed T.bytes (Kinds.ssid b) e (λ a. refl)
+  typed-placed d K.Entries b w e = mapped-placed T.entries (EntryLists.entries b) e (λ a. refl)
+  typed-placed d K.Mac b w e = mapped-placed T.bytes (HexValues.mac b) e (λ a. refl)
+  typed-placed d K.PreSharedKey b w e = mapped-placed T.bytes (HexValues.preSharedKey b) e (λ a. refl)
+  typed-placed d K.Ssid b w e = mapped-placed T.bytes (HexValues.ssid b) e (λ a. refl)
   typed-placed d K.Passphrase b w e = mapped-placed T.bytes (Kinds.passphrase d b) e (λ a. refl)
   typed-placed d (K.Text low high) b w e = mapped-placed T.bytes (Kinds.string d low high b) e (λ a. refl)
 

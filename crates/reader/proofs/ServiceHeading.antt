@@ -15,14 +15,14 @@ use Rattle.text.specs.declared.Place.{Place}
 use Rattle.rules.specs.Tables.{groupOf}
 use Rattle.rules.specs.Sections.{Section, nameGiven, services}
 use Rattle.rules.specs.declared.Group.the-variants.{Service}
-use Rattle.reader.specs.Store.{Slot, slot, stored}
-use Rattle.reader.specs.History.{nameBase, rowNumber, baseAt}
-use Rattle.reader.specs.Holds.{Spans, among, TableKeeps, HoldsGroups}
+use Rattle.places.specs.Store.{Slot, slot, stored}
+use Rattle.places.specs.History.{nameBase, rowNumber, baseAt}
+use Rattle.places.specs.Holds.{Spans, among, TableKeeps, HoldsGroups}
 use Rattle.reader.specs.Steps.{headerSlot, nameSlot}
-use Rattle.reader.specs.declared.State.{State}
-use Rattle.reader.specs.declared.Current.the-variants.{In}
-use Rattle.reader.proofs.Slots.{stored-here, stored-there}
-use Rattle.reader.proofs.Rows.{lies, own-row}
+use Rattle.places.specs.declared.State.{State}
+use Rattle.places.specs.declared.Current.the-variants.{In}
+use Rattle.places.proofs.Slots.{stored-here, stored-there}
+use Rattle.places.proofs.RowLaws.{lies, own-row}
 use Rattle.reader.proofs.Growing.{among-kept}
 use Rattle.reader.proofs.PlainHeading.{latest-new, there, table-headed, table-named}
 

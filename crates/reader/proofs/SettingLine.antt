@@ -27,14 +27,14 @@ use Rattle.rules.specs.declared.Group.{Group}
 use Rattle.tables.specs.declared.Listed.{Listed}
 use Rattle.tables.specs.declared.Listed.the-variants as L
 use Rattle.rules.specs.declared.Refusal.the-variants.{NoGroup, UnknownKey, RepeatedKey, ValueText, ValueKind}
-use Rattle.reader.specs.Store.{linesFrom, slot}
-use Rattle.reader.specs.History.{nameBase, baseAt, rowAfter, currentOf}
-use Rattle.reader.specs.Holds.{RowKeeps, RowsKeep}
+use Rattle.places.specs.Store.{linesFrom, slot}
+use Rattle.places.specs.History.{nameBase, baseAt, rowAfter, currentOf}
+use Rattle.places.specs.Holds.{RowKeeps, RowsKeep}
 use Rattle.reader.specs.Says.{SettingIs, CurrentRow, SettingSays}
-use Rattle.reader.specs.declared.Current.{Current}
-use Rattle.reader.specs.declared.Current.the-variants.{Outside, In}
+use Rattle.places.specs.declared.Current.{Current}
+use Rattle.places.specs.declared.Current.the-variants.{Outside, In}
 use Rattle.reader.specs.declared.Line.the-variants.{Setting, Refused}
-use Rattle.reader.proofs.Rows.{given-entry, kept-given, keys-few, row-here}
+use Rattle.places.proofs.RowLaws.{given-entry, kept-given, keys-few, row-here}
 
 -- a group in force is that of the latest section
 pub record Head (gs : List Section) (g : Group) (b : ℕ) : Type 0 where

@@ -7,9 +7,9 @@ use lib.Dec.{eqb, leb}
 use Rattle.rules.specs.Sections.{serves}
 use Rattle.rules.specs.declared.Group.{Group}
 use Rattle.rules.specs.declared.Refusal.the-variants.{UnknownGroup, RepeatedGroup, ManyServices}
-use Rattle.reader.specs.History.{base}
-use Rattle.reader.specs.Holds.{among}
-use Rattle.reader.specs.Store.{slot}
+use Rattle.places.specs.History.{base}
+use Rattle.places.specs.Holds.{among}
+use Rattle.places.specs.Store.{slot}
 use Rattle.reader.specs.declared.Heading.{Heading}
 use Rattle.reader.specs.declared.Heading.the-variants.{Opens, Refused}
 

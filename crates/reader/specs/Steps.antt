@@ -14,13 +14,13 @@ use Rattle.kinds.specs.declared.Value.{Value}
 use Rattle.rules.specs.Sections.{Section, serves, withLine}
 use Rattle.rules.specs.Faults.{fault}
 use Rattle.rules.specs.declared.Group.{Group}
-use Rattle.reader.specs.Store.{Slot, stored}
-use Rattle.reader.specs.History.{base, nameBase, currentOf}
-use Rattle.reader.specs.Holds.{RowsKeep, HoldsGroups}
+use Rattle.places.specs.Store.{Slot, stored}
+use Rattle.places.specs.History.{base, nameBase, currentOf}
+use Rattle.places.specs.Holds.{RowsKeep, HoldsGroups}
 use Rattle.reader.specs.Says.{NewSetting}
-use Rattle.reader.specs.declared.Current.{Current}
-use Rattle.reader.specs.declared.Current.the-variants.{In}
-use Rattle.reader.specs.declared.State.{State}
+use Rattle.places.specs.declared.Current.{Current}
+use Rattle.places.specs.declared.Current.the-variants.{In}
+use Rattle.places.specs.declared.State.{State}
 use Rattle.reader.specs.declared.Line.{Line}
 use Rattle.reader.specs.declared.Line.the-variants.{Blank, Comment, Header, Setting, Refused}
 use Rattle.reader.specs.declared.Stepped.{Stepped}

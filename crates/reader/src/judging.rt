@@ -3,42 +3,20 @@ ghost use mathlib.Core.Path.{_≡_};
 ghost use Prim.Native.Nat.{_+_, _≤_};
 ghost use lib.ListN.{length};
 ghost use Rattle.text.specs.Parts.{Inside, part};
-ghost use Rattle.reader.specs.History.{base};
 ghost use Rattle.reader.specs.Says.{CurrentRow, SettingSays};
 ghost use Rattle.reader.specs.Steps.{LineSays};
 ghost use Rattle.rules.specs.Faults.{breakOf};
-use crate::Current;
-use crate::IPV4_ROW;
-use crate::IPV6_ROW;
-use crate::LINES;
 use crate::Line;
-use crate::Places;
-use crate::ROW;
-use crate::SECURITY_ROW;
-use crate::SETTINGS_ROW;
 use kinds::Judgement;
 use lines::Break;
 use lines::Form;
-use rules::Group;
+use places::Current;
+use places::LINES;
+use places::Places;
 use rules::Refusal;
 use tables::Listed;
 use text::Dialect;
 use text::Place;
-
-// The first slot of a group's row in the table of places, n services counted.
-pub fn base_of(g: Group, n: usize) -> usize
-    requires { ⌜ n ≤ 8 ⌝ }
-    ensures { λ r. ⌜ r ≡ base g n ⌝ }
-{
-    match g {
-        Group::Settings => SETTINGS_ROW,
-        Group::Security => SECURITY_ROW,
-        Group::Ipv4 => IPV4_ROW,
-        Group::Ipv6 => IPV6_ROW,
-        Group::Global => 0,
-        Group::Service => ROW * n,
-    }
-}
 
 // A setting whose key and value stand at these places of the file, in the group in force.
 pub fn setting_line(

@@ -9,9 +9,9 @@ use Rattle.text.specs.Parts.{padded}
 use Rattle.text.specs.Words.{word}
 use Rattle.utf8.specs.Utf8.{follow, utf8From, text}
 use Rattle.addresses.specs.Addresses.{noAddress, rows}
-use Rattle.kinds.specs.Kinds.{static}
-use Rattle.kinds.specs.declared.Method.{Method}
-use Rattle.kinds.specs.declared.Method.the-variants.{Dhcp, Off, Static}
+use Rattle.connman_ipv4.specs.ConnmanIpv4.{static}
+use Rattle.connman_ipv4.specs.declared.Method.{Method}
+use Rattle.connman_ipv4.specs.declared.Method.the-variants.{Dhcp, Off, Static}
 use Rattle.records.specs.Record.{passphrase, Join, laid, laidServers}
 use Rattle.records.specs.Formed.{formed}
 use Rattle.records.specs.declared.Credential.{Credential}
@@ -74,8 +74,8 @@ absent = (0, replicate 253 0)
 abbrev noServers : List (List ℕ)
 noServers = rows none
 
--- document 01's worked service
-abbrev worked : Join
+-- document 01's worked service, which is also the record of the iwd file that it becomes
+abbrev pub worked : Join
 worked =
     record {
       name = word "Desk 4";

@@ -12,9 +12,9 @@ use Rattle.text.specs.OptionLaws.{IfSome}
 use Rattle.utf8.specs.Utf8.{recordText}
 use Rattle.addresses.specs.Addresses.{isAddress, areAddresses}
 use Rattle.names.specs.Names.{NetworkName}
-use Rattle.kinds.specs.Kinds.{IPv4, dhcp, off, static}
-use Rattle.kinds.specs.declared.Method.{Method}
-use Rattle.kinds.specs.declared.Method.the-variants.{Dhcp, Off, Static}
+use Rattle.connman_ipv4.specs.ConnmanIpv4.{IPv4, dhcp, off, static}
+use Rattle.connman_ipv4.specs.declared.Method.{Method}
+use Rattle.connman_ipv4.specs.declared.Method.the-variants.{Dhcp, Off, Static}
 use Rattle.records.specs.Record.{Secret, noSecret, passphrase, key, Join, laid, laidServers}
 use Rattle.records.specs.declared.Credential.{Credential}
 use Rattle.records.specs.declared.Credential.the-variants.{None, Passphrase, Key}

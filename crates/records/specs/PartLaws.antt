@@ -14,9 +14,9 @@ use Rattle.text.specs.Parts.{all, padded}
 use Rattle.text.specs.Laws.{and-true, all-cons, inside, between-low, between-high}
 use Rattle.addresses.specs.Addresses.{isAddress, areAddresses, noAddress, rows}
 use Rattle.addresses.specs.Laws.{address-length, are-cons}
-use Rattle.kinds.specs.Kinds.{IPv4, dhcp, off, static}
-use Rattle.kinds.specs.declared.Method.{Method}
-use Rattle.kinds.specs.declared.Method.the-variants.{Dhcp, Off, Static}
+use Rattle.connman_ipv4.specs.ConnmanIpv4.{IPv4, dhcp, off, static}
+use Rattle.connman_ipv4.specs.declared.Method.{Method}
+use Rattle.connman_ipv4.specs.declared.Method.the-variants.{Dhcp, Off, Static}
 use Rattle.records.specs.Record.{Secret, noSecret, passphrase, key, credentialOf, passphraseOf, keyOf, methodOf, addressOf, lengthOf, hasGateway, gatewayOf, secretOf, ipv4In}
 use Rattle.records.specs.Formed.{passphraseText, GoodKey, GoodSecret, GoodIpv4, GoodServers, zeros, zeroRows, held, passphraseFormed, credentialFormed, unaddressed, ipv4Formed, serversFormed}
 use Rattle.records.specs.declared.Credential.{Credential}

@@ -6,9 +6,9 @@ use mathlib.Core.Option.{Option, none, some}
 use lib.ListN.{length, take, replicate}
 use Rattle.text.specs.Parts.{padded}
 use Rattle.addresses.specs.Addresses.{noAddress, rows}
-use Rattle.kinds.specs.Kinds.{IPv4, dhcp, off, static}
-use Rattle.kinds.specs.declared.Method.{Method}
-use Rattle.kinds.specs.declared.Method.the-variants.{Dhcp, Off, Static}
+use Rattle.connman_ipv4.specs.ConnmanIpv4.{IPv4, dhcp, off, static}
+use Rattle.connman_ipv4.specs.declared.Method.{Method}
+use Rattle.connman_ipv4.specs.declared.Method.the-variants.{Dhcp, Off, Static}
 use Rattle.records.specs.declared.Credential.{Credential}
 use Rattle.records.specs.declared.Credential.the-variants.{None, Passphrase, Key}
 use Rattle.records.specs.declared.Ipv6.{Ipv6}

@@ -6,7 +6,7 @@ ghost use mathlib.Core.Path.{_≡_};
 ghost use Prim.Native.Nat.{_≤_};
 ghost use lib.ListN.{length};
 ghost use Rattle.records.specs.Formed.{zeros, held, passphraseFormed, credentialFormed, unaddressed, addressed, ipv4Formed, serversFormed, domainFormed, formed};
-use kinds::Method;
+use connman_ipv4::Method;
 
 pub enum Credential {
     None,

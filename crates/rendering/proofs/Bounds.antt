@@ -6,7 +6,7 @@ use mathlib.Core.List.{List, [], _∷_}
 use mathlib.Core.Option.{Option}
 use lib.ListN.{length, take}
 use Rattle.text.specs.Words.{word}
-use Rattle.kinds.specs.Kinds.{IPv4}
+use Rattle.connman_ipv4.specs.ConnmanIpv4.{IPv4}
 use Rattle.records.specs.Record.{joined}
 use Rattle.records.specs.declared.JoinRecord.{JoinRecord}
 use Rattle.written.specs.Written.{WrittenRow, rowLines, headedLines, hiddenRows, secretRows, gatewayRows, numberRows, serverRows, domainRows, ipv4Rows, ipv6Rows}

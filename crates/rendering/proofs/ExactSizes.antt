@@ -6,7 +6,7 @@ use mathlib.Core.Bool.{true}
 use mathlib.Core.List.{List, [], _∷_, _++_}
 use lib.ListN.{length, length-append}
 use Rattle.text.specs.Words.{word}
-use Rattle.kinds.specs.Kinds.{IPv4}
+use Rattle.connman_ipv4.specs.ConnmanIpv4.{IPv4}
 use Rattle.records.specs.Record.{Join}
 use Rattle.written.specs.Written.{WrittenRow, hiddenRows, secretRows, numberRows, serverRows, domainRows, ipv4Rows, ipv6Rows, fileText}
 use Rattle.written.specs.Texts.{rowsText, groupText, someRow}

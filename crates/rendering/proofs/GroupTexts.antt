@@ -10,7 +10,7 @@ use Rattle.put.specs.Put.{Wrote}
 use Rattle.put.specs.Laws.{then, room-first, room-then}
 use Rattle.escapes.specs.Escapes.{escape}
 use Rattle.hex.specs.Hex.{hex}
-use Rattle.kinds.specs.Kinds.{IPv4}
+use Rattle.connman_ipv4.specs.ConnmanIpv4.{IPv4}
 use Rattle.records.specs.Record.{secretOf, joined}
 use Rattle.records.specs.declared.JoinRecord.{JoinRecord}
 use Rattle.records.specs.declared.Credential.{Credential}

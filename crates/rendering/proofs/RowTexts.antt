@@ -9,8 +9,8 @@ use Rattle.text.specs.Words.{word}
 use Rattle.escapes.specs.Escapes.{escape}
 use Rattle.addresses.specs.Addresses.{dotted, maskBytes, listed}
 use Rattle.addresses.specs.declared.Separator.the-variants.{Spaces}
-use Rattle.kinds.specs.declared.Ipv4.{Ipv4}
-use Rattle.kinds.specs.declared.Method.the-variants.{Dhcp, Off, Static}
+use Rattle.connman_ipv4.specs.declared.Ipv4.{Ipv4}
+use Rattle.connman_ipv4.specs.declared.Method.the-variants.{Dhcp, Off, Static}
 use Rattle.records.specs.Record.{gatewayIf}
 use Rattle.rendering.proofs.Three.{Three}
 use Rattle.written.specs.Written.{WrittenRow, gatewayRows, numberRows, serverRows, domainRows}

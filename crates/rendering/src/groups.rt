@@ -8,7 +8,7 @@ ghost use Rattle.written.specs.Written.{hiddenRows, secretRows, ipv4Rows, ipv6R
 ghost use Rattle.written.specs.Texts.{rowsText, groupText};
 ghost use Rattle.written.specs.RecordParts.{numbersIn, CountsWithin};
 use crate::rows;
-use kinds::Ipv4;
+use connman_ipv4::Ipv4;
 use records::Credential;
 use records::Ipv6;
 use records::JoinRecord;

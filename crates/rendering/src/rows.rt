@@ -14,8 +14,8 @@ ghost use Rattle.written.specs.RecordParts.{numbersIn, staticRows};
 use addresses::Separator;
 use addresses::masks;
 use addresses::writing;
-use kinds::Ipv4;
-use kinds::Method;
+use connman_ipv4::Ipv4;
+use connman_ipv4::Method;
 
 // What stands in front of a string, the string, escaped, and the end of the line.
 pub fn put_string(out: &mut [u8], at: usize, front: &[u8], s: &[u8]) -> usize

@@ -10,8 +10,8 @@ ghost use Rattle.written.specs.RecordParts.{numbersIn, staticRows, CountsWithin
 use addresses::Separator;
 use addresses::masks;
 use addresses::writing;
-use kinds::Ipv4;
-use kinds::Method;
+use connman_ipv4::Ipv4;
+use connman_ipv4::Method;
 use records::Credential;
 use records::Ipv6;
 use records::JoinRecord;

@@ -1,9 +1,6 @@
--- What to read beside document 01: what is answered of a record that is written and read back
-pub mod Back
 -- The laws: what is written reads back as the record, and as its struct
 pub mod RoundTrip
 pub mod Structs
-pub mod BackLaws
 -- For the proofs only: groups of settings by names, keys and values alone, what a reading of them gives, and what is read of
 -- each part of a record
 pub mod Blocks

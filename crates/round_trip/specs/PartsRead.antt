@@ -11,9 +11,13 @@ use Rattle.text.specs.declared.Dialect.the-variants.{Iwd}
 use Rattle.addresses.specs.Addresses.{address, netmask, addresses}
 use Rattle.addresses.specs.Written.{address-dotted, netmask-dotted}
 use Rattle.addresses.specs.declared.Separator.the-variants.{Spaces}
+use Rattle.hex_values.specs.HexValues as HexValues
 use Rattle.kinds.specs.Kinds as K
-use Rattle.kinds.specs.Kinds.{IPv4, dhcp, off, static, flag, string}
-use Rattle.kinds.specs.Written.{string-escape, pre-shared-key-hex}
+use Rattle.named_words.specs.NamedWords.{flag}
+use Rattle.connman_ipv4.specs.ConnmanIpv4.{IPv4, dhcp, off, static}
+use Rattle.kinds.specs.Kinds.{string}
+use Rattle.hex_values.specs.Laws.{pre-shared-key-hex}
+use Rattle.kinds.specs.Written.{string-escape}
 use Rattle.rules.specs.Sections.{Section}
 use Rattle.rules.specs.Groups.{has, fileFault}
 use Rattle.records.specs.Record.{Secret, noSecret, passphrase, key}
@@ -32,7 +36,7 @@ unfolding flag
 hidden-rows-read false = refl
 hidden-rows-read true = refl
 
-pub secret-rows-read : (c : Secret) → GoodSecret c → secretFrom (andThen (rowValue (word "Passphrase") (secretRows c)) (K.passphrase Iwd)) (andThen (rowValue (word "PreSharedKey") (secretRows c)) K.preSharedKey) ≡ c
+pub secret-rows-read : (c : Secret) → GoodSecret c → secretFrom (andThen (rowValue (word "Passphrase") (secretRows c)) (K.passphrase Iwd)) (andThen (rowValue (word "PreSharedKey") (secretRows c)) HexValues.preSharedKey) ≡ c
 secret-rows-read noSecret w = refl
 secret-rows-read (passphrase p) w = rw (string-escape 8 63 p (w .low) (w .high))
 secret-rows-read (key k) w = rw (pre-shared-key-hex k (w .long) (w .bytes))

@@ -10,8 +10,10 @@ use Rattle.text.specs.Options.{isSome, andThen, mapped, orEmpty}
 use Rattle.text.specs.declared.Dialect.the-variants.{Iwd}
 use Rattle.addresses.specs.Addresses.{address, netmask, addresses}
 use Rattle.addresses.specs.declared.Separator.the-variants.{Spaces}
+use Rattle.hex_values.specs.HexValues as HexValues
 use Rattle.kinds.specs.Kinds as K
-use Rattle.kinds.specs.Kinds.{flag, string}
+use Rattle.named_words.specs.NamedWords.{flag}
+use Rattle.kinds.specs.Kinds.{string}
 use Rattle.names.specs.Names.{networkOf}
 use Rattle.names.specs.Laws.{network-file-name}
 use Rattle.rules.specs.Tables.{keysOf}
@@ -72,7 +74,7 @@ module _ (j : Join) (w : WellFormed j) where
   secret-read : iwdSecret (iwdEntry (groupsOf j) (word "Security")) ≡ j .credential
   unfolding keysOf
   secret-read =
-      ap₂ secretFrom (reads (word "Security") (word "Passphrase") (K.passphrase Iwd)) (reads (word "Security") (word "PreSharedKey") K.preSharedKey)
+      ap₂ secretFrom (reads (word "Security") (word "Passphrase") (K.passphrase Iwd)) (reads (word "Security") (word "PreSharedKey") HexValues.preSharedKey)
       ∙ secret-rows-read (j .credential) (w .credential)
 
   hidden-read : orFalse (readAs (flag Iwd) (iwdEntry (groupsOf j) (word "Settings") (word "Hidden"))) ≡ j .hidden

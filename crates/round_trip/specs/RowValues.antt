@@ -18,10 +18,11 @@ use Rattle.hex.specs.Hex.{hex}
 use Rattle.addresses.specs.Addresses.{isAddress, maskBytes, addresses, dotted, listed}
 use Rattle.addresses.specs.Written.{address-dotted, mask-address, netmask-dotted, addresses-listed}
 use Rattle.addresses.specs.declared.Separator.the-variants.{Spaces}
-use Rattle.kinds.specs.Kinds as K
+use Rattle.named_words.specs.NamedWords as NamedWords
 use Rattle.kinds.specs.Typed as T
 use Rattle.kinds.specs.Typed.{Typed, typed, stringBroken}
-use Rattle.kinds.specs.Written.{StandsOnLine, escape-stands, string-escape, printable-stands, hex-stands, pre-shared-key-hex, dotted-stands, listed-stands}
+use Rattle.hex_values.specs.Laws.{pre-shared-key-hex}
+use Rattle.kinds.specs.Written.{StandsOnLine, escape-stands, string-escape, printable-stands, hex-stands, dotted-stands, listed-stands}
 use Rattle.kinds.specs.declared.Kind.{Kind}
 use Rattle.rules.specs.Tables.{keysOf, kindOf}
 use Rattle.rules.specs.GoodValues.{value-faultless}
@@ -49,12 +50,12 @@ row-good {x = x} {v = v} w s b e =
 -- ---- words
 
 pub hidden-row : GoodRow Iwd Settings (word "Hidden", word "true")
-unfolding keysOf isKeyByte K.flag typed
+unfolding keysOf isKeyByte NamedWords.flag typed
 hidden-row =
     row-good (record { long = refl; bytes = refl; listed = refl }) (printable-stands (word "true") refl refl) refl refl
 
 pub enabled-row : GoodRow Iwd Ipv6 (word "Enabled", word "false")
-unfolding keysOf isKeyByte K.flag typed
+unfolding keysOf isKeyByte NamedWords.flag typed
 enabled-row =
     row-good (record { long = refl; bytes = refl; listed = refl }) (printable-stands (word "false") refl refl) refl refl
 

@@ -24,25 +24,14 @@ abbrev pub hasRow : ℕ → List AnswerRow → ℕ → ℕ → Bool
 hasRow k [] n l = false
 hasRow k (r ∷ rs) n l = isRow k n l r || hasRow k rs n l
 
--- "the file's own refusals": 4 is iwd's, 13 ConnMan's; of 14 and 15 "service header; iwd 0"
+-- 4 is iwd's, 13 ConnMan's; of 14 and 15 "service header; iwd 0"
+abbrev pub dialectRows : Dialect → List AnswerRow
+dialectRows Iwd = lined 4 ∷ bare 14 ∷ bare 15 ∷ []
+dialectRows ConnMan = lined 13 ∷ lined 14 ∷ lined 15 ∷ []
+
+-- "the file's own refusals"
 abbrev pub ownRows : Dialect → List AnswerRow
-ownRows Iwd =
-    bare 1
-    ∷ bare 2
-    ∷ lined 3
-    ∷ lined 4
-    ∷ lined 5
-    ∷ lined 6
-    ∷ lined 7
-    ∷ lined 8
-    ∷ lined 9
-    ∷ lined 10
-    ∷ lined 11
-    ∷ lined 12
-    ∷ bare 14
-    ∷ bare 15
-    ∷ []
-ownRows ConnMan =
+ownRows d =
     bare 1
     ∷ bare 2
     ∷ lined 3
@@ -54,7 +43,4 @@ ownRows ConnMan =
     ∷ lined 10
     ∷ lined 11
     ∷ lined 12
-    ∷ lined 13
-    ∷ lined 14
-    ∷ lined 15
-    ∷ []
+    ∷ dialectRows d

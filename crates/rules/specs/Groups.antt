@@ -5,11 +5,11 @@ use mathlib.Core.List.{List, [], _∷_}
 use mathlib.Core.Option.{Option, none, some}
 use Rattle.text.specs.Words.{word}
 use Rattle.text.specs.Options.{andThen, orElse}
-use Rattle.kinds.specs.Kinds.{wordOf}
-use Rattle.kinds.specs.declared.Word.{Word}
-use Rattle.kinds.specs.declared.Word.the-variants.{Wifi, Ethernet, Psk, None}
-use Rattle.kinds.specs.declared.WordList.{WordList}
-use Rattle.kinds.specs.declared.WordList.the-variants as W
+use Rattle.named_words.specs.NamedWords.{wordOf}
+use Rattle.named_words.specs.declared.Word.{Word}
+use Rattle.named_words.specs.declared.Word.the-variants.{Wifi, Ethernet, Psk, None}
+use Rattle.named_words.specs.declared.WordList.{WordList}
+use Rattle.named_words.specs.declared.WordList.the-variants as W
 use Rattle.names.specs.declared.Suffix.{Suffix}
 use Rattle.names.specs.declared.Suffix.the-variants as S
 use Rattle.rules.specs.Sections.{Entry, Section, given, entryOf, entriesIn, serves}
@@ -35,7 +35,7 @@ abbrev pub securityIs : Word → List Entry → Bool
 securityIs w es = isWord w (wordGiven W.Security (word "Security") es)
 
 -- The rules are said over any way to tell which keys are given, and whether Type and Security are a word: by the settings
--- below, by the table of places in reader.
+-- below, by the table of places in verdicts.
 
 -- "ConnMan 14: Type missing; wifi with neither Name nor SSID; Security psk without Passphrase."
 abbrev pub namelessBy : (List ℕ → Bool) → (Word → Bool) → Bool

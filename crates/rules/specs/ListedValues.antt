@@ -9,9 +9,13 @@ use Rattle.text.specs.Words.{word}
 use Rattle.text.specs.declared.Dialect.{Dialect}
 use Rattle.text.specs.declared.Dialect.the-variants.{Iwd, ConnMan}
 use Rattle.addresses.specs.Addresses as A
+use Rattle.named_words.specs.NamedWords as NamedWords
+use Rattle.connman_ipv4.specs.ConnmanIpv4 as ConnmanIpv4
+use Rattle.hex_values.specs.HexValues as HexValues
+use Rattle.entry_lists.specs.EntryLists as EntryLists
 use Rattle.kinds.specs.Kinds as K
-use Rattle.kinds.specs.Kinds.{IPv4}
-use Rattle.kinds.specs.declared.Word.{Word}
+use Rattle.connman_ipv4.specs.ConnmanIpv4.{IPv4}
+use Rattle.named_words.specs.declared.Word.{Word}
 use Rattle.kinds.specs.declared.Kind.{Kind}
 use Rattle.kinds.specs.declared.Kind.the-variants as Kind
 use Rattle.rules.specs.Tables.{kindOf}
@@ -37,16 +41,16 @@ KindValue (Kind.Text low high) = List ℕ
 
 -- what each kind reads; none where the value breaks it
 abbrev pub valued : Dialect → (k : Kind) → List ℕ → Option (KindValue k)
-valued d Kind.Flag = K.flag d
-valued d (Kind.Named w) = K.wordOf w
+valued d Kind.Flag = NamedWords.flag d
+valued d (Kind.Named w) = NamedWords.wordOf w
 valued d Kind.Address = A.address
 valued d Kind.Netmask = A.netmask
-valued d Kind.Ipv4 = K.ipv4
+valued d Kind.Ipv4 = ConnmanIpv4.ipv4
 valued d (Kind.Addresses sep) = A.addresses sep
-valued d Kind.Entries = K.entries
-valued d Kind.Mac = K.mac
-valued d Kind.PreSharedKey = K.preSharedKey
-valued d Kind.Ssid = K.ssid
+valued d Kind.Entries = EntryLists.entries
+valued d Kind.Mac = HexValues.mac
+valued d Kind.PreSharedKey = HexValues.preSharedKey
+valued d Kind.Ssid = HexValues.ssid
 valued d Kind.Passphrase = K.passphrase d
 valued d (Kind.Text low high) = K.string d low high
 

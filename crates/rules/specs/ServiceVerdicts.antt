@@ -13,11 +13,11 @@ use Rattle.text.specs.Laws.{and-true}
 use Rattle.text.specs.Relations.{Some}
 use Rattle.text.specs.RelationLaws.{some-weaken}
 use Rattle.text.specs.Decides.{Decides, holds, fails, decides-not, decides-alike, decides-and, decides-or, same-decides}
-use Rattle.kinds.specs.Kinds.{wordsOf, wordOf}
-use Rattle.kinds.specs.declared.Word.{Word}
-use Rattle.kinds.specs.declared.Word.the-variants.{Wifi, Ethernet, Psk, None}
-use Rattle.kinds.specs.declared.WordList.{WordList}
-use Rattle.kinds.specs.declared.WordList.the-variants as W
+use Rattle.named_words.specs.NamedWords.{wordsOf, wordOf}
+use Rattle.named_words.specs.declared.Word.{Word}
+use Rattle.named_words.specs.declared.Word.the-variants.{Wifi, Ethernet, Psk, None}
+use Rattle.named_words.specs.declared.WordList.{WordList}
+use Rattle.named_words.specs.declared.WordList.the-variants as W
 use Rattle.lines.specs.Lines.{Line}
 use Rattle.rules.specs.Sections.{Entry, given, entryOf}
 use Rattle.rules.specs.Groups.{lackOrClash, wordGiven, lacks, clashes, serviceFault}

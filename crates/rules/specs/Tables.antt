@@ -13,7 +13,7 @@ use Rattle.text.specs.declared.Dialect.the-variants.{Iwd, ConnMan}
 use Rattle.addresses.specs.declared.Separator.the-variants.{Spaces, Comma}
 use Rattle.kinds.specs.declared.Kind.{Kind}
 use Rattle.kinds.specs.declared.Kind.the-variants as K
-use Rattle.kinds.specs.declared.WordList.the-variants as W
+use Rattle.named_words.specs.declared.WordList.the-variants as W
 use Rattle.rules.specs.declared.Group.{Group}
 use Rattle.rules.specs.declared.Group.the-variants.{Settings, Security, Ipv4, Ipv6, Global, Service}
 

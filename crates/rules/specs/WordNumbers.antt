@@ -3,8 +3,8 @@ use Prim.Native.Nat.{ℕ}
 use mathlib.Core.Bool.{Bool, false}
 use mathlib.Core.Option.{Option, none, some}
 use lib.Dec.{eqb}
-use Rattle.kinds.specs.declared.Word.{Word}
-use Rattle.kinds.specs.declared.Word.the-variants.{Wifi, Ethernet, Off, Auto, Disabled, Enabled, Preferred, Psk, Ieee8021x, None, Wep}
+use Rattle.named_words.specs.declared.Word.{Word}
+use Rattle.named_words.specs.declared.Word.the-variants.{Wifi, Ethernet, Off, Auto, Disabled, Enabled, Preferred, Psk, Ieee8021x, None, Wep}
 
 abbrev pub wordNumber : Word → ℕ
 wordNumber Wifi = 1

@@ -1,5 +1,5 @@
 -- The settings of an iwd file: its rows, and one law for each answer.
-use Prim.Native.Nat.{ℕ, _≤_}
+use Prim.Native.Nat.{ℕ}
 use native.Mathlib.Omega.{arith}
 use mathlib.Core.Path.{_≡_, refl, ap, sym, _∙_}
 use mathlib.Core.List.{List, []}
@@ -9,34 +9,33 @@ use Rattle.text.specs.declared.Dialect.the-variants.{Iwd}
 use Rattle.addresses.specs.Addresses.{addresses, rows}
 use Rattle.addresses.specs.declared.Separator.the-variants.{Spaces}
 use Rattle.rules.specs.Tables.{groupOf, keysOf}
-use Rattle.rules.specs.Sections.{Entry, entryOf, entriesIn}
+use Rattle.rules.specs.Sections.{entryOf, entriesIn}
 use Rattle.rules.specs.Reading.{sectionsOf, reading}
 use Rattle.rules.specs.Asking.{asked}
-use Rattle.rules.specs.declared.Group.{Group}
 use Rattle.rules.specs.declared.Group.the-variants as G
 use Rattle.rules.specs.declared.Answer.the-variants.{Good, Refused}
 use Rattle.rules.specs.declared.Reading.{Reading}
 use Rattle.rules.specs.declared.Reading.the-variants as R
 use Rattle.rules.specs.declared.Refusal.{Refusal}
-use Rattle.reader.specs.Closing.{keySlot, bytesOf, ValueInFile}
-use Rattle.reader.specs.Holds.{RowKeeps}
-use Rattle.reader.specs.declared.KeyName.the-variants as N
-use Rattle.reader.proofs.RowRule.{row-key}
+use Rattle.places.specs.KeySlots.{keySlot, bytesOf, ValueInFile}
+use Rattle.places.specs.declared.KeyName.the-variants as N
+use Rattle.places.proofs.RowKeys.{row-key}
 use Rattle.pass.specs.Pass.{Found, ReadsFile}
 use Rattle.pass.proofs.Walking.{empty-row}
 use Rattle.pass.proofs.Asking.{found-group}
-use Rattle.settings.specs.Rows.{RowOf, RowGives, FourRows, IwdRows, IwdRowsGive}
+use Rattle.settings.specs.Rows.{IwdRowsGive}
+use Rattle.values.specs.Rows.{RowGives, FourRows, IwdRows}
 use Rattle.settings.specs.Asked.{iwdAnswered, iwdServersAfter}
-use Rattle.settings.specs.Codes.{choiceBy}
+use Rattle.values.specs.Codes.{choiceBy}
 use Rattle.settings.specs.Settings.{generalSettingsOf, securitySettingsOf, ipv4SettingsOf}
-use Rattle.settings.specs.declared.Choice.{Choice}
+use Rattle.values.specs.declared.Choice.{Choice}
 use Rattle.settings.specs.declared.GeneralSettings.{GeneralSettings}
 use Rattle.settings.specs.declared.SecuritySettings.{SecuritySettings}
 use Rattle.settings.specs.declared.Ipv4Settings.{Ipv4Settings}
 use Rattle.settings.specs.declared.IwdSettings.{IwdSettings}
-use Rattle.settings.proofs.Rowwise.{key-in, row-read, flag-by, addresses-none}
-use Rattle.reader.specs.Store.{lastRow, tableLength}
-use Rattle.reader.specs.History.{base}
+use Rattle.values.proofs.KeptValues.{row-of, key-in, row-read, flag-by, addresses-none}
+use Rattle.places.specs.Store.{tableLength}
+use Rattle.places.specs.History.{base}
 
 -- ---- the rows
 
@@ -60,10 +59,6 @@ none-rows file =
       ipv4 = empty-row Iwd file (base G.Ipv4 0) G.Ipv4 (omega arith);
       ipv6 = empty-row Iwd file (base G.Ipv6 0) G.Ipv6 (omega arith);
     }
-
--- the row of one group
-pub row-of : {file x : List ℕ} (h : IwdRows file x) {b : ℕ} → b ≤ lastRow → (g : Group) {es : List Entry} → RowKeeps Iwd file x b g es → RowOf Iwd file x b g
-row-of h l g {es} r = record { table = record { long = h .long; row = l }; settings = es; row = r }
 
 -- ---- the answers
 

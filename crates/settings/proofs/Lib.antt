@@ -1,4 +1,3 @@
-pub mod Told
 pub mod Rowwise
 pub mod IwdFile
 pub mod ServiceFile

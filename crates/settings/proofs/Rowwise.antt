@@ -1,170 +1,42 @@
--- What a row keeps, read by kind: one law for each function over a row.
-use Prim.Native.Nat.{ℕ, _≤_}
-use native.Mathlib.Omega.{arith}
-use mathlib.Core.Path.{_≡_, refl, ap, ap₂, sym, _∙_, subst}
-use mathlib.Core.Bool.{Bool, true, false}
-use mathlib.Core.List.{List, []}
-use mathlib.Core.Option.{Option, none, some}
+-- What a row keeps, typed: one law for each function over a row.
+use Prim.Native.Nat.{ℕ}
+use mathlib.Core.Path.{_≡_, ap, ap₂, _∙_}
+use mathlib.Core.List.{List}
+use mathlib.Core.Option.{Option}
 use lib.ListN.{length}
-use Rattle.text.specs.Options.{andThen, orEmpty}
+use Rattle.text.specs.Options.{orEmpty}
 use Rattle.text.specs.Words.{word}
-use Rattle.text.specs.declared.Dialect.{Dialect}
 use Rattle.text.specs.declared.Dialect.the-variants.{Iwd, ConnMan}
-use Rattle.addresses.specs.Addresses.{address, number, decimalValue, netmask, addresses, addressAnswer}
+use Rattle.addresses.specs.Addresses.{address, addresses, addressAnswer}
 use Rattle.addresses.specs.declared.Address.{Address}
-use Rattle.addresses.specs.declared.Separator.{Separator}
 use Rattle.addresses.specs.declared.Separator.the-variants.{Spaces, Comma}
-use Rattle.kinds.specs.Kinds.{flag, wordOf, ipv4, entries, mac, ssid, preSharedKey}
-use Rattle.addresses.specs.MaskRuleLaws.{netmask-good}
-use Rattle.kinds.specs.Answers.{ipv4Answer, entriesAnswer, macAnswer, ssidAnswer, preSharedKeyAnswer}
-use Rattle.kinds.specs.declared.Kind.{Kind}
-use Rattle.kinds.specs.declared.Kind.the-variants.{Flag, Named, Netmask}
-use Rattle.kinds.specs.declared.Word.{Word}
-use Rattle.kinds.specs.declared.Word.the-variants.{Wifi, Ethernet, Off, Auto, Disabled, Enabled, Preferred, Psk, Ieee8021x, None, Wep}
-use Rattle.kinds.specs.declared.WordList.{WordList}
-use Rattle.kinds.specs.declared.WordList.the-variants as L
-use Rattle.kinds.specs.declared.Entries.{Entries}
-use Rattle.kinds.specs.declared.Ipv4.{Ipv4}
-use Rattle.kinds.specs.declared.PreSharedKey.{PreSharedKey}
-use Rattle.kinds.specs.declared.Mac.{Mac}
-use Rattle.kinds.specs.declared.Ssid.{Ssid}
+use Rattle.connman_ipv4.specs.ConnmanIpv4.{ipv4}
+use Rattle.hex_values.specs.HexValues.{mac, ssid, preSharedKey}
+use Rattle.entry_lists.specs.EntryLists.{entries}
+use Rattle.connman_ipv4.specs.Answers.{ipv4Answer}
+use Rattle.hex_values.specs.Answers.{macAnswer, ssidAnswer, preSharedKeyAnswer}
+use Rattle.entry_lists.specs.Answers.{entriesAnswer}
+use Rattle.named_words.specs.declared.WordList.the-variants as L
+use Rattle.entry_lists.specs.declared.Entries.{Entries}
+use Rattle.connman_ipv4.specs.declared.Ipv4.{Ipv4}
+use Rattle.hex_values.specs.declared.PreSharedKey.{PreSharedKey}
+use Rattle.hex_values.specs.declared.Mac.{Mac}
+use Rattle.hex_values.specs.declared.Ssid.{Ssid}
 use Rattle.rules.specs.Tables.{keysOf}
-use Rattle.rules.specs.WordNumbers.{isWord, wordNumber}
-use Rattle.rules.specs.Asking.{readAs, entryLine, entryStart}
-use Rattle.rules.specs.Sections.{Entry, entryOf}
+use Rattle.rules.specs.Sections.{entryOf}
 use Rattle.rules.specs.declared.Group.the-variants as G
-use Rattle.reader.specs.Store.{Slot}
-use Rattle.reader.specs.History.{base}
-use Rattle.reader.specs.Holds.{flagCode, isText, Coded, SlotKeeps, RowKeeps}
-use Rattle.reader.specs.Closing.{keySlot, bytesOf, slotIs, ValueInFile}
-use Rattle.reader.specs.Keys.{keyGroup, keyWord as nameOf, keyKind}
-use Rattle.reader.specs.declared.KeyName.{KeyName}
-use Rattle.reader.specs.declared.KeyName.the-variants as N
-use Rattle.reader.proofs.RowRule.{row-key, row-in, CodedBy, coded-word, coded-flag, coded-mask, kept-word}
-use Rattle.reader.proofs.Values.{kept-read, kept-line, kept-start}
-use Rattle.settings.specs.Values.{choice, chosen, lengthOr0}
-use Rattle.settings.specs.Codes.{choiceBy, chosenBy}
+use Rattle.places.specs.History.{base}
+use Rattle.places.specs.KeySlots.{keySlot, bytesOf}
+use Rattle.places.specs.declared.KeyName.the-variants as N
+use Rattle.places.proofs.RowKeys.{row-key}
+use Rattle.values.specs.Codes.{choiceBy, chosenBy}
+use Rattle.values.specs.Rows.{RowGives}
+use Rattle.values.specs.declared.Choice.{Choice}
+use Rattle.values.specs.declared.Chosen.{Chosen}
+use Rattle.values.proofs.KeptValues.{address-none, addresses-none, ipv4-none, entries-none, mac-none, key-none, ssid-none, row-read, row-line, row-start, word-by, flag-by, row-mask}
 use Rattle.settings.specs.Settings.{generalSettingsOf, securitySettingsOf, ipv4SettingsOf, networkSettingsOf, addressSettingsOf}
-use Rattle.settings.specs.Rows.{RowOf, MaskIn, RowGives}
-use Rattle.settings.specs.declared.Choice.{Choice}
-use Rattle.settings.specs.declared.Chosen.{Chosen}
 
--- ---- no kind reads a value from no bytes
-
-pub address-none : address [] ≡ none
-unfolding address number decimalValue
-address-none = refl
-
-pub addresses-none : (s : Separator) → addresses s [] ≡ none
-unfolding addresses address number decimalValue
-addresses-none Spaces = refl
-addresses-none Comma = refl
-
-pub ipv4-none : ipv4 [] ≡ none
-unfolding ipv4
-ipv4-none = refl
-
-entries-none : entries [] ≡ none
-unfolding entries
-entries-none = refl
-
-mac-none : mac [] ≡ none
-unfolding mac
-mac-none = refl
-
-pub key-none : preSharedKey [] ≡ none
-unfolding preSharedKey
-key-none = refl
-
-pub ssid-none : ssid [] ≡ none
-unfolding ssid
-ssid-none = refl
-
--- ---- a key of a row
-
-pub key-in : {d : Dialect} {file x : List ℕ} {b : ℕ} (k : KeyName) → RowOf d file x b (keyGroup k) → ValueInFile file x b k
-key-in k h = row-in k (h .row) (h .table)
-
--- of a key whose values are texts; once the key is named, this comes to the statement itself
-abbrev When : Bool → Type 0 → Type 0
-When true A = A
-When false A = Unit
-
-when : (b : Bool) {A : Type 0} → (b ≡ true → A) → When b A
-when true f = f refl
-when false f = tt
-
-abbrev pub IfText : KeyName → Type 0 → Type 0
-IfText k A = When (isText (keyKind k)) A
-
-module _ {d : Dialect} {file x : List ℕ} {b : ℕ} (k : KeyName) {es : List Entry} (h : RowKeeps d file x b (keyGroup k) es) where
-  pub row-read : {A : Type 0} (f : List ℕ → Option A) → f [] ≡ none → IfText k (f (bytesOf file x b k) ≡ readAs f (entryOf (nameOf k) es))
-  row-read f q = when (isText (keyKind k)) (λ t. kept-read d (some (keyKind k)) file (keySlot x b k) f q t (entryOf (nameOf k) es) (row-key k h))
-
-  pub row-line : keySlot x b k .line ≡ entryLine (entryOf (nameOf k) es)
-  row-line = kept-line d (some (keyKind k)) file (keySlot x b k) (entryOf (nameOf k) es) (row-key k h)
-
-  pub row-start : IfText k (keySlot x b k .start ≡ entryStart (entryOf (nameOf k) es))
-  row-start = when (isText (keyKind k)) (λ t. kept-start d (some (keyKind k)) file (keySlot x b k) t (entryOf (nameOf k) es) (row-key k h))
-
--- ---- a yes/no and a word by their codes
-
-word-back : (u : Word) → chosenBy (wordNumber u) ≡ chosen (some u)
-unfolding chosenBy
-word-back Wifi = refl
-word-back Ethernet = refl
-word-back Off = refl
-word-back Auto = refl
-word-back Disabled = refl
-word-back Enabled = refl
-word-back Preferred = refl
-word-back Psk = refl
-word-back Ieee8021x = refl
-word-back None = refl
-word-back Wep = refl
-
-flag-back : (b : Bool) → choiceBy (flagCode b) ≡ choice (some b)
-flag-back false = refl
-flag-back true = refl
-
--- what a slot's code gives, where the code of no setting gives what is absent and that of a value what it is
-by-code : {A B : Type 0} (back : ℕ → B) (give : Option A → B) (f : List ℕ → Option A) (code : A → ℕ) → back 0 ≡ give none → ((a : A) → back (code a) ≡ give (some a)) → (d : Dialect) (k : Kind) (file : List ℕ) (s : Slot) (o : Option Entry) → ((v : List ℕ) → Coded d (some k) v (s .code) → CodedBy f code v (s .code)) → SlotKeeps d (some k) file s o → back (s .code) ≡ give (readAs f o)
-by-code back give f code z b d k file s none c q = ap (λ (t : Slot). back (t .code)) q ∙ z
-by-code back give f code z b d k file s (some e) c h = let w = c (e .value) (h .code) in ap back (w .code) ∙ b (w .value) ∙ sym (ap give (w .is))
-
-pub word-by : (d : Dialect) (l : WordList) (file : List ℕ) (s : Slot) (o : Option Entry) → SlotKeeps d (some (Named l)) file s o → chosenBy (s .code) ≡ chosen (readAs (wordOf l) o)
-unfolding chosenBy
-word-by d l file s o h = by-code chosenBy chosen (wordOf l) wordNumber refl word-back d (Named l) file s o (λ v c. coded-word d l v c) h
-
-pub flag-by : (d : Dialect) (file : List ℕ) (s : Slot) (o : Option Entry) → SlotKeeps d (some Flag) file s o → choiceBy (s .code) ≡ choice (readAs (flag d) o)
-flag-by d file s o h = by-code choiceBy choice (flag d) flagCode refl flag-back d Flag file s o (λ v c. coded-flag d v c) h
-
-mask-by : (d : Dialect) (file : List ℕ) (s : Slot) (o : Option Entry) → SlotKeeps d (some Netmask) file s o → s .code ≡ lengthOr0 (readAs netmask o)
-mask-by d file s o h = by-code (λ n. n) lengthOr0 netmask (λ m. m) refl (λ m. refl) d Netmask file s o (λ v c. coded-mask d v c) h
-
-mask-few : (d : Dialect) (file : List ℕ) (s : Slot) (o : Option Entry) → SlotKeeps d (some Netmask) file s o → s .code ≤ 32
-mask-few d file s none q = rw (ap (λ (t : Slot). t .code) q) (omega arith)
-mask-few d file s (some e) h = let w = coded-mask d (e .value) (h .code) in omega (arith, w .code, netmask-good (e .value) (w .is) .1)
-
-pub mask-in : {d : Dialect} {file x : List ℕ} {b : ℕ} → RowOf d file x b G.Ipv4 → MaskIn x b N.Netmask
-mask-in {d} {file} {x} {b} h = record { table = h .table; small = mask-few d file (keySlot x b N.Netmask) (entryOf (word "Netmask") (h .settings)) (row-key N.Netmask (h .row)) }
-
--- the same of a key of a row
-module _ {d : Dialect} {file x : List ℕ} {b : ℕ} (k : KeyName) {es : List Entry} (h : RowKeeps d file x b (keyGroup k) es) where
-  pub row-word : (l : WordList) → keyKind k ≡ Named l → (w : Word) → slotIs x b k w ≡ isWord w (readAs (wordOf l) (entryOf (nameOf k) es))
-  row-word l e w = kept-word d l file (keySlot x b k) (entryOf (nameOf k) es) (subst (λ (i : Kind). SlotKeeps d (some i) file (keySlot x b k) (entryOf (nameOf k) es)) e (row-key k h)) w ∙ ap (isWord w) (then-read (entryOf (nameOf k) es))
-    where
-      then-read : (o : Option Entry) → andThen o (λ e. wordOf l (e .value)) ≡ readAs (wordOf l) o
-      then-read none = refl
-      then-read (some e) = refl
-
-  pub row-flag : keyKind k ≡ Flag → choiceBy (keySlot x b k .code) ≡ choice (readAs (flag d) (entryOf (nameOf k) es))
-  row-flag e = flag-by d file (keySlot x b k) (entryOf (nameOf k) es) (subst (λ (i : Kind). SlotKeeps d (some i) file (keySlot x b k) (entryOf (nameOf k) es)) e (row-key k h))
-
-pub row-mask : {d : Dialect} {file x : List ℕ} {b : ℕ} {es : List Entry} → RowKeeps d file x b G.Ipv4 es → keySlot x b N.Netmask .code ≡ lengthOr0 (readAs netmask (entryOf (word "Netmask") es))
-row-mask {d} {file} {x} {b} {es} h = mask-by d file (keySlot x b N.Netmask) (entryOf (word "Netmask") es) (row-key N.Netmask h)
-
--- ---- the functions
+-- ---- iwd's groups
 
 module _ {file x : List ℕ} where
   pub general-typed : {a b c : Choice} {m : Mac} → a ≡ choiceBy (keySlot x (base G.Settings 0) N.AutoConnect .code) → b ≡ choiceBy (keySlot x (base G.Settings 0) N.IwdHidden .code) → c ≡ choiceBy (keySlot x (base G.Settings 0) N.AlwaysRandomizeAddress .code) → m ≡ macAnswer (mac (bytesOf file x (base G.Settings 0) N.AddressOverride)) → RowGives Iwd file x (base G.Settings 0) G.Settings generalSettingsOf (record { «auto_connect» = a; hidden = b; «always_randomize_address» = c; «address_override» = m })
@@ -199,6 +71,8 @@ module _ {file x : List ℕ} where
               v ∙ flag-by Iwd file (keySlot x (base G.Ipv4 0) N.SendHostname) (entryOf (word "SendHostname") es) (row-key N.SendHostname h),
             );
       }
+
+-- ---- a service
 
 module _ {file x : List ℕ} {b : ℕ} where
   pub network-typed : {t : Chosen} {n : ℕ} {s : Ssid} {p : ℕ} {c : Chosen} {d : Choice} → t ≡ chosenBy (keySlot x b N.Type .code) → n ≡ keySlot x b N.Name .line → s ≡ ssidAnswer (ssid (bytesOf file x b N.Ssid)) → p ≡ keySlot x b N.Passphrase .line → c ≡ chosenBy (keySlot x b N.Security .code) → d ≡ choiceBy (keySlot x b N.Hidden .code) → RowGives ConnMan file x b G.Service networkSettingsOf (record { «service_type» = t; name = n; ssid = s; passphrase = p; security = c; hidden = d })

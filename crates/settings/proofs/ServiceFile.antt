@@ -15,23 +15,23 @@ use Rattle.rules.specs.declared.Answer.{Answer}
 use Rattle.rules.specs.declared.Answer.the-variants.{Good, Refused}
 use Rattle.rules.specs.declared.Reading.{Reading}
 use Rattle.rules.specs.declared.Refusal.{Refusal}
-use Rattle.reader.specs.History.{base}
-use Rattle.reader.specs.Holds.{RowKeeps}
-use Rattle.reader.specs.Closing.{bytesOf, ValueInFile}
-use Rattle.reader.specs.declared.KeyName.the-variants as N
-use Rattle.reader.proofs.Values.{base-few}
+use Rattle.places.specs.History.{base}
+use Rattle.places.specs.Holds.{RowKeeps}
+use Rattle.places.specs.KeySlots.{bytesOf, ValueInFile}
+use Rattle.places.specs.declared.KeyName.the-variants as N
+use Rattle.places.proofs.Values.{base-few}
 use Rattle.pass.specs.Pass.{Found, ReadsFile}
 use Rattle.pass.proofs.Walking.{empty-row}
 use Rattle.pass.proofs.Asking.{found-service, service-found, service-answer, service-few}
 use Rattle.settings.specs.Settings.{networkSettingsOf, addressSettingsOf, serviceSettings}
-use Rattle.settings.specs.Rows.{RowOf, RowGives}
+use Rattle.values.specs.Rows.{RowOf, RowGives}
 use Rattle.settings.specs.Asked.{serviceAnswerOf, serviceAnswered, serviceServersAfter}
 use Rattle.settings.specs.declared.NetworkSettings.{NetworkSettings}
 use Rattle.settings.specs.declared.AddressSettings.{AddressSettings}
 use Rattle.settings.specs.declared.ServiceSettings.{ServiceSettings}
 use Rattle.settings.specs.declared.ServiceAnswer.{ServiceAnswer}
-use Rattle.settings.proofs.Rowwise.{key-in, row-read, addresses-none}
-use Rattle.reader.specs.Store.{rowLength, tableLength}
+use Rattle.values.proofs.KeptValues.{key-in, row-read, addresses-none}
+use Rattle.places.specs.Store.{rowLength, tableLength}
 
 -- ---- the row
 

@@ -5,13 +5,13 @@ use mathlib.Core.Option.{none}
 use lib.ListN.{replicate}
 use Rattle.addresses.specs.Addresses.{noAddress}
 use Rattle.addresses.specs.declared.Address.{Address}
-use Rattle.kinds.specs.declared.Entries.{Entries}
-use Rattle.kinds.specs.declared.Mac.{Mac}
-use Rattle.kinds.specs.declared.Method.the-variants.{Dhcp}
+use Rattle.entry_lists.specs.declared.Entries.{Entries}
+use Rattle.hex_values.specs.declared.Mac.{Mac}
+use Rattle.connman_ipv4.specs.declared.Method.the-variants.{Dhcp}
 use Rattle.rules.specs.Tables.{keysOf}
 use Rattle.settings.specs.Settings.{iwdSettings, serviceSettings}
-use Rattle.settings.specs.declared.Choice.the-variants as Choice
-use Rattle.settings.specs.declared.Chosen.the-variants as Chosen
+use Rattle.values.specs.declared.Choice.the-variants as Choice
+use Rattle.values.specs.declared.Chosen.the-variants as Chosen
 use Rattle.settings.specs.declared.IwdSettings.{IwdSettings}
 use Rattle.settings.specs.declared.ServiceSettings.{ServiceSettings}
 

@@ -7,10 +7,10 @@ use mathlib.Core.List.{List}
 use Rattle.text.specs.Words.{word}
 use Rattle.rules.specs.Sections.{Entry, Section, given}
 use Rattle.rules.specs.Groups.{has}
-use Rattle.settings.specs.declared.Choice.{Choice}
-use Rattle.settings.specs.declared.Choice.the-variants as C
-use Rattle.settings.specs.declared.Chosen.{Chosen}
-use Rattle.settings.specs.declared.Chosen.the-variants as W
+use Rattle.values.specs.declared.Choice.{Choice}
+use Rattle.values.specs.declared.Choice.the-variants as C
+use Rattle.values.specs.declared.Chosen.{Chosen}
+use Rattle.values.specs.declared.Chosen.the-variants as W
 use Rattle.settings.specs.declared.IwdSettings.{IwdSettings}
 use Rattle.settings.specs.declared.ServiceSettings.{ServiceSettings}
 

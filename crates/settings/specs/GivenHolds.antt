@@ -15,11 +15,13 @@ use Rattle.text.specs.declared.Dialect.the-variants.{Iwd, ConnMan}
 use Rattle.addresses.specs.Addresses.{netmask, addresses, addressAnswer}
 use Rattle.addresses.specs.declared.Separator.{Separator}
 use Rattle.addresses.specs.declared.Separator.the-variants.{Spaces, Comma}
-use Rattle.kinds.specs.Kinds.{IPv4, dhcp, off, static, entry, entries}
-use Rattle.kinds.specs.Answers.{ipv4Answer, macAnswer, preSharedKeyAnswer, ssidAnswer}
+use Rattle.connman_ipv4.specs.ConnmanIpv4.{IPv4, dhcp, off, static}
+use Rattle.entry_lists.specs.EntryLists.{entry, entries}
+use Rattle.connman_ipv4.specs.Answers.{ipv4Answer}
+use Rattle.hex_values.specs.Answers.{macAnswer, preSharedKeyAnswer, ssidAnswer}
 use Rattle.addresses.specs.Laws.{addresses-good}
 use Rattle.addresses.specs.MaskRuleLaws.{netmask-good}
-use Rattle.kinds.specs.declared.Word.{Word}
+use Rattle.named_words.specs.declared.Word.{Word}
 use Rattle.rules.specs.Tables.{groupOf, keysOf}
 use Rattle.rules.specs.Sections.{Entry, given, entryOf, entriesIn}
 use Rattle.rules.specs.Groups.{has}
@@ -33,7 +35,7 @@ use Rattle.rules.specs.declared.Answer.the-variants.{Good}
 use Rattle.rules.specs.declared.Group.{Group}
 use Rattle.rules.specs.declared.Group.the-variants.{Settings, Security, Ipv4, Ipv6, Service}
 use Rattle.settings.specs.Asked.{iwdAnswered, serviceAnswered}
-use Rattle.settings.specs.Values.{choice, chosen, lengthOr0}
+use Rattle.values.specs.Values.{choice, chosen, lengthOr0}
 use Rattle.settings.specs.Given.{choiceGiven, chosenGiven, nonzero, IwdGiven, ServiceGiven}
 
 -- ---- each shape of value

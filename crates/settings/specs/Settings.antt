@@ -7,13 +7,15 @@ use lib.ListN.{length}
 use Rattle.text.specs.Words.{word}
 use Rattle.text.specs.Options.{orEmpty}
 use Rattle.addresses.specs.Addresses.{addressAnswer, rows}
-use Rattle.kinds.specs.Answers.{ipv4Answer, entriesAnswer, macAnswer, preSharedKeyAnswer, ssidAnswer}
+use Rattle.connman_ipv4.specs.Answers.{ipv4Answer}
+use Rattle.hex_values.specs.Answers.{macAnswer, preSharedKeyAnswer, ssidAnswer}
+use Rattle.entry_lists.specs.Answers.{entriesAnswer}
 use Rattle.rules.specs.Tables.{keysOf}
 use Rattle.rules.specs.Sections.{Entry}
 use Rattle.rules.specs.Asking.{entryLine, entryStart}
 use Rattle.rules.specs.ListedValues.{valueOf, groupValue}
 use Rattle.rules.specs.declared.Group.the-variants.{Settings, Security, Ipv4, Ipv6, Service}
-use Rattle.settings.specs.Values.{choice, chosen, lengthOr0}
+use Rattle.values.specs.Values.{choice, chosen, lengthOr0}
 use Rattle.settings.specs.declared.GeneralSettings.{GeneralSettings}
 use Rattle.settings.specs.declared.SecuritySettings.{SecuritySettings}
 use Rattle.settings.specs.declared.Ipv4Settings.{Ipv4Settings}

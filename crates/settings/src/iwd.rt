@@ -1,17 +1,17 @@
 // The settings of an iwd file.
 ghost use mathlib.Core.Path.{_≡_};
 ghost use Rattle.settings.specs.Asked.{iwdAnswered, iwdServersAfter};
-ghost use Rattle.settings.specs.Rows.{IwdRows, IwdRowsGive};
+ghost use Rattle.settings.specs.Rows.{IwdRowsGive};
+ghost use Rattle.values.specs.Rows.{IwdRows};
 use crate::IwdAnswer;
 use crate::IwdSettings;
 use crate::rows;
-use crate::values;
 use addresses::Separator;
-use reader::IPV4_ROW;
-use reader::IPV6_ROW;
-use reader::KeyName;
-use reader::PLACES;
-use reader::Places;
+use places::IPV4_ROW;
+use places::IPV6_ROW;
+use places::KeyName;
+use places::PLACES;
+use places::Places;
 use rules::Answer;
 use rules::Reading;
 use text::Dialect;

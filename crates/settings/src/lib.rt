@@ -6,29 +6,16 @@
 pub mod iwd;
 pub mod rows;
 pub mod services;
-pub mod values;
 
 use addresses::Address;
-use kinds::Entries;
-use kinds::Ipv4;
-use kinds::Mac;
-use kinds::PreSharedKey;
-use kinds::Ssid;
-use kinds::Word;
+use connman_ipv4::Ipv4;
+use entry_lists::Entries;
+use hex_values::Mac;
+use hex_values::PreSharedKey;
+use hex_values::Ssid;
 use rules::Answer;
-
-// A yes/no that may be absent.
-pub enum Choice {
-    Absent,
-    No,
-    Yes,
-}
-
-// A named word that may be absent.
-pub enum Chosen {
-    Absent,
-    Is(Word),
-}
+use values::Choice;
+use values::Chosen;
 
 // iwd's group Settings.
 pub struct GeneralSettings {

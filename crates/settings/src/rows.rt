@@ -1,20 +1,19 @@
 // The typed settings of a row in the table of places: one function for each group of iwd, two for a ConnMan service.
-ghost use Rattle.reader.specs.History.{base};
+ghost use Rattle.places.specs.History.{base};
 ghost use Rattle.settings.specs.Settings.{generalSettingsOf, securitySettingsOf, ipv4SettingsOf, networkSettingsOf, addressSettingsOf};
-ghost use Rattle.settings.specs.Rows.{RowOf, RowGives};
+ghost use Rattle.values.specs.Rows.{RowOf, RowGives};
 use crate::AddressSettings;
 use crate::GeneralSettings;
 use crate::Ipv4Settings;
 use crate::NetworkSettings;
 use crate::SecuritySettings;
-use crate::values;
 use addresses::Separator;
-use reader::IPV4_ROW;
-use reader::KeyName;
-use reader::Places;
-use reader::SECURITY_ROW;
-use reader::SETTINGS_ROW;
-use reader::services::line_of;
+use places::IPV4_ROW;
+use places::KeyName;
+use places::Places;
+use places::SECURITY_ROW;
+use places::SETTINGS_ROW;
+use places::rows::line_of;
 use rules::Group;
 use text::Dialect;
 

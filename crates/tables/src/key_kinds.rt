@@ -5,7 +5,7 @@ ghost use Rattle.tables.specs.KeyPlaces.{kindAnswer, atPlace};
 use crate::KindAt;
 use addresses::Separator;
 use kinds::Kind;
-use kinds::WordList;
+use named_words::WordList;
 use rules::Group;
 
 fn settings_kind(n: usize) -> KindAt

@@ -57,7 +57,7 @@ fn service_place(key: &[u8]) -> usize
     )
 }
 
-pub fn key_place(g: Group, key: &[u8]) -> usize
+pub fn listed_place(g: Group, key: &[u8]) -> usize
     ensures { λ r. ⌜ r ≡ place (now (key .entry)) (keyNames g) ⌝ }
 {
     match g {
@@ -74,7 +74,7 @@ pub fn key_place(g: Group, key: &[u8]) -> usize
 pub fn key_of(g: Group, key: &[u8]) -> Listed
     ensures { λ r. ⌜ r ≡ listedAnswer (place (now (key .entry)) (keyNames g)) (kindOf g (now (key .entry))) ⌝ }
 {
-    let n = key_place(g, key);
+    let n = listed_place(g, key);
     let at = kind_at(g, n);
     match at {
         KindAt::Is(kind) => Listed::Is(n, kind),

@@ -8,7 +8,7 @@ use borrow.Author.Tests.{le-leb, lt-leb, not-true, not-false}
 use lib.ListN.{length, take}
 use Rattle.put.specs.Put.{Wrote}
 use Rattle.put.specs.Laws.{wrote-front}
-use Rattle.kinds.specs.declared.Ipv4.{Ipv4}
+use Rattle.connman_ipv4.specs.declared.Ipv4.{Ipv4}
 use Rattle.names.specs.Names.{fileName}
 use Rattle.names.specs.declared.Suffix.{Suffix}
 use Rattle.rules.specs.declared.Answer.the-variants.{Good}

@@ -9,8 +9,8 @@ use lib.Dec.{eqb}
 use lib.ListN.{take, drop}
 use Rattle.text.specs.Bytes.{between}
 use Rattle.text.specs.Laws.{and-true, between-high}
-use Rattle.kinds.specs.declared.Method.{Method}
-use Rattle.kinds.specs.declared.Method.the-variants.{Dhcp, Off, Static}
+use Rattle.connman_ipv4.specs.declared.Method.{Method}
+use Rattle.connman_ipv4.specs.declared.Method.the-variants.{Dhcp, Off, Static}
 use Rattle.records.specs.Formed.{passphraseText, zeros, zeroRows, held, credentialFormed, unaddressed, ipv4Formed, serversFormed, formed}
 use Rattle.records.specs.Laws.{formed-parts}
 use Rattle.records.specs.declared.Credential.{Credential}

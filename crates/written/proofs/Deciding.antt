@@ -5,9 +5,9 @@ use mathlib.Core.Path.{_≡_, refl, sym}
 use mathlib.Core.Bool.{Bool, true, false}
 use mathlib.Core.List.{List, [], _∷_, _++_}
 use lib.ListN.{length, take}
-use Rattle.kinds.specs.Kinds.{IPv4}
-use Rattle.kinds.specs.declared.Ipv4.{Ipv4}
-use Rattle.kinds.specs.declared.Method.the-variants.{Dhcp, Off, Static}
+use Rattle.connman_ipv4.specs.ConnmanIpv4.{IPv4}
+use Rattle.connman_ipv4.specs.declared.Ipv4.{Ipv4}
+use Rattle.connman_ipv4.specs.declared.Method.the-variants.{Dhcp, Off, Static}
 use Rattle.written.specs.Written.{WrittenRow, numberRows, serverRows, domainRows, ipv4Rows, hasPlace}
 use Rattle.written.specs.RecordParts.{numbersIn}
 use Rattle.written.specs.Texts.{someRow}
@@ -61,6 +61,6 @@ module _ (i : Ipv4) where
   pub static-place : i .method ≡ Static → i .«has_gateway» ≡ hasPlace (numbersIn i)
   static-place e = rw e (go (i .«has_gateway»))
     where
-      go : (h : Bool) → h ≡ hasPlace (Rattle.kinds.specs.Kinds.static (i .address) (i .length) (Rattle.records.specs.Record.gatewayIf h (i .gateway)))
+      go : (h : Bool) → h ≡ hasPlace (Rattle.connman_ipv4.specs.ConnmanIpv4.static (i .address) (i .length) (Rattle.records.specs.Record.gatewayIf h (i .gateway)))
       go true = refl
       go false = refl

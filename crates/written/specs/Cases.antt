@@ -1,46 +1,34 @@
 -- Worked cases: document 01's file of 169 bytes, and records whose file is empty or begins a string with a blank.
 use mathlib.Core.Path.{_≡_, refl}
-use mathlib.Core.Bool.{true, false}
-use mathlib.Core.List.{List, [], _∷_}
-use mathlib.Core.Option.{some}
+use mathlib.Core.Bool.{false}
+use mathlib.Core.List.{List, []}
 use Prim.Native.Nat.{ℕ}
 use lib.ListN.{length}
 use Rattle.text.specs.Bytes.{isPlain}
 use Rattle.text.specs.Words.{word}
 use Rattle.escapes.specs.Escapes.{escapeFrom}
 use Rattle.addresses.specs.Addresses.{decimal, dotted, maskBytes}
-use Rattle.kinds.specs.Kinds.{IPv4, dhcp, static}
+use Rattle.connman_ipv4.specs.ConnmanIpv4.{dhcp}
 use Rattle.names.specs.Names.{stem}
 use Rattle.records.specs.Record.{Secret, noSecret, passphrase, Join}
+use Rattle.records.specs.Cases.{worked}
 use Rattle.records.specs.declared.Ipv6.{Ipv6}
 use Rattle.records.specs.declared.Ipv6.the-variants as Ipv6
 use Rattle.written.specs.Written.{fileText, nameText}
-
-abbrev pub desk4 : Join
-desk4 =
-    record {
-      name = word "Desk 4";
-      credential = passphrase (word "low\\tide 88");
-      hidden = true;
-      ipv4 = static (10 ∷ 20 ∷ 0 ∷ 14 ∷ []) 24 (some (10 ∷ 20 ∷ 0 ∷ 1 ∷ []));
-      servers = (10 ∷ 20 ∷ 0 ∷ 2 ∷ []) ∷ (10 ∷ 20 ∷ 0 ∷ 3 ∷ []) ∷ [];
-      domain = [];
-      ipv6 = Ipv6.Off;
-    }
 
 -- a network and its credential, all else by default
 abbrev pub plainly : List ℕ → Secret → List ℕ → Join
 plainly n c d = record { name = n; credential = c; hidden = false; ipv4 = dhcp; servers = []; domain = d; ipv6 = Ipv6.Auto }
 
-pub worked-name : nameText desk4 ≡ word "Desk 4.psk"
+pub worked-name : nameText worked ≡ word "Desk 4.psk"
 unfolding nameText stem isPlain
 worked-name = refl
 
-pub worked-file : fileText desk4 ≡ word "[Settings]\nHidden=true\n[Security]\nPassphrase=low\\\\tide 88\n[IPv4]\nAddress=10.20.0.14\nNetmask=255.255.255.0\nGateway=10.20.0.1\nDNS=10.20.0.2 10.20.0.3\n[IPv6]\nEnabled=false\n"
+pub worked-file : fileText worked ≡ word "[Settings]\nHidden=true\n[Security]\nPassphrase=low\\\\tide 88\n[IPv4]\nAddress=10.20.0.14\nNetmask=255.255.255.0\nGateway=10.20.0.1\nDNS=10.20.0.2 10.20.0.3\n[IPv6]\nEnabled=false\n"
 unfolding fileText escapeFrom dotted decimal maskBytes
 worked-file = refl
 
-pub worked-length : length (fileText desk4) ≡ 169
+pub worked-length : length (fileText worked) ≡ 169
 unfolding fileText escapeFrom dotted decimal maskBytes
 worked-length = refl
 

@@ -14,7 +14,7 @@ use Rattle.hex.specs.Laws.{hex-length}
 use Rattle.addresses.specs.Addresses.{maskBytes}
 use Rattle.addresses.specs.Sizes.{dotted-short, listed-short}
 use Rattle.addresses.specs.declared.Separator.the-variants.{Spaces}
-use Rattle.kinds.specs.Kinds.{IPv4, dhcp, off, static}
+use Rattle.connman_ipv4.specs.ConnmanIpv4.{IPv4, dhcp, off, static}
 use Rattle.lines.specs.Lines.{Line}
 use Rattle.lines.specs.Rendering.{render, rendered}
 use Rattle.names.specs.Laws.{file-name-short}

@@ -5,8 +5,8 @@ use mathlib.Core.Bool.{true}
 use mathlib.Core.List.{List, _∷_}
 use Rattle.text.specs.Words.{word}
 use Rattle.addresses.specs.Addresses.{dotted, maskBytes}
-use Rattle.kinds.specs.Kinds.{IPv4}
-use Rattle.kinds.specs.declared.Ipv4.{Ipv4}
+use Rattle.connman_ipv4.specs.ConnmanIpv4.{IPv4}
+use Rattle.connman_ipv4.specs.declared.Ipv4.{Ipv4}
 use Rattle.names.specs.declared.Suffix.{Suffix}
 use Rattle.records.specs.Record.{gatewayIf, secretOf, ipv4In}
 use Rattle.records.specs.declared.Credential.{Credential}

@@ -9,7 +9,7 @@ use Rattle.escapes.specs.Escapes.{escape}
 use Rattle.hex.specs.Hex.{hex}
 use Rattle.addresses.specs.Addresses.{dotted, maskBytes, listed}
 use Rattle.addresses.specs.declared.Separator.the-variants.{Spaces}
-use Rattle.kinds.specs.Kinds.{IPv4, dhcp, off, static}
+use Rattle.connman_ipv4.specs.ConnmanIpv4.{IPv4, dhcp, off, static}
 use Rattle.lines.specs.Lines.{Line, header, setting}
 use Rattle.lines.specs.Rendering.{rendered}
 use Rattle.names.specs.Names.{fileName}

@@ -1,6 +1,6 @@
 -- The service has a line that iwd has no place for, or its record is written.
-use Rattle.reader.specs.declared.KeyName.the-variants as N
-use Rattle.settings.proofs.Rowwise.{key-in}
+use Rattle.places.specs.declared.KeyName.the-variants as N
+use Rattle.values.proofs.KeptValues.{key-in}
 use Rattle.mover.proofs.Moving.{record-within, found-unplaced, found-placed}
 use borrow.Author.Needs.{needs}
 use Rattle.mover.proofs.move_found.Statement.{statement}

@@ -1,6 +1,6 @@
 -- Each part by the row of its group, and the parts together.
-use Rattle.reader.specs.declared.KeyName.the-variants as N
-use Rattle.settings.proofs.Rowwise.{key-in}
+use Rattle.places.specs.declared.KeyName.the-variants as N
+use Rattle.values.proofs.KeptValues.{key-in}
 use Rattle.joins.proofs.Assembling.{general-row, security-row, ipv4-row, iwd-joined}
 use borrow.Author.Needs.{needs}
 use Rattle.joins.proofs.joining.iwd_join.Statement.{statement}

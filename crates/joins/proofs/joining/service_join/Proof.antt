@@ -1,6 +1,6 @@
 -- Each part by the row of the service, and the parts together.
-use Rattle.reader.specs.declared.KeyName.the-variants as N
-use Rattle.settings.proofs.Rowwise.{key-in}
+use Rattle.places.specs.declared.KeyName.the-variants as N
+use Rattle.values.proofs.KeptValues.{key-in}
 use Rattle.joins.proofs.Assembling.{service-joined}
 use borrow.Author.Needs.{needs}
 use Rattle.joins.proofs.joining.service_join.Statement.{statement}

@@ -3,10 +3,11 @@ use Prim.Native.Nat.{ℕ}
 use mathlib.Core.List.{List}
 use mathlib.Core.Path.{ap, _∙_}
 use Rattle.text.specs.declared.Dialect.the-variants.{Iwd}
-use Rattle.kinds.specs.Kinds.{passphrase, preSharedKey}
-use Rattle.reader.specs.Closing.{bytesOf}
-use Rattle.reader.specs.declared.KeyName.the-variants as N
-use Rattle.settings.proofs.Rowwise.{key-in}
+use Rattle.hex_values.specs.HexValues.{preSharedKey}
+use Rattle.kinds.specs.Kinds.{passphrase}
+use Rattle.places.specs.KeySlots.{bytesOf}
+use Rattle.places.specs.declared.KeyName.the-variants as N
+use Rattle.values.proofs.KeptValues.{key-in}
 use Rattle.joins.specs.Answers.{phraseAnswer}
 use Rattle.joins.proofs.Choosing.{login-is}
 use borrow.Author.Needs.{needs}

@@ -1,6 +1,6 @@
 -- The address, the mask's length by its code and the gateway of the row.
-use Rattle.reader.specs.declared.KeyName.the-variants as N
-use Rattle.settings.proofs.Rowwise.{key-in, mask-in}
+use Rattle.places.specs.declared.KeyName.the-variants as N
+use Rattle.values.proofs.KeptValues.{key-in, mask-in}
 use borrow.Author.Needs.{needs}
 use Rattle.joins.proofs.parts.iwd_numbers.Statement.{statement}
 use Rattle.joins.proofs.parts.iwd_numbers.Tie as tie

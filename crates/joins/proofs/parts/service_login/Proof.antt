@@ -5,9 +5,9 @@ use mathlib.Core.Path.{refl, ap, _∙_}
 use mathlib.Core.Option.{none}
 use Rattle.text.specs.declared.Dialect.the-variants.{ConnMan}
 use Rattle.kinds.specs.Kinds.{passphrase}
-use Rattle.reader.specs.Closing.{bytesOf}
-use Rattle.reader.specs.declared.KeyName.the-variants as N
-use Rattle.settings.proofs.Rowwise.{key-in}
+use Rattle.places.specs.KeySlots.{bytesOf}
+use Rattle.places.specs.declared.KeyName.the-variants as N
+use Rattle.values.proofs.KeptValues.{key-in}
 use Rattle.joins.specs.Answers.{phraseAnswer}
 use Rattle.joins.proofs.Choosing.{login-is}
 use borrow.Author.Needs.{needs}

@@ -4,9 +4,9 @@ use mathlib.Core.List.{List}
 use mathlib.Core.Path.{ap, ap₂, _∙_}
 use Rattle.text.specs.declared.Dialect.the-variants.{ConnMan}
 use Rattle.kinds.specs.Kinds.{string}
-use Rattle.kinds.specs.Answers.{ssidAnswer}
-use Rattle.reader.specs.declared.KeyName.the-variants as N
-use Rattle.settings.proofs.Rowwise.{key-in}
+use Rattle.hex_values.specs.Answers.{ssidAnswer}
+use Rattle.places.specs.declared.KeyName.the-variants as N
+use Rattle.values.proofs.KeptValues.{key-in}
 use Rattle.joins.specs.Answers.{nameRead}
 use borrow.Author.Needs.{needs}
 use Rattle.joins.proofs.parts.service_name.Statement.{statement}

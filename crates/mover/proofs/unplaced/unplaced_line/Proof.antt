@@ -1,6 +1,6 @@
 -- The lines of the list, one in front of the other.
-use Rattle.reader.specs.declared.KeyName.the-variants as N
-use Rattle.settings.proofs.Rowwise.{key-in}
+use Rattle.places.specs.declared.KeyName.the-variants as N
+use Rattle.values.proofs.KeptValues.{key-in}
 use Rattle.mover.proofs.Lines.{all-lines}
 use borrow.Author.Needs.{needs}
 use Rattle.mover.proofs.unplaced.unplaced_line.Statement.{statement}

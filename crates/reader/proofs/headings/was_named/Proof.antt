@@ -1,7 +1,7 @@
 -- A service by the names, any other group by its header's slot.
 use native.Mathlib.Omega.{arith}
 use mathlib.Core.Path.{refl, sym, _∙_}
-use Rattle.reader.proofs.Values.{base-few}
+use Rattle.places.proofs.Values.{base-few}
 use borrow.Author.Needs.{needs}
 use Rattle.reader.proofs.headings.was_named.Statement.{statement}
 use Rattle.reader.proofs.headings.was_named.Tie as tie

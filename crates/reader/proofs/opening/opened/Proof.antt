@@ -2,8 +2,8 @@
 use native.Mathlib.Omega.{arith}
 use Prim.Native.Nat.{_+_}
 use mathlib.Core.Path.{refl, sym, _∙_}
-use Rattle.reader.proofs.Slots.{stored-long}
-use Rattle.reader.proofs.Values.{base-few}
+use Rattle.places.proofs.Slots.{stored-long}
+use Rattle.places.proofs.Values.{base-few}
 use Rattle.reader.proofs.GoodHeader.{room-few, opened-service, opened-plain}
 use borrow.Author.Needs.{needs}
 use Rattle.reader.proofs.opening.opened.Statement.{statement}

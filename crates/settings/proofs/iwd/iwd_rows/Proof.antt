@@ -1,7 +1,8 @@
 -- The four groups, row by row.
 use native.Mathlib.Omega.{arith}
 use Rattle.rules.specs.declared.Group.the-variants as G
-use Rattle.settings.proofs.IwdFile.{row-of, iwd-typed}
+use Rattle.settings.proofs.IwdFile.{iwd-typed}
+use Rattle.values.proofs.KeptValues.{row-of}
 use Rattle.settings.proofs.iwd.iwd_rows.Statement.{statement}
 use Rattle.settings.proofs.iwd.iwd_rows.Tie as tie
 

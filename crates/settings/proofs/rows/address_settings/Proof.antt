@@ -1,6 +1,7 @@
 -- The addresses of a service, slot by slot.
-use Rattle.reader.specs.declared.KeyName.the-variants as N
-use Rattle.settings.proofs.Rowwise.{key-in, address-typed}
+use Rattle.places.specs.declared.KeyName.the-variants as N
+use Rattle.settings.proofs.Rowwise.{address-typed}
+use Rattle.values.proofs.KeptValues.{key-in}
 use Rattle.settings.proofs.rows.address_settings.Statement.{statement}
 use Rattle.settings.proofs.rows.address_settings.Tie as tie
 

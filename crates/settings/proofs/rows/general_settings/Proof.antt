@@ -1,6 +1,7 @@
 -- The group Settings, slot by slot.
-use Rattle.reader.specs.declared.KeyName.the-variants as N
-use Rattle.settings.proofs.Rowwise.{key-in, general-typed}
+use Rattle.places.specs.declared.KeyName.the-variants as N
+use Rattle.settings.proofs.Rowwise.{general-typed}
+use Rattle.values.proofs.KeptValues.{key-in}
 use Rattle.settings.proofs.rows.general_settings.Statement.{statement}
 use Rattle.settings.proofs.rows.general_settings.Tie as tie
 

@@ -1,6 +1,7 @@
 -- The group IPv4, slot by slot.
-use Rattle.reader.specs.declared.KeyName.the-variants as N
-use Rattle.settings.proofs.Rowwise.{key-in, mask-in, ipv4-typed}
+use Rattle.places.specs.declared.KeyName.the-variants as N
+use Rattle.settings.proofs.Rowwise.{ipv4-typed}
+use Rattle.values.proofs.KeptValues.{key-in, mask-in}
 use Rattle.settings.proofs.rows.ipv4_settings.Statement.{statement}
 use Rattle.settings.proofs.rows.ipv4_settings.Tie as tie
 

@@ -1,6 +1,7 @@
 -- The network of a service, slot by slot.
-use Rattle.reader.specs.declared.KeyName.the-variants as N
-use Rattle.settings.proofs.Rowwise.{key-in, network-typed}
+use Rattle.places.specs.declared.KeyName.the-variants as N
+use Rattle.settings.proofs.Rowwise.{network-typed}
+use Rattle.values.proofs.KeptValues.{key-in}
 use Rattle.settings.proofs.rows.network_settings.Statement.{statement}
 use Rattle.settings.proofs.rows.network_settings.Tie as tie
 

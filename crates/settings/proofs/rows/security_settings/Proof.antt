@@ -1,6 +1,7 @@
 -- The group Security, slot by slot.
-use Rattle.reader.specs.declared.KeyName.the-variants as N
-use Rattle.settings.proofs.Rowwise.{key-in, security-typed}
+use Rattle.places.specs.declared.KeyName.the-variants as N
+use Rattle.settings.proofs.Rowwise.{security-typed}
+use Rattle.values.proofs.KeptValues.{key-in}
 use Rattle.settings.proofs.rows.security_settings.Statement.{statement}
 use Rattle.settings.proofs.rows.security_settings.Tie as tie
 

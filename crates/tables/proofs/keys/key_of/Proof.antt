@@ -12,5 +12,5 @@ key-of-spec =
     (λ c κs. search needs)
     (λ c. search needs)
     (λ c. search needs)
-    (λ c. key-found (c .before .before .before .before .before .before .args .g) (c .before .before .before .before .before .before .args .key .now) (c .before .before .before .before .key-place .ensures) (c .before .before .before .kind-at .ensures) (c .before .at .given .1))
-    (λ c. key-unknown (c .before .before .before .before .before .args .g) (c .before .before .before .before .before .args .key .now) (c .before .before .before .key-place .ensures) (c .before .before .kind-at .ensures) (c .enum-told .given .1)))
+    (λ c. key-found (c .before .before .before .before .before .before .args .g) (c .before .before .before .before .before .before .args .key .now) (c .before .before .before .before .listed-place .ensures) (c .before .before .before .kind-at .ensures) (c .before .at .given .1))
+    (λ c. key-unknown (c .before .before .before .before .before .args .g) (c .before .before .before .before .before .args .key .now) (c .before .before .before .listed-place .ensures) (c .before .before .kind-at .ensures) (c .enum-told .given .1)))

@@ -1,0 +1,11 @@
+-- The zero record.
+use borrow.Author.Needs.{needs}
+use Rattle.record_answers.proofs.refused.Statement.{statement}
+use Rattle.record_answers.proofs.refused.Tie as tie
+
+pub refused-spec : {M : Type 1} → statement M
+refused-spec =
+    tie.close
+    (tie.spec
+    (λ c κs. search needs)
+    (λ c. rw (c .zero-record .ensures)))

@@ -1,0 +1,20 @@
+-- Each part of it.
+use borrow.Author.Needs.{needs}
+use Rattle.record_layout.proofs.record_at.Statement.{statement}
+use Rattle.record_layout.proofs.record_at.Tie as tie
+
+pub record-at-spec : {M : Type 1} → statement M
+record-at-spec =
+    tie.close
+    (tie.spec
+    (λ c κs. search needs)
+    (λ c. search needs)
+    (λ c κs. search needs)
+    (λ c. search needs)
+    (λ c κs. search needs)
+    (λ c κs. search needs)
+    (λ c κs. search needs)
+    (λ c. search needs)
+    (λ c. search needs)
+    (λ c κs. search needs)
+    (λ c. rw (c .ipv6-code .ensures, c .before .before .before .bit-of2 .ensures, c .before .before .before .before .method-code .ensures, c .before .before .before .before .before .bit-of .ensures, c .before .before .before .before .before .before .before .credential-code .ensures, c .before .before .before .before .before .before .before .before .before .before .sixteen .ensures)))

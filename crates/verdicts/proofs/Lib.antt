@@ -1,0 +1,4 @@
+pub mod RowRule
+pub mod ServicesFault
+pub mod FileFault
+pub mod WholeFile

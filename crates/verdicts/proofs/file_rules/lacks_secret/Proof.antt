@@ -1,0 +1,13 @@
+-- The rules by the answers over their parts.
+use borrow.Author.Needs.{needs}
+use Rattle.verdicts.proofs.file_rules.lacks_secret.Statement.{statement}
+use Rattle.verdicts.proofs.file_rules.lacks_secret.Tie as tie
+
+pub lacks-secret-spec : {M : Type 1} → statement M
+lacks-secret-spec =
+    tie.close
+    (tie.spec
+    (λ c κs. search needs)
+    (λ c κs. search needs)
+    (λ c κs. search needs)
+    (λ c. rw (c .both .ensures, c .before .has-secret .ensures, c .before .before .is-open .ensures)))
