@@ -50,7 +50,8 @@ unfolding number
 number-is m [] {n} e = absurd (Option·none-ne-some n e)
 number-is m (c ∷ s) {n} e = go (eqb c 48) refl e
   where
-    other-digit : eqb c 48 ≡ false → (o : Option ℕ) → decimalValue 0 (c ∷ s) ≡ o → upTo m o ≡ some n → NumberIs m (c ∷ s) n
+    other-digit : eqb c 48 ≡ false → (o : Option ℕ) → decimalValue 0 (c ∷ s) ≡ o → upTo m o ≡ some n →
+        NumberIs m (c ∷ s) n
     other-digit q none i e = absurd (Option·none-ne-some n e)
     other-digit q (some v) i e =
         let k = value-is 0 (c ∷ s) i in

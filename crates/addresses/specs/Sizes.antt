@@ -20,7 +20,8 @@ module _ (n : ℕ) where
   unfolding decimal
   decimal-two h g = rw (le-ltb n 10 h, lt-ltb n 100 g)
 
-  pub decimal-three : 100 ≤ n → decimal n ≡ decimalDigit (n / 100) ∷ decimalDigit (n / 10 % 10) ∷ decimalDigit (n % 10) ∷ []
+  pub decimal-three : 100 ≤ n →
+      decimal n ≡ decimalDigit (n / 100) ∷ decimalDigit (n / 10 % 10) ∷ decimalDigit (n % 10) ∷ []
   unfolding decimal
   decimal-three h = let k : 10 ≤ n = omega arith in rw (le-ltb n 10 k, le-ltb n 100 h)
 
@@ -42,7 +43,8 @@ module _ (n : ℕ) where
       go false e false f = omega (arith, decimal-length-three (ltb-false n 100 f))
 
 -- an address has its numbers and three dots, 15 bytes at most
-pub dotted-length : (a : List ℕ) → length (dotted a) ≡ length (decimal (getD a 0 0)) + (1 + length (decimal (getD a 1 0))) + (1 + length (decimal (getD a 2 0))) + (1 + length (decimal (getD a 3 0)))
+pub dotted-length : (a : List ℕ) →
+    length (dotted a) ≡ length (decimal (getD a 0 0)) + (1 + length (decimal (getD a 1 0))) + (1 + length (decimal (getD a 2 0))) + (1 + length (decimal (getD a 3 0)))
 unfolding dotted
 dotted-length a = simp length-append (omega arith)
 

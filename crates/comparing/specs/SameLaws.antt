@@ -30,7 +30,8 @@ number-refl : (n : ℕ) → eqb n n ≡ true
 number-refl n = eq-eqb n n refl
 
 -- a case by its number
-case-eq : {A : Type 0} (number : A → ℕ) (at : ℕ → A) → ((x : A) → at (number x) ≡ x) → (x y : A) → eqb (number x) (number y) ≡ true → x ≡ y
+case-eq : {A : Type 0} (number : A → ℕ) (at : ℕ → A) → ((x : A) → at (number x) ≡ x) → (x y : A) →
+    eqb (number x) (number y) ≡ true → x ≡ y
 case-eq number at back x y e = sym (back x) ∙ ap at (eqb-true (number x) (number y) e) ∙ back y
 
 credential-eq : (x y : Credential) → eqb (credentialCase x) (credentialCase y) ≡ true → x ≡ y

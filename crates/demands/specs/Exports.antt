@@ -229,7 +229,7 @@ Exported-refusal = (c : Call) → 0 < exportNumber (exportAnswer c) → Unchange
 
 -- ==== "handed back as the stretch of the lent file where it stands"
 
--- the place that is exportAnswer lies in the file, and the value of the setting stands there
+-- the place that is answered lies in the file, and the value of the setting stands there
 pub record StringStands (file : List ℕ) (k : Lookup) (t : CText) : Type 0 where
   pub within : t .start + t .length ≤ length file
   pub value : part (t .start) (t .start + t .length) file ≡ settingValue (k .setting)

@@ -28,7 +28,7 @@ use Rattle.rules.specs.declared.Reading.the-variants as R
 use Rattle.rules.specs.declared.Refusal.{Refusal}
 use Rattle.rules.specs.declared.Refusal.the-variants as N
 use Rattle.settings.specs.Asked.{iwdAnswerOf, iwdServersOf, serviceAnswerOf, serviceServersOf}
-use Rattle.lookups.specs.Lookups.{lookupOf, lookupPlace}
+use Rattle.lookups.specs.Lookups.{Lookup, lookupOf, groupLookup, serviceLookup, lookupPlace}
 use Rattle.joins.specs.Joins as J
 use Rattle.joins.specs.Joins.{Joined, serviceSetting, iwdJoined, serviceJoined, recordAnswer, serversAfter, iwdRecord, iwdRecordServers, serviceRecord, serviceRecordServers}
 use Rattle.writer.specs.Writing.{Writing, writes, refuses, writing, writtenAnswer}
@@ -40,7 +40,7 @@ use Rattle.demands.specs.Demands as D
 use Rattle.demands.specs.Demands.{serviceRefusals, writerRows}
 use Rattle.demands.specs.TableHolds.{InRows, asked-given, asked-service-given, write-given, demand-1-table}
 use Rattle.demands.specs.Exports as E
-use Rattle.demands.specs.Exports.{reads, says, iwd-settings, service-settings, joins, wrote, zeroed, Exported-table, Exported-refusal}
+use Rattle.demands.specs.Exports.{Answered, exportNumber, reads, says, iwd-settings, service-settings, joins, wrote, zeroed, Exported-table, Exported-refusal}
 
 -- the number of a refusal is not 0
 pub refusal-number : (r : Refusal) → eqb (numberOf r) 0 ≡ false
@@ -71,9 +71,13 @@ reading-given : (k : ℕ) (rs : List AnswerRow) (r : Reading) → InRows k rs (a
 reading-given k rs (R.Accepted n m) h = h
 reading-given k rs (R.Refused r l) h = h
 
+-- the number and the line of a lookup are those of a row
+abbrev TextInRows : List ℕ → List AnswerRow → Lookup → Type 0
+TextInRows file rs k =
+    hasRow (length (lines file)) (placed 0 ∷ rs) (textAt (lookupPlace k) .number) (textAt (lookupPlace k) .line) ≡ true
+
 text-given : (file : List ℕ) (rs : List AnswerRow) (a : Answer) (o : Option Entry) →
-    InRows (length (lines file)) (bare 0 ∷ rs) a → IfSome (EntryStands file) o →
-    hasRow (length (lines file)) (placed 0 ∷ rs) (textAt (lookupPlace (lookupOf a o)) .number) (textAt (lookupPlace (lookupOf a o)) .line) ≡ true
+    InRows (length (lines file)) (bare 0 ∷ rs) a → IfSome (EntryStands file) o → TextInRows file rs (lookupOf a o)
 text-given file rs Good none h e = rw (inside {x = 0} 0 (length (lines file)) (omega arith) (omega arith))
 text-given file rs Good (some x) h e =
     rw (inside {x = x .line} 0 (length (lines file)) (omega arith) (between-high {x = x .line} 1 (length (lines file)) (e .line)))
@@ -86,12 +90,11 @@ known-given false w h = refl
 
 module _ (name file : List ℕ) where
   group-text-given : (d : Dialect) (group key : List ℕ) →
-      hasRow (length (lines file)) (placed 0 ∷ ownRows d) (textAt (lookupPlace (lookupOf (asked (reading d name file)) (iwdEntry (sectionsOf d file) group key))) .number) (textAt (lookupPlace (lookupOf (asked (reading d name file)) (iwdEntry (sectionsOf d file) group key))) .line) ≡ true
+      TextInRows file (ownRows d) (groupLookup d group key name file)
   group-text-given d group key =
       text-given file (ownRows d) (asked (reading d name file)) (iwdEntry (sectionsOf d file) group key) (asked-given d name file) (group-stands d file group key)
 
-  service-text-given : (w : ℕ) (key : List ℕ) →
-      hasRow (length (lines file)) (placed 0 ∷ serviceRefusals) (textAt (lookupPlace (lookupOf (askedOf w (reading ConnMan name file)) (serviceSetting w file key))) .number) (textAt (lookupPlace (lookupOf (askedOf w (reading ConnMan name file)) (serviceSetting w file key))) .line) ≡ true
+  service-text-given : (w : ℕ) (key : List ℕ) → TextInRows file serviceRefusals (serviceLookup w key name file)
   service-text-given w key =
       text-given file serviceRefusals (askedOf w (reading ConnMan name file)) (serviceSetting w file key) (asked-service-given name file w) (service-stands ConnMan file w key)
 
@@ -118,31 +121,31 @@ exported-table (E.move-service name file w n f) = demand-1-table (D.move name fi
 
 -- ---- refusals; an answer that is good has the number 0
 
-reading-zeros : (r : Reading) → 0 < readingAt r .number → reads (readingAt r) ≡ zeroed (reads (readingAt r))
+-- a refusal is all zero but for its number and line
+abbrev RefusalZero : Answered → Type 0
+RefusalZero x = 0 < exportNumber x → x ≡ zeroed x
+
+reading-zeros : (r : Reading) → RefusalZero (reads (readingAt r))
 reading-zeros (R.Accepted n m) h = absurd (omega arith)
 reading-zeros (R.Refused r l) h = refl
 
-text-zeros : (a : Answer) (o : Option Entry) → 0 < textAt (lookupPlace (lookupOf a o)) .number →
-    says (textAt (lookupPlace (lookupOf a o))) ≡ zeroed (says (textAt (lookupPlace (lookupOf a o))))
+text-zeros : (a : Answer) (o : Option Entry) → RefusalZero (says (textAt (lookupPlace (lookupOf a o))))
 text-zeros Good o h = absurd (omega arith)
 text-zeros (Refused r l) o h = refl
 
 iwd-zeros : (a : Answer) (gs : List Section) →
-    0 < iwdSettingsAt (iwdAnswerOf a gs) (iwdServersOf a gs lentServers) .number →
-    iwd-settings (iwdSettingsAt (iwdAnswerOf a gs) (iwdServersOf a gs lentServers)) ≡ zeroed (iwd-settings (iwdSettingsAt (iwdAnswerOf a gs) (iwdServersOf a gs lentServers)))
+    RefusalZero (iwd-settings (iwdSettingsAt (iwdAnswerOf a gs) (iwdServersOf a gs lentServers)))
 unfolding keysOf
 iwd-zeros Good gs h = absurd (omega arith)
 iwd-zeros (Refused r l) gs h = refl
 
 service-zeros : (a : Answer) (es : List Entry) →
-    0 < serviceSettingsAt (serviceAnswerOf a es) (serviceServersOf a es lentServers) .number →
-    service-settings (serviceSettingsAt (serviceAnswerOf a es) (serviceServersOf a es lentServers)) ≡ zeroed (service-settings (serviceSettingsAt (serviceAnswerOf a es) (serviceServersOf a es lentServers)))
+    RefusalZero (service-settings (serviceSettingsAt (serviceAnswerOf a es) (serviceServersOf a es lentServers)))
 unfolding keysOf
 service-zeros Good es h = absurd (omega arith)
 service-zeros (Refused r l) es h = refl
 
-record-zeros : (j : Joined) → 0 < recordAnswerAt (recordAnswer j) (serversAfter j lentServers) .number →
-    joins (recordAnswerAt (recordAnswer j) (serversAfter j lentServers)) ≡ zeroed (joins (recordAnswerAt (recordAnswer j) (serversAfter j lentServers)))
+record-zeros : (j : Joined) → RefusalZero (joins (recordAnswerAt (recordAnswer j) (serversAfter j lentServers)))
 record-zeros (J.joined j) h = absurd (omega arith)
 record-zeros (J.refused r l) h = refl
 

@@ -1,4 +1,4 @@
--- Each place that is exportAnswer lies in the file, and the value stands there: of a string, and of each entry of a list.
+-- Each place that is answered lies in the file, and the value stands there: of a string, and of each entry of a list.
 use Prim.Native.Nat.{ℕ, zero, suc, _+_, _-_, _≤_, _<_}
 use native.Mathlib.Omega.{arith}
 use mathlib.Core.Path.{_≡_, refl, ap, ap₂, sym, _∙_, subst}
@@ -28,7 +28,7 @@ use Rattle.rules.specs.Numbers.{numberOf, answerNumber}
 use Rattle.rules.specs.declared.Answer.{Answer}
 use Rattle.rules.specs.declared.Answer.the-variants.{Good, Refused}
 use Rattle.settings.specs.Asked.{serviceAnswerOf, serviceServersOf}
-use Rattle.lookups.specs.Lookups.{lookupOf, lookupPlace}
+use Rattle.lookups.specs.Lookups.{lookupOf, groupLookup, serviceLookup, lookupPlace}
 use Rattle.joins.specs.Joins.{serviceSetting}
 use Rattle.record_layout.specs.Records.{lentServers}
 use Rattle.boundary.specs.Answers.{textAt}
@@ -47,12 +47,12 @@ string-stands file Good (some e) h =
 string-stands file (Refused r l) o h = record { within = omega arith; value = refl }
 
 group-string : (d : Dialect) (name file group key : List ℕ) →
-    StringStands file (lookupOf (asked (reading d name file)) (iwdEntry (sectionsOf d file) group key)) (textAt (lookupPlace (lookupOf (asked (reading d name file)) (iwdEntry (sectionsOf d file) group key))))
+    StringStands file (groupLookup d group key name file) (textAt (lookupPlace (groupLookup d group key name file)))
 group-string d name file group key =
     string-stands file (asked (reading d name file)) (iwdEntry (sectionsOf d file) group key) (group-stands d file group key)
 
 service-string : (name file : List ℕ) (w : ℕ) (key : List ℕ) →
-    StringStands file (lookupOf (askedOf w (reading ConnMan name file)) (serviceSetting w file key)) (textAt (lookupPlace (lookupOf (askedOf w (reading ConnMan name file)) (serviceSetting w file key))))
+    StringStands file (serviceLookup w key name file) (textAt (lookupPlace (serviceLookup w key name file)))
 service-string name file w key =
     string-stands file (askedOf w (reading ConnMan name file)) (serviceSetting w file key) (service-stands ConnMan file w key)
 

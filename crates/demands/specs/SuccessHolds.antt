@@ -99,13 +99,11 @@ record-success : (name file : List ℕ) (w : ℕ) →
 unfolding serviceRecord
 record-success name file w = (there, found)
   where
-    there : Joinable name file w →
-        answerNumber (recordAnswer (J.joinedIfGood (askedOf w (reading ConnMan name file)) (orNoPlace (noRecord (serviceSetting w file)) (serviceJoin (serviceSetting w file)))) .answer) ≡ 0
+    there : Joinable name file w → answerNumber (recordAnswer (J.serviceJoined name file w) .answer) ≡ 0
     there j =
         rw (number-good (askedOf w (reading ConnMan name file)) (service-success name file w .0 (j .service)), j .wireless)
 
-    found : answerNumber (recordAnswer (J.joinedIfGood (askedOf w (reading ConnMan name file)) (orNoPlace (noRecord (serviceSetting w file)) (serviceJoin (serviceSetting w file)))) .answer) ≡ 0 →
-        Joinable name file w
+    found : answerNumber (recordAnswer (J.serviceJoined name file w) .answer) ≡ 0 → Joinable name file w
     found e =
         let h = record-number (askedOf w (reading ConnMan name file)) (noRecord (serviceSetting w file)) (serviceJoin (serviceSetting w file)) e in
         record { service = service-success name file w .1 (h .0); wireless = h .1 }

@@ -23,8 +23,10 @@ but P k c y n = go (eqb c k) refl
     go false e = n (eqb-false c k e)
 
 -- what holds of the five escaped bytes, and of a byte that is shown as it stands, holds of every byte
-pub shown-cases : (P : ℕ → List ℕ → Type 0) (f : Bool) → P 10 (92 ∷ 110 ∷ []) → P 13 (92 ∷ 114 ∷ []) → P 92 (92 ∷ 92 ∷ []) → P 32 (shown f 32) → P 9 (shown f 9)
-    → ((c : ℕ) → (c ≡ 10 → ⊥) → (c ≡ 13 → ⊥) → (c ≡ 92 → ⊥) → (c ≡ 32 → ⊥) → (c ≡ 9 → ⊥) → P c (c ∷ [])) → (c : ℕ) → P c (shown f c)
+pub shown-cases : (P : ℕ → List ℕ → Type 0) (f : Bool) → P 10 (92 ∷ 110 ∷ []) → P 13 (92 ∷ 114 ∷ []) →
+    P 92 (92 ∷ 92 ∷ []) → P 32 (shown f 32) → P 9 (shown f 9)
+    → ((c : ℕ) → (c ≡ 10 → ⊥) → (c ≡ 13 → ⊥) → (c ≡ 92 → ⊥) → (c ≡ 32 → ⊥) → (c ≡ 9 → ⊥) → P c (c ∷ [])) → (c : ℕ) →
+    P c (shown f c)
 shown-cases P f n r b s t other c =
     but Q 10 c n (λ hn. but Q 13 c r (λ hr. but Q 92 c b (λ hb. but Q 32 c s (λ hs. but Q 9 c t (λ ht. subst (P c) (sym (as-is f hn hr hb hs ht)) (other c hn hr hb hs ht))))))
   where

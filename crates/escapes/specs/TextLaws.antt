@@ -27,7 +27,8 @@ abbrev whole : List Range → Bool → Bool
 whole [] b = b
 whole (r ∷ rs) b = false
 
-low : (rs : List Range) → AllTrailing rs → (x : ℕ) → x < 128 → (s : List ℕ) → utf8From rs (x ∷ s) ≡ whole rs (utf8From [] s)
+low : (rs : List Range) → AllTrailing rs → (x : ℕ) → x < 128 → (s : List ℕ) →
+    utf8From rs (x ∷ s) ≡ whole rs (utf8From [] s)
 unfolding utf8From
 low [] a x l s = rw (follow-ascii x (omega arith))
 low (r ∷ rs) (more h a) x l s = rw (trailing-ascii h x l)
@@ -56,7 +57,8 @@ module _ (w t : List ℕ) (rest : (rs : List Range) → AllTrailing rs → utf8F
       blank′ true = pair 92 116 9 (omega arith) (omega arith) (omega arith)
       blank′ false = same 9
 
-escape-from-utf8 : (f : Bool) (t : List ℕ) (rs : List Range) → AllTrailing rs → utf8From rs (escapeFrom f t) ≡ utf8From rs t
+escape-from-utf8 : (f : Bool) (t : List ℕ) (rs : List Range) → AllTrailing rs →
+    utf8From rs (escapeFrom f t) ≡ utf8From rs t
 unfolding escapeFrom
 escape-from-utf8 f [] rs a = refl
 escape-from-utf8 f (c ∷ t) rs a = one (escapeFrom false t) t (λ rs a. escape-from-utf8 false t rs a) rs a f c
@@ -65,7 +67,8 @@ pub escape-utf8 : (t : List ℕ) → utf8 (escape t) ≡ utf8 t
 escape-utf8 t = escape-from-utf8 true t [] end
 
 -- the bytes
-all-shown : (f : Bool) (r : List ℕ) (c : ℕ) → all (textByte true) (shown f c ++ r) ≡ (textByte false c && all (textByte true) r)
+all-shown : (f : Bool) (r : List ℕ) (c : ℕ) →
+    all (textByte true) (shown f c ++ r) ≡ (textByte false c && all (textByte true) r)
 all-shown true r = shown-cases (λ (c : ℕ) (l : List ℕ). all (textByte true) (l ++ r) ≡ (textByte false c && all (textByte true) r)) true refl refl refl refl refl (λ c hn hr hb hs ht. rw (ne-eqb c 13 hr))
 all-shown false r = shown-cases (λ (c : ℕ) (l : List ℕ). all (textByte true) (l ++ r) ≡ (textByte false c && all (textByte true) r)) false refl refl refl refl refl (λ c hn hr hb hs ht. rw (ne-eqb c 13 hr))
 
@@ -91,7 +94,8 @@ utf8-ascii : (b : ℕ) (s : List ℕ) → b ≤ 127 → utf8 (b ∷ s) ≡ utf8 
 unfolding utf8From
 utf8-ascii b s h = rw (follow-ascii b h)
 
-unescaped-utf8 : {s t : List ℕ} (rs : List Range) → AllTrailing rs → Unescaped s t → utf8From rs s ≡ true → utf8From rs t ≡ true
+unescaped-utf8 : {s t : List ℕ} (rs : List Range) → AllTrailing rs → Unescaped s t → utf8From rs s ≡ true →
+    utf8From rs t ≡ true
 unfolding utf8From
 unescaped-utf8 rs k no-more e = e
 unescaped-utf8 [] k (as-it-stands {c} d h) e = unescaped-utf8 (follow c) (follow-trailing c) h e

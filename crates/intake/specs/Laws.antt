@@ -28,11 +28,15 @@ suffix-rest [] n l = go (leb 7 n) refl
     go false e = let k : n < 7 = leb-false 7 n e in rw (ne-eqb n 7 (λ z. omega arith), view-more (word ".config") n k)
 suffix-rest (x ∷ s) n l = go (leb 7 n) refl (λ k. suffix-rest s (n + 1) k)
   where
-    next : (b : Bool) → (n + 1 ≤ 7 → complete (formFrom (Suffix (n + 1)) s) ≡ same s (drop (n + 1) (word ".config"))) → n < 7 → complete (formFrom (cond b (Suffix (n + 1)) Broken) s) ≡ (b && same s (drop (n + 1) (word ".config")))
+    next : (b : Bool) →
+        (n + 1 ≤ 7 → complete (formFrom (Suffix (n + 1)) s) ≡ same s (drop (n + 1) (word ".config"))) → n < 7 →
+        complete (formFrom (cond b (Suffix (n + 1)) Broken) s) ≡ (b && same s (drop (n + 1) (word ".config")))
     next true ih k = ih (omega arith)
     next false ih k = broken-stays s
 
-    go : (b : Bool) → leb 7 n ≡ b → (n + 1 ≤ 7 → complete (formFrom (Suffix (n + 1)) s) ≡ same s (drop (n + 1) (word ".config"))) → complete (formFrom (formAfter (Suffix n) x) s) ≡ same (x ∷ s) (drop n (word ".config"))
+    go : (b : Bool) → leb 7 n ≡ b →
+        (n + 1 ≤ 7 → complete (formFrom (Suffix (n + 1)) s) ≡ same s (drop (n + 1) (word ".config"))) →
+        complete (formFrom (formAfter (Suffix n) x) s) ≡ same (x ∷ s) (drop n (word ".config"))
     go true e ih = let z : n ≡ 7 = omega (arith, leb-true 7 n e) in rw z (broken-stays s)
     go false e ih = let k : n < 7 = leb-false 7 n e in rw (e, view-more (word ".config") n k) (next (eqb x (getD (word ".config") n 0)) ih k)
 
@@ -44,7 +48,9 @@ stem-rest (x ∷ s) = go (isAlphanumeric x) refl (stem-rest s)
     dot true = suffix-rest s 1 (omega arith)
     dot false = broken-stays s
 
-    go : (b : Bool) → isAlphanumeric x ≡ b → complete (formFrom Stem s) ≡ same (after isAlphanumeric s) (word ".config") → complete (formFrom (formAfter Stem x) s) ≡ same (after isAlphanumeric (x ∷ s)) (word ".config")
+    go : (b : Bool) → isAlphanumeric x ≡ b →
+        complete (formFrom Stem s) ≡ same (after isAlphanumeric s) (word ".config") →
+        complete (formFrom (formAfter Stem x) s) ≡ same (after isAlphanumeric (x ∷ s)) (word ".config")
     go true e ih = rw e ih
     go false e ih = rw e (dot (eqb x 46))
 

@@ -254,7 +254,8 @@ module _ (name file : List ℕ) (w : ℕ) {n m : ℕ} (a : reading D.ConnMan nam
       domain-formed (readAs (string D.ConnMan 1 253) (serviceSetting w file (word "Domain")))
       (read-holds GoodDomain (string D.ConnMan 1 253) (serviceSetting w file (word "Domain")) (λ e q x r. good-domain D.ConnMan (e .value) (service-value D.ConnMan name file a w (word "Domain") refl q .text) r))
 
-  service-name-formed : lacks (serviceAt w (sectionsOf D.ConnMan file)) ≡ false → wired (serviceSetting w file) ≡ false →
+  service-name-formed : lacks (serviceAt w (sectionsOf D.ConnMan file)) ≡ false →
+      wired (serviceSetting w file) ≡ false →
       NetworkName (serviceJoin (serviceSetting w file) .name)
   unfolding keysOf
   service-name-formed l r =

@@ -46,29 +46,35 @@ module _ {name file : List ℕ} {w : ℕ} (s : Service name file w) (n f : List 
   pub moving-16-only : moving name file w n f ≡ refuses NoPlace l → earliest (unplaced (serviceSetting w file)) ≡ some l
   moving-16-only e = go (earliest (unplaced (serviceSetting w file))) (sym (moving-service s n f) ∙ e)
     where
-      go : (o : Option ℕ) → orUnplaced o (writingOf (serviceJoin (serviceSetting w file)) n f) ≡ refuses NoPlace l → o ≡ some l
+      go : (o : Option ℕ) → orUnplaced o (writingOf (serviceJoin (serviceSetting w file)) n f) ≡ refuses NoPlace l →
+          o ≡ some l
       go none q = let g = ap numberOf (writing-short (serviceJoin (serviceSetting w file)) n f q) in absurd (omega (arith, g))
       go (some k) q = let g : k ≡ l = cc in ap some g
 
 refused-is : {r t : Refusal} {k l : ℕ} → refuses r k ≡ refuses t l → r ≡ t
 refused-is e = cc
 
-pub moving-never-19 : (name file : List ℕ) (w : ℕ) (n f : List ℕ) {l : ℕ} → moving name file w n f ≡ refuses Malformed l → ⊥
+pub moving-never-19 : (name file : List ℕ) (w : ℕ) (n f : List ℕ) {l : ℕ} →
+    moving name file w n f ≡ refuses Malformed l → ⊥
 unfolding moving
 moving-never-19 name file w n f {l} e = go (reading D.ConnMan name file) refl e
   where
     other : {r : Refusal} {k : ℕ} → refuses r k ≡ refuses Malformed l → numberOf r ≤ 18 → ⊥
     other q h = let g = ap numberOf (refused-is q) in omega (arith, g, h)
 
-    placed : (o : Option ℕ) → orUnplaced o (writingOf (serviceJoin (serviceSetting w file)) n f) ≡ refuses Malformed l → ⊥
+    placed : (o : Option ℕ) →
+        orUnplaced o (writingOf (serviceJoin (serviceSetting w file)) n f) ≡ refuses Malformed l → ⊥
     placed none q = let g = ap numberOf (writing-short (serviceJoin (serviceSetting w file)) n f q) in omega (arith, g)
     placed (some k) q = other q (omega arith)
 
-    go : (r : Reading) → reading D.ConnMan name file ≡ r → movedIfGood (askedOf w r) (movingOf (serviceSetting w file) n f) ≡ refuses Malformed l → ⊥
+    go : (r : Reading) → reading D.ConnMan name file ≡ r →
+        movedIfGood (askedOf w r) (movingOf (serviceSetting w file) n f) ≡ refuses Malformed l → ⊥
     go (R.Refused r k) q e = other e (omega (arith, reading-number D.ConnMan name file q))
     go (R.Accepted k m) q e = numbered (between 1 m w) e
       where
-        numbered : (b : Bool) → movedIfGood (cond b A.Good (A.Refused NoService 0)) (movingOf (serviceSetting w file) n f) ≡ refuses Malformed l → ⊥
+        numbered : (b : Bool) →
+            movedIfGood (cond b A.Good (A.Refused NoService 0)) (movingOf (serviceSetting w file) n f) ≡ refuses Malformed l →
+            ⊥
         numbered true e = placed (earliest (unplaced (serviceSetting w file))) e
         numbered false e = other e (omega arith)
 
@@ -77,26 +83,35 @@ moving-never-19 name file w n f {l} e = go (reading D.ConnMan name file) refl e
 refused-good : {P : Type 0} {r : Refusal} {l : ℕ} → A.Refused r l ≡ A.Good → P
 refused-good e = let z : _≡_ {A = ℕ} 0 1 = cc in absurd (omega arith)
 
-pub good-movable : (name file : List ℕ) (w : ℕ) (n f : List ℕ) {x y : List ℕ} {a : Written} → Writes (moving name file w n f) n f x y a → a .answer ≡ A.Good → Movable name file w n f
+pub good-movable : (name file : List ℕ) (w : ℕ) (n f : List ℕ) {x y : List ℕ} {a : Written} →
+    Writes (moving name file w n f) n f x y a → a .answer ≡ A.Good → Movable name file w n f
 unfolding moving
 good-movable name file w n f {a = a} h e = go (reading D.ConnMan name file) refl (sym (ap (λ (v : Written). v .answer) (h .answer)) ∙ e)
   where
     j : Join
     j = serviceJoin (serviceSetting w file)
 
-    roomed : Service name file w → unplaced (serviceSetting w file) ≡ [] → (b c : Bool) → room (nameText j) n ≡ b → room (fileText j) f ≡ c → writtenAnswer (cond (b && c) (writes (nameText j) (fileText j)) (refuses ShortBuffer 0)) .answer ≡ A.Good → Movable name file w n f
+    roomed : Service name file w → unplaced (serviceSetting w file) ≡ [] → (b c : Bool) → room (nameText j) n ≡ b →
+        room (fileText j) f ≡ c →
+        writtenAnswer (cond (b && c) (writes (nameText j) (fileText j)) (refuses ShortBuffer 0)) .answer ≡ A.Good →
+        Movable name file w n f
     roomed s p true true q r e = record { service = s; placed = p; name-room = leb-true (length (nameText j)) (length n) q; file-room = leb-true (length (fileText j)) (length f) r }
     roomed s p true false q r e = refused-good e
     roomed s p false c q r e = refused-good e
 
-    listed : Service name file w → (o : Option ℕ) → earliest (unplaced (serviceSetting w file)) ≡ o → writtenAnswer (orUnplaced o (writingOf j n f)) .answer ≡ A.Good → Movable name file w n f
+    listed : Service name file w → (o : Option ℕ) → earliest (unplaced (serviceSetting w file)) ≡ o →
+        writtenAnswer (orUnplaced o (writingOf j n f)) .answer ≡ A.Good → Movable name file w n f
     listed s none q e = roomed s (earliest-none (unplaced (serviceSetting w file)) q) (room (nameText j) n) (room (fileText j) f) refl refl e
     listed s (some l) q e = refused-good e
 
-    go : (r : Reading) → reading D.ConnMan name file ≡ r → writtenAnswer (movedIfGood (askedOf w r) (movingOf (serviceSetting w file) n f)) .answer ≡ A.Good → Movable name file w n f
+    go : (r : Reading) → reading D.ConnMan name file ≡ r →
+        writtenAnswer (movedIfGood (askedOf w r) (movingOf (serviceSetting w file) n f)) .answer ≡ A.Good →
+        Movable name file w n f
     go (R.Refused r k) q e = refused-good e
     go (R.Accepted k m) q e = numbered (between 1 m w) refl e
       where
-        numbered : (b : Bool) → between 1 m w ≡ b → writtenAnswer (movedIfGood (cond b A.Good (A.Refused NoService 0)) (movingOf (serviceSetting w file) n f)) .answer ≡ A.Good → Movable name file w n f
+        numbered : (b : Bool) → between 1 m w ≡ b →
+            writtenAnswer (movedIfGood (cond b A.Good (A.Refused NoService 0)) (movingOf (serviceSetting w file) n f)) .answer ≡ A.Good →
+            Movable name file w n f
         numbered true b e = listed (record { settings = k; services = m; accepted = q; low = between-low {x = w} 1 m b; high = between-high {x = w} 1 m b }) (earliest (unplaced (serviceSetting w file))) refl e
         numbered false b e = refused-good e

@@ -60,4 +60,5 @@ pub record RowLine (file x : List ℕ) (b : ℕ) (f : (List ℕ → Option Entry
 
 -- the move of that service: the answer a, and the buffers x and y, which held n and f
 pub record MovesBy (file t : List ℕ) (b : ℕ) (n f x y : List ℕ) (a : Written) : Type 0 where
-  pub is : (es : List Entry) → RowKeeps ConnMan file t b Service es → Writes (movingOf (λ k. entryOf k es) n f) n f x y a
+  pub is : (es : List Entry) → RowKeeps ConnMan file t b Service es →
+      Writes (movingOf (λ k. entryOf k es) n f) n f x y a

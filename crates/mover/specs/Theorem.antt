@@ -66,7 +66,8 @@ module _ {name file : List ℕ} {w : ℕ} (s : Service name file w) where
     move-writing n f = moving-service n f ∙ ap (λ (o : Option ℕ). orUnplaced o (writingOf (serviceJoin (serviceSetting w file)) n f)) (none-earliest (unplaced (serviceSetting w file)) p)
 
     -- the move is what the writer answers of the service's record
-    pub move-written : (n f : List ℕ) → moving name file w n f ≡ writing (laid (serviceJoin (serviceSetting w file))) (laidServers (serviceJoin (serviceSetting w file))) n f
+    pub move-written : (n f : List ℕ) →
+        moving name file w n f ≡ writing (laid (serviceJoin (serviceSetting w file))) (laidServers (serviceJoin (serviceSetting w file))) n f
     unfolding writing
     move-written n f =
         let j = serviceJoin (serviceSetting w file) in
@@ -76,7 +77,8 @@ module _ {name file : List ℕ} {w : ℕ} (s : Service name file w) where
 -- ---- demand 3
 
 -- buffers with room
-roomy : (j : Join) (n f : List ℕ) → length (nameText j) ≤ length n → length (fileText j) ≤ length f → writingOf j n f ≡ writes (nameText j) (fileText j)
+roomy : (j : Join) (n f : List ℕ) → length (nameText j) ≤ length n → length (fileText j) ≤ length f →
+    writingOf j n f ≡ writes (nameText j) (fileText j)
 roomy j n f h g = ap₂ (λ (a b : Bool). cond (a && b) (writes (nameText j) (fileText j)) (refuses ShortBuffer 0)) (le-leb (length (nameText j)) (length n) h) (le-leb (length (fileText j)) (length f) g)
 
 -- the new bytes, "as many as the answer counts"
@@ -108,16 +110,21 @@ module _ {name file : List ℕ} {w : ℕ} {n f : List ℕ} (m : Movable name fil
       }
 
   -- "Two records are equal when they agree in every place, unused ones included": so are the two that are answered, and their servers
-  pub record-kept : {x y : List ℕ} {a : Written} → Writes (moving name file w n f) n f x y a → iwdRecord (take (a .«name_len») x) (take (a .«file_len») y) ≡ serviceRecord name file w
+  pub record-kept : {x y : List ℕ} {a : Written} → Writes (moving name file w n f) n f x y a →
+      iwdRecord (take (a .«name_len») x) (take (a .«file_len») y) ≡ serviceRecord name file w
   unfolding iwdRecord serviceRecord
   record-kept h = let d = demand-3 h in ap recordAnswer (d .written ∙ sym (d .service))
 
-  pub servers-kept : {x y : List ℕ} {a : Written} → Writes (moving name file w n f) n f x y a → (old : List (List ℕ)) → iwdRecordServers (take (a .«name_len») x) (take (a .«file_len») y) old ≡ serviceRecordServers name file w old
+  pub servers-kept : {x y : List ℕ} {a : Written} → Writes (moving name file w n f) n f x y a →
+      (old : List (List ℕ)) →
+      iwdRecordServers (take (a .«name_len») x) (take (a .«file_len») y) old ≡ serviceRecordServers name file w old
   unfolding iwdRecordServers serviceRecordServers
   servers-kept h old = let d = demand-3 h in ap (λ (v : Joined). serversAfter v old) (d .written ∙ sym (d .service))
 
   -- "No service that needs a key becomes one that needs none", nor the other way
-  pub key-kept : {x y : List ℕ} {a : Written} → Writes (moving name file w n f) n f x y a → {i j : Join} → serviceJoined name file w ≡ joined i → iwdJoined (take (a .«name_len») x) (take (a .«file_len») y) ≡ joined j → needsKey j ≡ needsKey i
+  pub key-kept : {x y : List ℕ} {a : Written} → Writes (moving name file w n f) n f x y a → {i j : Join} →
+      serviceJoined name file w ≡ joined i → iwdJoined (take (a .«name_len») x) (take (a .«file_len») y) ≡ joined j →
+      needsKey j ≡ needsKey i
   key-kept h {i} {j} p q =
       let d = demand-3 h in
       let e : joined j ≡ joined i = sym q ∙ d .written ∙ sym (d .service) ∙ p in

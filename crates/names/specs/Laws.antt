@@ -84,7 +84,8 @@ stem-read (c ∷ s) n e =
     let z = sized-some 1 32 (cond (eqb c 61) (hexName s) (only (all isPlain (c ∷ s)) (some (c ∷ s)))) e in
     (z .0, go (eqb c 61) refl (z .1))
   where
-    go : (t : Bool) → eqb c 61 ≡ t → cond t (hexName s) (only (all isPlain (c ∷ s)) (some (c ∷ s))) ≡ some n → Stem (c ∷ s) n
+    go : (t : Bool) → eqb c 61 ≡ t → cond t (hexName s) (only (all isPlain (c ∷ s)) (some (c ∷ s))) ≡ some n →
+        Stem (c ∷ s) n
     go true q r = subst (λ (x : ℕ). Stem (x ∷ s) n) (sym (eqb-true c 61 q)) (read-hex s n r)
     go false q r = read-plain (c ∷ s) n r
 
@@ -106,20 +107,23 @@ stem-dotless n b = go (all isPlain n) refl
     go true e = all-other isPlain 46 (not-plain .1) n e
     go false e = all-other isLowerHex 46 refl (hex n) (hex-lower n b)
 
-network-dotted : (n r : List ℕ) (k : Suffix) → NetworkName n → named (46 ∷ r) suffixes ≡ some k → networkOf (stem n ++ 46 ∷ r) ≡ network k n
+network-dotted : (n r : List ℕ) (k : Suffix) → NetworkName n → named (46 ∷ r) suffixes ≡ some k →
+    networkOf (stem n ++ 46 ∷ r) ≡ network k n
 unfolding networkOf
 network-dotted n r k w e =
     let d = stem-dotless n (w .bytes) in
     rw (after-append (other 46) (stem n) 46 r d refl, front-append (other 46) (stem n) 46 r d refl, e, name-stem n w)
 
-pub network-file-name : (n : List ℕ) (k : Suffix) → NetworkName n → networkOf (fileName n k) ≡ some (record { name = n; suffix = k })
+pub network-file-name : (n : List ℕ) (k : Suffix) → NetworkName n →
+    networkOf (fileName n k) ≡ some (record { name = n; suffix = k })
 network-file-name n Open w = network-dotted n _ Open w refl
 network-file-name n Psk w = network-dotted n _ Psk w refl
 
 suffix-named : (w : List ℕ) (k : Suffix) → named w suffixes ≡ some k → suffixOf k ≡ w
 suffix-named w k e = go (same w (suffixOf Open)) refl (same w (suffixOf Psk)) refl e
   where
-    go : (a : Bool) → same w (suffixOf Open) ≡ a → (b : Bool) → same w (suffixOf Psk) ≡ b → cond a (some Open) (cond b (some Psk) none) ≡ some k → suffixOf k ≡ w
+    go : (a : Bool) → same w (suffixOf Open) ≡ a → (b : Bool) → same w (suffixOf Psk) ≡ b →
+        cond a (some Open) (cond b (some Psk) none) ≡ some k → suffixOf k ≡ w
     go true p b q r = rw (← Option·some-injective Open k r, same-eq w (suffixOf Open) p)
     go false p true q r = rw (← Option·some-injective Psk k r, same-eq w (suffixOf Psk) q)
     go false p false q r = absurd (Option·none-ne-some k r)

@@ -29,7 +29,8 @@ then {t} {u} {o} {x} {y} {a} {b} {c} f g =
 pub room-first : (t u : List ℕ) (a : ℕ) {n : ℕ} → a + length (t ++ u) ≤ n → a + length t ≤ n
 room-first t u a h = omega (arith, h, length-append t u)
 
-pub room-then : {t o x : List ℕ} {a b : ℕ} → Wrote t a o x b → (u : List ℕ) → a + length (t ++ u) ≤ length o → b + length u ≤ length x
+pub room-then : {t o x : List ℕ} {a b : ℕ} → Wrote t a o x b → (u : List ℕ) → a + length (t ++ u) ≤ length o →
+    b + length u ≤ length x
 room-then {t} w u h = omega (arith, h, length-append t u, w .next, w .long)
 
 -- what a writer leaves that began at the front
@@ -37,7 +38,8 @@ pub wrote-front : {t o x : List ℕ} {r : ℕ} → Wrote t 0 o x r → x ≡ t +
 wrote-front {t} {o} w = w .text ∙ ap (λ (k : ℕ). t ++ drop k o) (zero-add (length t))
 
 -- a writer at the front, and a second one that was lent the rest, are one writer of both texts
-pub then-rest : {t u o x y : List ℕ} {a r : ℕ} → Wrote t 0 o x a → Wrote u 0 (midOf a (length x - a) x) y r → Wrote (t ++ u) 0 o (putMid a (length x - a) x y) (a + r)
+pub then-rest : {t u o x y : List ℕ} {a r : ℕ} → Wrote t 0 o x a → Wrote u 0 (midOf a (length x - a) x) y r →
+    Wrote (t ++ u) 0 o (putMid a (length x - a) x y) (a + r)
 then-rest {t} {u} {o} {x} {y} {a} {r} f g =
     let n : length (drop a x) ≤ length x - a = simp length-drop (omega arith) in
     let e : a ≡ length t = omega (arith, f .next) in
@@ -67,7 +69,8 @@ wrote-two o a x y h =
     let e : a + 1 + 1 ≡ a + 2 = omega arith in
     rw e at (then (wrote-byte o a x (omega arith)) (wrote-byte (set o a x) (a + 1) y (rw (length-set o a x) (omega arith))))
 
-pub wrote-three : (o : List ℕ) (a x y z : ℕ) → a + 3 ≤ length o → Wrote (x ∷ y ∷ z ∷ []) a o (set (set (set o a x) (a + 1) y) (a + 2) z) (a + 3)
+pub wrote-three : (o : List ℕ) (a x y z : ℕ) → a + 3 ≤ length o →
+    Wrote (x ∷ y ∷ z ∷ []) a o (set (set (set o a x) (a + 1) y) (a + 2) z) (a + 3)
 wrote-three o a x y z h =
     let e : a + 2 + 1 ≡ a + 3 = omega arith in
     rw e at (then (wrote-two o a x y (omega arith)) (wrote-byte (set (set o a x) (a + 1) y) (a + 2) z (rw (length-set (set o a x) (a + 1) y, length-set o a x) (omega arith))))

@@ -24,7 +24,8 @@ use Rattle.intake.specs.Enough.{reading-name}
 use Rattle.qewaris_check.specs.Answers.{longAnswer}
 
 -- a bad name is bad in either dialect
-reading-unnamed : (d g : Dialect) (a b file : List ℕ) → nameIn d a ≡ none → nameIn g b ≡ none → reading d a file ≡ reading g b file
+reading-unnamed : (d g : Dialect) (a b file : List ℕ) → nameIn d a ≡ none → nameIn g b ≡ none →
+    reading d a file ≡ reading g b file
 unfolding reading
 reading-unnamed d g a b file e q = rw (e, q)
 
@@ -55,6 +56,7 @@ long-answer f file l = ap (λ (b : Bool). cond b (reading ConnMan (word "a.confi
     other e Iwd = reading-unnamed Iwd Iwd [] f file no-name (rw (long-unnamed f l))
     other e ConnMan = reading-unnamed Iwd ConnMan [] f file no-name (rw e)
 
-    go : (b : Bool) → connmanName f ≡ b → cond b (reading ConnMan (word "a.config") file) (reading Iwd [] file) ≡ reading (dialectOf f) f file
+    go : (b : Bool) → connmanName f ≡ b →
+        cond b (reading ConnMan (word "a.config") file) (reading Iwd [] file) ≡ reading (dialectOf f) f file
     go true e = reading-name ConnMan (word "a.config") f file (rw e) ∙ ap (λ (d : Dialect). reading d f file) (sym (connman-ends f e))
     go false e = other e (dialectOf f)

@@ -25,7 +25,8 @@ use Rattle.intake.specs.Enough.{reading-name}
 
 module _ (w : ℕ) (n f : List ℕ) where
   -- a name counts only by the reading
-  moving-name : (a b file : List ℕ) → reading ConnMan a file ≡ reading ConnMan b file → moving a file w n f ≡ moving b file w n f
+  moving-name : (a b file : List ℕ) → reading ConnMan a file ≡ reading ConnMan b file →
+      moving a file w n f ≡ moving b file w n f
   unfolding moving
   moving-name a b file e = ap (λ (r : Reading). movedIfGood (askedOf w r) (movingOf (serviceSetting w file) n f)) e
 
@@ -44,8 +45,10 @@ module _ (w : ℕ) (n f : List ℕ) where
           moving-large name (take m file) (omega (arith, length-take m file)) ∙ sym (moving-large name file (omega arith))
 
   -- every complete name counts as one, and any other as none
-  pub moving-complete : (line file : List ℕ) → complete (formFrom Empty line) ≡ true → moving (word "a.config") file w n f ≡ moving line file w n f
+  pub moving-complete : (line file : List ℕ) → complete (formFrom Empty line) ≡ true →
+      moving (word "a.config") file w n f ≡ moving line file w n f
   moving-complete line file e = moving-name (word "a.config") line file (reading-name ConnMan (word "a.config") line file (rw (sym (form-connman line) ∙ e)))
 
-  pub moving-incomplete : (line file : List ℕ) → complete (formFrom Empty line) ≡ false → moving [] file w n f ≡ moving line file w n f
+  pub moving-incomplete : (line file : List ℕ) → complete (formFrom Empty line) ≡ false →
+      moving [] file w n f ≡ moving line file w n f
   moving-incomplete line file e = moving-name [] line file (reading-name ConnMan [] line file (rw (sym (form-connman line) ∙ e)))

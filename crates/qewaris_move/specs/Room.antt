@@ -45,18 +45,23 @@ module _ {l : ℕ} where
   never-writes : {a b : List ℕ} → writes a b ≡ refuses ShortBuffer l → ⊥
   never-writes e = let z : _≡_ {A = ℕ} 0 1 = cc in omega arith
 
-  pub moving-never-17 : (name file : List ℕ) (w : ℕ) (n f : List ℕ) → 70 ≤ length n → 858 ≤ length f → moving name file w n f ≡ refuses ShortBuffer l → ⊥
+  pub moving-never-17 : (name file : List ℕ) (w : ℕ) (n f : List ℕ) → 70 ≤ length n → 858 ≤ length f →
+      moving name file w n f ≡ refuses ShortBuffer l → ⊥
   unfolding moving
   moving-never-17 name file w n f h g e = go (reading ConnMan name file) refl e
     where
-      placed : Service name file w → (o : Option ℕ) → earliest (unplaced (serviceSetting w file)) ≡ o → orUnplaced o (writingOf (serviceJoin (serviceSetting w file)) n f) ≡ refuses ShortBuffer l → ⊥
+      placed : Service name file w → (o : Option ℕ) → earliest (unplaced (serviceSetting w file)) ≡ o →
+          orUnplaced o (writingOf (serviceJoin (serviceSetting w file)) n f) ≡ refuses ShortBuffer l → ⊥
       placed s none q d = never-writes (sym (movable-writes (placed-movable s (earliest-none (unplaced (serviceSetting w file)) q) {n = n} {f = f} h g)) ∙ e)
       placed s (some k) q d = omega (arith, other-number d)
 
-      go : (r : Reading) → reading ConnMan name file ≡ r → movedIfGood (askedOf w r) (movingOf (serviceSetting w file) n f) ≡ refuses ShortBuffer l → ⊥
+      go : (r : Reading) → reading ConnMan name file ≡ r →
+          movedIfGood (askedOf w r) (movingOf (serviceSetting w file) n f) ≡ refuses ShortBuffer l → ⊥
       go (R.Refused r k) q d = omega (arith, other-number d, reading-number ConnMan name file q)
       go (R.Accepted k m) q d = numbered (between 1 m w) refl d
         where
-          numbered : (b : Bool) → between 1 m w ≡ b → movedIfGood (cond b A.Good (A.Refused NoService 0)) (movingOf (serviceSetting w file) n f) ≡ refuses ShortBuffer l → ⊥
+          numbered : (b : Bool) → between 1 m w ≡ b →
+              movedIfGood (cond b A.Good (A.Refused NoService 0)) (movingOf (serviceSetting w file) n f) ≡ refuses ShortBuffer l →
+              ⊥
           numbered true b d = placed (record { settings = k; services = m; accepted = q; low = between-low {x = w} 1 m b; high = between-high {x = w} 1 m b }) (earliest (unplaced (serviceSetting w file))) refl d
           numbered false b d = omega (arith, other-number d)

@@ -16,7 +16,8 @@ good-eq : (a : Answer) → isGood a ≡ true → a ≡ Good
 good-eq Good e = refl
 good-eq (Refused r l) e = absurd (false≢true e)
 
-pub same-answer-eq : (x : RecordAnswer) (t : List (List ℕ)) (r : JoinRecord) (s : List (List ℕ)) → sameAnswer x t r s ≡ true → (x ≡ record { answer = Good; «record» = r }) × (t ≡ s)
+pub same-answer-eq : (x : RecordAnswer) (t : List (List ℕ)) (r : JoinRecord) (s : List (List ℕ)) →
+    sameAnswer x t r s ≡ true → (x ≡ record { answer = Good; «record» = r }) × (t ≡ s)
 same-answer-eq x t r s e =
     let k = and-true (isGood (x .answer)) (sameRecord (x .«record») r && sameServers t s) e in
     let l = and-true (sameRecord (x .«record») r) (sameServers t s) (k .1) in

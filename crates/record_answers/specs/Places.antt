@@ -17,4 +17,5 @@ ofService at = orNoPlace (noRecord at) (serviceJoin at)
 -- the same of the service whose settings the row from b on keeps
 pub record RowAnswered (file x : List ℕ) (b : ℕ) (old new : List (List ℕ)) (r : RecordAnswer) : Type 0 where
   pub is : (es : List Entry) → RowKeeps ConnMan file x b G.Service es → r ≡ recordAnswer (ofService (λ k. entryOf k es))
-  pub servers : (es : List Entry) → RowKeeps ConnMan file x b G.Service es → new ≡ serversAfter (ofService (λ k. entryOf k es)) old
+  pub servers : (es : List Entry) → RowKeeps ConnMan file x b G.Service es →
+      new ≡ serversAfter (ofService (λ k. entryOf k es)) old

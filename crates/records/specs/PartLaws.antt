@@ -68,7 +68,8 @@ are-drop (suc n) (a ∷ l) h = are-drop n l (are-cons a l h .1)
 
 -- ---- a text in an array, and back
 
-pub held-padded : (low high m : ℕ) (t : List ℕ) → low ≤ length t → length t ≤ high → held low high (length t) (padded m t) ≡ true
+pub held-padded : (low high m : ℕ) (t : List ℕ) → low ≤ length t → length t ≤ high →
+    held low high (length t) (padded m t) ≡ true
 held-padded low high m t h k = rw (inside {x = length t} low high h k, drop-append-seam t (replicate (m - length t) 0)) (zeros-replicate (m - length t))
 
 pub text-padded : (m : ℕ) (t : List ℕ) → take (length t) (padded m t) ≡ t
@@ -94,13 +95,15 @@ module _ (low high m n : ℕ) (a : List ℕ) (l : length a ≡ m) (fits : high �
 
 -- ---- the credential
 
-pub secret-formed : (x : Secret) → GoodSecret x → credentialFormed (credentialOf x) (length (passphraseOf x)) (padded 63 (passphraseOf x)) (keyOf x) ≡ true
+pub secret-formed : (x : Secret) → GoodSecret x →
+    credentialFormed (credentialOf x) (length (passphraseOf x)) (padded 63 (passphraseOf x)) (keyOf x) ≡ true
 secret-formed noSecret g = refl
 secret-formed (key k) g = refl
 secret-formed (passphrase p) g =
     rw (held-padded 8 63 63 p (g .low) (g .high), text-padded 63 p, g .text) (zeros-replicate 32)
 
-pub secret-joined : (x : Secret) → secretOf (credentialOf x) (take (length (passphraseOf x)) (padded 63 (passphraseOf x))) (keyOf x) ≡ x
+pub secret-joined : (x : Secret) →
+    secretOf (credentialOf x) (take (length (passphraseOf x)) (padded 63 (passphraseOf x))) (keyOf x) ≡ x
 secret-joined noSecret = refl
 secret-joined (passphrase p) = ap passphrase (text-padded 63 p)
 secret-joined (key k) = refl
@@ -147,7 +150,8 @@ module _ (n : ℕ) (p k : List ℕ) (lp : length p ≡ 63) (lk : length k ≡ 32
 
 -- ---- IPv4
 
-pub ipv4-formed : (x : IPv4) → GoodIpv4 x → ipv4Formed (methodOf x) (addressOf x) (lengthOf x) (hasGateway x) (gatewayOf x) ≡ true
+pub ipv4-formed : (x : IPv4) → GoodIpv4 x →
+    ipv4Formed (methodOf x) (addressOf x) (lengthOf x) (hasGateway x) (gatewayOf x) ≡ true
 ipv4-formed dhcp g = refl
 ipv4-formed off g = refl
 ipv4-formed (static a n none) g = rw (inside {x = n} 1 32 (g .low) (g .high))

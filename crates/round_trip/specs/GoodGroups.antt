@@ -24,7 +24,8 @@ use Rattle.round_trip.specs.RowValues.{hidden-row, enabled-row, passphra
 
 -- ---- good settings
 
-good-rows-append : (d : Dialect) (g : Group) (a b : List WrittenRow) → GoodRows d g a → GoodRows d g b → GoodRows d g (a ++ b)
+good-rows-append : (d : Dialect) (g : Group) (a b : List WrittenRow) → GoodRows d g a → GoodRows d g b →
+    GoodRows d g (a ++ b)
 good-rows-append d g [] b v w = w
 good-rows-append d g (r ∷ a) b v w = (v .0, good-rows-append d g a b (v .1) w)
 
@@ -54,7 +55,8 @@ domain-good : (d : List ℕ) → GoodDomain d → GoodRows Iwd G.Ipv4 (domainRow
 domain-good [] w = tt
 domain-good (c ∷ d) w = (domain-row c d w, tt)
 
-ipv4-good : (i : IPv4) (l : List (List ℕ)) (d : List ℕ) → GoodIpv4 i → GoodServers l → GoodDomain d → GoodRows Iwd G.Ipv4 (ipv4Rows i l d)
+ipv4-good : (i : IPv4) (l : List (List ℕ)) (d : List ℕ) → GoodIpv4 i → GoodServers l → GoodDomain d →
+    GoodRows Iwd G.Ipv4 (ipv4Rows i l d)
 ipv4-good i l d u v w = good-rows-append Iwd G.Ipv4 (numberRows i ++ serverRows l) (domainRows d) (good-rows-append Iwd G.Ipv4 (numberRows i) (serverRows l) (number-good i u) (server-good l v)) (domain-good d w)
 
 ipv6-good : (v : Ipv6) → GoodRows Iwd G.Ipv6 (ipv6Rows v)
@@ -73,7 +75,9 @@ secret-apart (passphrase p) = refl
 secret-apart (key k) = refl
 
 -- behind settings with neither key
-behind-apart : (done : List WrittenRow) → rowValue (word "DNS") done ≡ none → rowValue (word "DomainName") done ≡ none → (l : List (List ℕ)) (d : List ℕ) → keysApart done (serverRows l ++ domainRows d) ≡ true
+behind-apart : (done : List WrittenRow) → rowValue (word "DNS") done ≡ none →
+    rowValue (word "DomainName") done ≡ none → (l : List (List ℕ)) (d : List ℕ) →
+    keysApart done (serverRows l ++ domainRows d) ≡ true
 behind-apart done p q [] [] = refl
 behind-apart done p q [] (c ∷ d) = rw q
 behind-apart done p q (a ∷ l) [] = rw p
@@ -112,7 +116,8 @@ names-apart j = refl
 
 -- ---- what each key of the group IPv4 has: the values of one of its parts
 
-no-number : (k : List ℕ) → same k (word "Address") ≡ false → same k (word "Netmask") ≡ false → same k (word "Gateway") ≡ false → (i : IPv4) → rowValue k (numberRows i) ≡ none
+no-number : (k : List ℕ) → same k (word "Address") ≡ false → same k (word "Netmask") ≡ false →
+    same k (word "Gateway") ≡ false → (i : IPv4) → rowValue k (numberRows i) ≡ none
 no-number k p q r dhcp = refl
 no-number k p q r off = refl
 no-number k p q r (static a n none) = rw (p, q)
@@ -127,7 +132,8 @@ no-domain k p [] = refl
 no-domain k p (c ∷ d) = rw p
 
 module _ (i : IPv4) (l : List (List ℕ)) (d : List ℕ) where
-  pub number-value : (k : List ℕ) → same k (word "DNS") ≡ false → same k (word "DomainName") ≡ false → rowValue k (ipv4Rows i l d) ≡ rowValue k (numberRows i)
+  pub number-value : (k : List ℕ) → same k (word "DNS") ≡ false → same k (word "DomainName") ≡ false →
+      rowValue k (ipv4Rows i l d) ≡ rowValue k (numberRows i)
   number-value k p q = value-before k (numberRows i ++ serverRows l) (domainRows d) (no-domain k q d) ∙ value-before k (numberRows i) (serverRows l) (no-server k p l)
 
   pub server-value : rowValue (word "DNS") (ipv4Rows i l d) ≡ rowValue (word "DNS") (serverRows l)

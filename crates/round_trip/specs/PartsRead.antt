@@ -36,22 +36,26 @@ unfolding flag
 hidden-rows-read false = refl
 hidden-rows-read true = refl
 
-pub secret-rows-read : (c : Secret) → GoodSecret c → secretFrom (andThen (rowValue (word "Passphrase") (secretRows c)) (K.passphrase Iwd)) (andThen (rowValue (word "PreSharedKey") (secretRows c)) HexValues.preSharedKey) ≡ c
+pub secret-rows-read : (c : Secret) → GoodSecret c →
+    secretFrom (andThen (rowValue (word "Passphrase") (secretRows c)) (K.passphrase Iwd)) (andThen (rowValue (word "PreSharedKey") (secretRows c)) HexValues.preSharedKey) ≡ c
 secret-rows-read noSecret w = refl
 secret-rows-read (passphrase p) w = rw (string-escape 8 63 p (w .low) (w .high))
 secret-rows-read (key k) w = rw (pre-shared-key-hex k (w .long) (w .bytes))
 
-pub number-rows-read : (i : IPv4) → GoodIpv4 i → hasPlace i ≡ true → staticOrDhcp (andThen (rowValue (word "Address") (numberRows i)) address) (andThen (rowValue (word "Netmask") (numberRows i)) netmask) (andThen (rowValue (word "Gateway") (numberRows i)) address) ≡ i
+pub number-rows-read : (i : IPv4) → GoodIpv4 i → hasPlace i ≡ true →
+    staticOrDhcp (andThen (rowValue (word "Address") (numberRows i)) address) (andThen (rowValue (word "Netmask") (numberRows i)) netmask) (andThen (rowValue (word "Gateway") (numberRows i)) address) ≡ i
 number-rows-read dhcp w p = refl
 number-rows-read off w p = absurd (true≢false (sym p))
 number-rows-read (static a n none) w p = absurd (true≢false (sym p))
 number-rows-read (static a n (some g)) w p = rw (address-dotted a (w .address), netmask-dotted n (w .low) (w .high), address-dotted g (w .gateway))
 
-pub server-rows-read : (l : List (List ℕ)) → GoodServers l → orEmpty (andThen (rowValue (word "DNS") (serverRows l)) (addresses Spaces)) ≡ l
+pub server-rows-read : (l : List (List ℕ)) → GoodServers l →
+    orEmpty (andThen (rowValue (word "DNS") (serverRows l)) (addresses Spaces)) ≡ l
 server-rows-read [] w = refl
 server-rows-read (a ∷ l) w = rw (servers-listed a l w)
 
-pub domain-rows-read : (d : List ℕ) → GoodDomain d → orEmpty (andThen (rowValue (word "DomainName") (domainRows d)) (string Iwd 1 253)) ≡ d
+pub domain-rows-read : (d : List ℕ) → GoodDomain d →
+    orEmpty (andThen (rowValue (word "DomainName") (domainRows d)) (string Iwd 1 253)) ≡ d
 domain-rows-read [] w = refl
 domain-rows-read (c ∷ d) w = rw (string-escape 1 253 (c ∷ d) (omega arith) (w .high))
 
@@ -68,14 +72,18 @@ numbersLack gs =
     (has (word "IPv4") (word "Address") gs && not (has (word "IPv4") (word "Gateway") gs))
     || ((has (word "IPv4") (word "Gateway") gs || (has (word "IPv4") (word "Netmask") gs || has (word "IPv4") (word "Broadcast") gs)) && not (has (word "IPv4") (word "Address") gs))
 
-pub numbers-obey : (gs : List Section) (i : IPv4) → hasPlace i ≡ true → ((k : List ℕ) → same k (word "DNS") ≡ false → same k (word "DomainName") ≡ false → has (word "IPv4") k gs ≡ isSome (rowValue k (numberRows i))) → numbersLack gs ≡ false
+pub numbers-obey : (gs : List Section) (i : IPv4) → hasPlace i ≡ true →
+    ((k : List ℕ) → same k (word "DNS") ≡ false → same k (word "DomainName") ≡ false → has (word "IPv4") k gs ≡ isSome (rowValue k (numberRows i))) →
+    numbersLack gs ≡ false
 numbers-obey gs dhcp p f = rw (f (word "Address") refl refl, f (word "Gateway") refl refl, f (word "Netmask") refl refl, f (word "Broadcast") refl refl)
 numbers-obey gs off p f = absurd (true≢false (sym p))
 numbers-obey gs (static a n none) p f = absurd (true≢false (sym p))
 numbers-obey gs (static a n (some g)) p f = rw (f (word "Address") refl refl, f (word "Gateway") refl refl)
 
 -- ".psk with neither key", ".open with either key", and those
-pub rules-obey : (gs : List Section) (c : Secret) → numbersLack gs ≡ false → ((k : List ℕ) → has (word "Security") k gs ≡ isSome (rowValue k (secretRows c))) → fileFault (suffixFor c) gs ≡ none
+pub rules-obey : (gs : List Section) (c : Secret) → numbersLack gs ≡ false →
+    ((k : List ℕ) → has (word "Security") k gs ≡ isSome (rowValue k (secretRows c))) →
+    fileFault (suffixFor c) gs ≡ none
 unfolding fileFault
 rules-obey gs noSecret p f = rw (p, f (word "Passphrase"), f (word "PreSharedKey"))
 rules-obey gs (passphrase q) p f = rw (f (word "Passphrase"), p)

@@ -28,7 +28,8 @@ pub given-bare : (k : List ℕ) (es : List Entry) → given k es ≡ isSome (row
 given-bare k [] = refl
 given-bare k (x ∷ es) = go (same k (x .key)) (given-bare k es)
   where
-    go : (b : Bool) → given k es ≡ isSome (rowValue k (bare es)) → (b || given k es) ≡ isSome (cond b (some (x .value)) (rowValue k (bare es)))
+    go : (b : Bool) → given k es ≡ isSome (rowValue k (bare es)) →
+        (b || given k es) ≡ isSome (cond b (some (x .value)) (rowValue k (bare es)))
     go true e = refl
     go false e = e
 
@@ -51,7 +52,9 @@ reads-none : (d : Dialect) (gs : List Section) → LeavesBlocks d gs [] (bareBlo
 unfolding grown
 reads-none d gs = record { obey = λ n s. tt; leaves = λ n s. refl }
 
-reads-line : (d : Dialect) (gs : List Section) (l : Line) (ls : List Line) (bs : List Block) → WritableLine d l → fault d gs l ≡ none → ((n s at : ℕ) → LeavesBlocks d (withLine d n s at l gs) ls bs) → LeavesBlocks d gs (l ∷ ls) bs
+reads-line : (d : Dialect) (gs : List Section) (l : Line) (ls : List Line) (bs : List Block) → WritableLine d l →
+    fault d gs l ≡ none → ((n s at : ℕ) → LeavesBlocks d (withLine d n s at l gs) ls bs) →
+    LeavesBlocks d gs (l ∷ ls) bs
 unfolding grown
 reads-line d gs l ls bs w f h =
     record {
@@ -64,12 +67,16 @@ reads-line d gs l ls bs w f h =
 
 -- ---- the settings of a group
 
-row-fault : (d : Dialect) (g : Section) (gs : List Section) (r : WrittenRow) → GoodRow d (g .group) r → isSome (rowValue (r .0) (bare (g .entries))) ≡ false → fault d (g ∷ gs) (setting (r .0) (r .1)) ≡ none
+row-fault : (d : Dialect) (g : Section) (gs : List Section) (r : WrittenRow) → GoodRow d (g .group) r →
+    isSome (rowValue (r .0) (bare (g .entries))) ≡ false → fault d (g ∷ gs) (setting (r .0) (r .1)) ≡ none
 unfolding fault
 row-fault d g gs r w e = rw (w .listed, given-bare (r .0) (g .entries), e) (w .good)
 
 -- more are the lines behind them, and h is the group with them
-reads-rows : (d : Dialect) (rs : List WrittenRow) (g : Section) (gs : List Section) (more : List Line) (bs : List Block) → GoodRows d (g .group) rs → keysApart (bare (g .entries)) rs ≡ true → ((h : Section) → h .name ≡ g .name → bare (h .entries) ≡ bare (g .entries) ++ rs → LeavesBlocks d (h ∷ gs) more bs) → LeavesBlocks d (g ∷ gs) (rowLines rs ++ more) bs
+reads-rows : (d : Dialect) (rs : List WrittenRow) (g : Section) (gs : List Section) (more : List Line) (bs : List Block) →
+    GoodRows d (g .group) rs → keysApart (bare (g .entries)) rs ≡ true →
+    ((h : Section) → h .name ≡ g .name → bare (h .entries) ≡ bare (g .entries) ++ rs → LeavesBlocks d (h ∷ gs) more bs) →
+    LeavesBlocks d (g ∷ gs) (rowLines rs ++ more) bs
 unfolding withLine
 reads-rows d [] g gs more bs w a f = f g refl (sym (append-nil (bare (g .entries))))
 reads-rows d (r ∷ rs) g gs more bs w a f =
@@ -83,25 +90,29 @@ reads-rows d (r ∷ rs) g gs more bs w a f =
 
 -- ---- groups
 
-unnamed-more : (bs : List Block) (h : Section) (gs : List Section) → nameFree (h .name) bs ≡ true → Unnamed bs gs → Unnamed bs (h ∷ gs)
+unnamed-more : (bs : List Block) (h : Section) (gs : List Section) → nameFree (h .name) bs ≡ true → Unnamed bs gs →
+    Unnamed bs (h ∷ gs)
 unnamed-more [] h gs e u = tt
 unnamed-more (b ∷ bs) h gs e u =
     let k = and-true (not (same (b .name) (h .name))) (nameFree (h .name) bs) e in
     (rw (not-true (same (b .name) (h .name)) (k .0)) (u .0), unnamed-more bs h gs (k .1) (u .1))
 
-header-fault : (d : Dialect) (b : Block) (gs : List Section) → GoodBlock d b → nameGiven (b .name) gs ≡ false → fault d gs (header (b .name)) ≡ none
+header-fault : (d : Dialect) (b : Block) (gs : List Section) → GoodBlock d b → nameGiven (b .name) gs ≡ false →
+    fault d gs (header (b .name)) ≡ none
 unfolding fault
 header-fault d b gs w u = rw (w .named, u, w .plain)
 
 -- a group, once read, stands behind those before it
-blocks-last : (h : Section) (gs : List Section) (b : Block) (bs : List Block) → h .name ≡ b .name → bare (h .entries) ≡ b .rows → bareBlocks (reverse (h ∷ gs)) ++ bs ≡ bareBlocks (reverse gs) ++ (b ∷ bs)
+blocks-last : (h : Section) (gs : List Section) (b : Block) (bs : List Block) → h .name ≡ b .name →
+    bare (h .entries) ≡ b .rows → bareBlocks (reverse (h ∷ gs)) ++ bs ≡ bareBlocks (reverse gs) ++ (b ∷ bs)
 blocks-last h gs b bs p q =
     ap (λ (a : List Section). bareBlocks a ++ bs) (reverse-cons h gs)
     ∙ ap (λ (a : List Block). a ++ bs) (blocks-append (reverse gs) (h ∷ []))
     ∙ append-assoc (bareBlocks (reverse gs)) (record { name = h .name; rows = bare (h .entries) } ∷ []) bs
     ∙ ap₂ (λ (n : List ℕ) (rs : List WrittenRow). bareBlocks (reverse gs) ++ (record { name = n; rows = rs } ∷ bs)) p q
 
-pub reads-blocks : (d : Dialect) (bs : List Block) (gs : List Section) → GoodBlocks d bs → namesApart bs ≡ true → Unnamed bs gs → LeavesBlocks d gs (blockLines bs) (bareBlocks (reverse gs) ++ kept bs)
+pub reads-blocks : (d : Dialect) (bs : List Block) (gs : List Section) → GoodBlocks d bs → namesApart bs ≡ true →
+    Unnamed bs gs → LeavesBlocks d gs (blockLines bs) (bareBlocks (reverse gs) ++ kept bs)
 unfolding withLine
 reads-blocks d [] gs w a u = subst (λ (bs : List Block). LeavesBlocks d gs [] bs) (sym (append-nil (bareBlocks (reverse gs)))) (reads-none d gs)
 reads-blocks d (b ∷ bs) gs w a u = go (b .rows) (w .0 .rows) (w .0 .apart) (λ hs v. reads-blocks d bs hs (w .1) (k .1) v)
@@ -109,7 +120,9 @@ reads-blocks d (b ∷ bs) gs w a u = go (b .rows) (w .0 .rows) (w .0 .apart) (λ
     k : (nameFree (b .name) bs ≡ true) × (namesApart bs ≡ true)
     k = and-true (nameFree (b .name) bs) (namesApart bs) a
 
-    go : (rs : List WrittenRow) → GoodRows d (w .0 .group) rs → keysApart [] rs ≡ true → ((hs : List Section) → Unnamed bs hs → LeavesBlocks d hs (blockLines bs) (bareBlocks (reverse hs) ++ kept bs)) → LeavesBlocks d gs (headedLines (b .name) rs ++ blockLines bs) (bareBlocks (reverse gs) ++ orSkipped (b .name) rs (kept bs))
+    go : (rs : List WrittenRow) → GoodRows d (w .0 .group) rs → keysApart [] rs ≡ true →
+        ((hs : List Section) → Unnamed bs hs → LeavesBlocks d hs (blockLines bs) (bareBlocks (reverse hs) ++ kept bs)) →
+        LeavesBlocks d gs (headedLines (b .name) rs ++ blockLines bs) (bareBlocks (reverse gs) ++ orSkipped (b .name) rs (kept bs))
     go [] v x ih = ih gs (u .1)
     go (r ∷ rs) v x ih =
         reads-line d gs (header (b .name)) (rowLines (r ∷ rs) ++ blockLines bs) (bareBlocks (reverse gs) ++ orSkipped (b .name) (r ∷ rs) (kept bs)) (w .0 .header) (header-fault d b gs (w .0) (u .0))
@@ -128,7 +141,8 @@ rows-writable : (d : Dialect) (g : Group) (rs : List WrittenRow) → GoodRows d 
 rows-writable d g [] w = tt
 rows-writable d g (r ∷ rs) w = (w .0 .text, rows-writable d g rs (w .1))
 
-group-writable : (d : Dialect) (b : Block) (w : GoodBlock d b) (rs : List WrittenRow) → GoodRows d (w .group) rs → WritableLines d (headedLines (b .name) rs)
+group-writable : (d : Dialect) (b : Block) (w : GoodBlock d b) (rs : List WrittenRow) → GoodRows d (w .group) rs →
+    WritableLines d (headedLines (b .name) rs)
 group-writable d b w [] v = tt
 group-writable d b w (r ∷ rs) v = (w .header, rows-writable d (w .group) (r ∷ rs) v)
 

@@ -23,15 +23,18 @@ entries-bare : (n : List ℕ) (gs : List Section) → bare (entriesIn n gs) ≡ 
 entries-bare n [] = refl
 entries-bare n (g ∷ gs) = go (same n (g .name)) (entries-bare n gs)
   where
-    go : (b : Bool) → bare (entriesIn n gs) ≡ rowsIn n (bareBlocks gs) → bare (cond b (g .entries) (entriesIn n gs)) ≡ cond b (bare (g .entries)) (rowsIn n (bareBlocks gs))
+    go : (b : Bool) → bare (entriesIn n gs) ≡ rowsIn n (bareBlocks gs) →
+        bare (cond b (g .entries) (entriesIn n gs)) ≡ cond b (bare (g .entries)) (rowsIn n (bareBlocks gs))
     go true e = refl
     go false e = e
 
-read-bare : {A : Type 0} (f : List ℕ → Option A) (k : List ℕ) (es : List Entry) → readAs f (entryOf k es) ≡ andThen (rowValue k (bare es)) f
+read-bare : {A : Type 0} (f : List ℕ → Option A) (k : List ℕ) (es : List Entry) →
+    readAs f (entryOf k es) ≡ andThen (rowValue k (bare es)) f
 read-bare f k [] = refl
 read-bare f k (x ∷ es) = go (same k (x .key)) (read-bare f k es)
   where
-    go : (b : Bool) → readAs f (entryOf k es) ≡ andThen (rowValue k (bare es)) f → readAs f (cond b (some x) (entryOf k es)) ≡ andThen (cond b (some (x .value)) (rowValue k (bare es))) f
+    go : (b : Bool) → readAs f (entryOf k es) ≡ andThen (rowValue k (bare es)) f →
+        readAs f (cond b (some x) (entryOf k es)) ≡ andThen (cond b (some (x .value)) (rowValue k (bare es))) f
     go true e = refl
     go false e = e
 
@@ -59,7 +62,8 @@ rows-kept n (b ∷ bs) a = go (b .rows) (rows-kept n bs (k .1))
     skip true q = rows-absent n bs (ap (λ (m : List ℕ). nameFree m bs) (same-eq n (b .name) q) ∙ k .0)
     skip false q = refl
 
-    go : (rs : List WrittenRow) → rowsIn n (kept bs) ≡ rowsIn n bs → rowsIn n (orSkipped (b .name) rs (kept bs)) ≡ cond (same n (b .name)) rs (rowsIn n bs)
+    go : (rs : List WrittenRow) → rowsIn n (kept bs) ≡ rowsIn n bs →
+        rowsIn n (orSkipped (b .name) rs (kept bs)) ≡ cond (same n (b .name)) rs (rowsIn n bs)
     go [] e = e ∙ skip (same n (b .name)) refl
     go (r ∷ rs) e = ap (cond (same n (b .name)) (r ∷ rs)) e
 
@@ -69,7 +73,8 @@ module _ (gs : List Section) (bs : List Block) (a : namesApart bs ≡ true) (e :
   entries-rows : bare (entriesIn n gs) ≡ rowsIn n bs
   entries-rows = entries-bare n gs ∙ ap (rowsIn n) e ∙ rows-kept n bs a
 
-  pub read-rows : {A : Type 0} (f : List ℕ → Option A) → readAs f (iwdEntry gs n k) ≡ andThen (rowValue k (rowsIn n bs)) f
+  pub read-rows : {A : Type 0} (f : List ℕ → Option A) →
+      readAs f (iwdEntry gs n k) ≡ andThen (rowValue k (rowsIn n bs)) f
   read-rows {A} f = read-bare f k (entriesIn n gs) ∙ ap (λ (rs : List WrittenRow). andThen (rowValue k rs) f) entries-rows
 
   pub has-rows : has n k gs ≡ isSome (rowValue k (rowsIn n bs))
@@ -89,7 +94,8 @@ count-kept : (bs : List Block) → rowCount (kept bs) ≡ rowCount bs
 count-kept [] = refl
 count-kept (b ∷ bs) = go (b .rows) (count-kept bs)
   where
-    go : (rs : List WrittenRow) → rowCount (kept bs) ≡ rowCount bs → rowCount (orSkipped (b .name) rs (kept bs)) ≡ length rs + rowCount bs
+    go : (rs : List WrittenRow) → rowCount (kept bs) ≡ rowCount bs →
+        rowCount (orSkipped (b .name) rs (kept bs)) ≡ length rs + rowCount bs
     go [] e = omega (arith, e)
     go (r ∷ rs) e = ap (λ (n : ℕ). length (r ∷ rs) + n) e
 
@@ -102,7 +108,8 @@ pub value-append : (k : List ℕ) (a b : List WrittenRow) → rowValue k (a ++ b
 value-append k [] b = refl
 value-append k (r ∷ a) b = go (same k (r .0)) (value-append k a b)
   where
-    go : (t : Bool) → rowValue k (a ++ b) ≡ orElse (rowValue k a) (rowValue k b) → cond t (some (r .1)) (rowValue k (a ++ b)) ≡ orElse (cond t (some (r .1)) (rowValue k a)) (rowValue k b)
+    go : (t : Bool) → rowValue k (a ++ b) ≡ orElse (rowValue k a) (rowValue k b) →
+        cond t (some (r .1)) (rowValue k (a ++ b)) ≡ orElse (cond t (some (r .1)) (rowValue k a)) (rowValue k b)
     go true e = refl
     go false e = e
 

@@ -22,11 +22,14 @@ record WrittenFrom (r : JoinRecord) (s : List (List ℕ)) (a b : List ℕ) : Typ
   name : nameText (joined r s) ≡ a
   file : fileText (joined r s) ≡ b
 
-written-from : (r : JoinRecord) (s : List (List ℕ)) (n f : List ℕ) {a b : List ℕ} → writing r s n f ≡ writes a b → WrittenFrom r s a b
+written-from : (r : JoinRecord) (s : List (List ℕ)) (n f : List ℕ) {a b : List ℕ} → writing r s n f ≡ writes a b →
+    WrittenFrom r s a b
 unfolding writing
 written-from r s n f {a} {b} e = go (formed r s) refl (hasPlace (joined r s .ipv4)) refl (room (nameText (joined r s)) n && room (fileText (joined r s)) f) e
   where
-    go : (x : Bool) → formed r s ≡ x → (y : Bool) → hasPlace (joined r s .ipv4) ≡ y → (z : Bool) → cond x (cond y (cond z (writes (nameText (joined r s)) (fileText (joined r s))) (refuses ShortBuffer 0)) (refuses NoPlace 0)) (refuses Malformed 0) ≡ writes a b → WrittenFrom r s a b
+    go : (x : Bool) → formed r s ≡ x → (y : Bool) → hasPlace (joined r s .ipv4) ≡ y → (z : Bool) →
+        cond x (cond y (cond z (writes (nameText (joined r s)) (fileText (joined r s))) (refuses ShortBuffer 0)) (refuses NoPlace 0)) (refuses Malformed 0) ≡ writes a b →
+        WrittenFrom r s a b
     go true p true q true k = record { good = p; placed = q; name = cc; file = cc }
     go true p true q false k = let z : _≡_ {A = ℕ} 0 1 = cc in absurd (omega arith)
     go true p false q z k = let z : _≡_ {A = ℕ} 0 1 = cc in absurd (omega arith)

@@ -48,7 +48,8 @@ or-right : (a b : Bool) → b ≡ true → a || b ≡ true
 or-right true b e = refl
 or-right false b e = e
 
-pub has-row-append : (k : ℕ) (rs ss : List AnswerRow) (n l : ℕ) → hasRow k rs n l ≡ true → hasRow k (rs ++ ss) n l ≡ true
+pub has-row-append : (k : ℕ) (rs ss : List AnswerRow) (n l : ℕ) → hasRow k rs n l ≡ true →
+    hasRow k (rs ++ ss) n l ≡ true
 has-row-append k [] ss n l e = absurd (true≢false (sym e))
 has-row-append k (r ∷ rs) ss n l e = go (isRow k n l r) e (λ q. has-row-append k rs ss n l q)
   where
@@ -64,7 +65,8 @@ hasLine n (bare m ∷ rs) = hasLine n rs
 hasLine n (lined m ∷ rs) = eqb n m || hasLine n rs
 hasLine n (placed m ∷ rs) = hasLine n rs
 
-line-has-row : (k : ℕ) (rs : List AnswerRow) (n l : ℕ) → between 1 k l ≡ true → hasLine n rs ≡ true → hasRow k rs n l ≡ true
+line-has-row : (k : ℕ) (rs : List AnswerRow) (n l : ℕ) → between 1 k l ≡ true → hasLine n rs ≡ true →
+    hasRow k rs n l ≡ true
 line-has-row k [] n l h e = absurd (true≢false (sym e))
 line-has-row k (bare m ∷ rs) n l h e = or-right (isRow k n l (bare m)) (hasRow k rs n l) (line-has-row k rs n l h e)
 line-has-row k (lined m ∷ rs) n l h e = go (eqb n m) e (λ q. line-has-row k rs n l h q)

@@ -263,10 +263,12 @@ module _ (d : Dialect) (file : List ℕ) where
       go false n k i = i
 
   -- by its key, in the group with a name and in service w
-  pub group-stands : (group key : List ℕ) → IfSome (EntryStands file) (entryOf key (entriesIn group (sectionsOf d file)))
+  pub group-stands : (group key : List ℕ) →
+      IfSome (EntryStands file) (entryOf key (entriesIn group (sectionsOf d file)))
   group-stands group key =
       entry-stands key (entriesIn group (sectionsOf d file)) (named-stand group (sectionsOf d file) sections-stand)
 
-  pub service-stands : (w : ℕ) (key : List ℕ) → IfSome (EntryStands file) (entryOf key (serviceAt w (sectionsOf d file)))
+  pub service-stands : (w : ℕ) (key : List ℕ) →
+      IfSome (EntryStands file) (entryOf key (serviceAt w (sectionsOf d file)))
   service-stands w key =
       entry-stands key (serviceAt w (sectionsOf d file)) (numbered-stand w (sectionsOf d file) sections-stand)

@@ -59,7 +59,8 @@ header-verdict d gs before s n (some g) q =
     known : ¬ ((h : Group) → ¬ GroupIs d n h)
     known z = z g (named-group d n g q)
 
-    go : {a b : Bool} → Decides (Some (NamesGroup n) before) a → Decides (GroupIs d n Service × EightServices d before) b →
+    go : {a b : Bool} → Decides (Some (NamesGroup n) before) a →
+        Decides (GroupIs d n Service × EightServices d before) b →
         LineVerdict d before (header n) (cond a (some R.RepeatedGroup) (cond b (some R.ManyServices) none))
     go (holds h) t = inr (never, inr (never, inr (known, inl (h, refl))))
     go (fails h) (holds k) = inr (never, inr (never, inr (known, inr (h, inl (k, refl)))))

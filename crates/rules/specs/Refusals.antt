@@ -125,5 +125,6 @@ reading-own d name file = go (leb (length file) 16384)
     go true = named-own d (nameIn d name) file
     go false = omega arith
 
-pub reading-number : (d : Dialect) (name file : List ℕ) {r : Refusal} {l : ℕ} → reading d name file ≡ R.Refused r l → numberOf r ≤ 15
+pub reading-number : (d : Dialect) (name file : List ℕ) {r : Refusal} {l : ℕ} → reading d name file ≡ R.Refused r l →
+    numberOf r ≤ 15
 reading-number d name file e = subst OwnReading e (reading-own d name file)

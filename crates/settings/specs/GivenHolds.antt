@@ -81,7 +81,8 @@ length-given : (o : Option ℕ) → IfSome (λ n. 1 ≤ n) o → nonzero (length
 length-given none h = refl
 length-given (some n) h = positive n h
 
-count-given : {A : Type 0} (o : Option (List A)) → IfSome (λ l. 1 ≤ length l) o → nonzero (length (orEmpty o)) ≡ isSome o
+count-given : {A : Type 0} (o : Option (List A)) → IfSome (λ l. 1 ≤ length l) o →
+    nonzero (length (orEmpty o)) ≡ isSome o
 count-given none h = refl
 count-given (some l) h = positive (length l) h
 

@@ -34,7 +34,8 @@ pub at-place-named : {A : Type 0} (w : List ℕ) (t : List (List ℕ × A)) → 
 at-place-named w [] = refl
 at-place-named w (x ∷ t) = go (same w (x .0)) (place w (tableWords t)) (at-place-named w t)
   where
-    go : (b : Bool) (p : ℕ) → atPlace p t ≡ named w t → atPlace (cond b 1 (further p)) (x ∷ t) ≡ cond b (some (x .1)) (named w t)
+    go : (b : Bool) (p : ℕ) → atPlace p t ≡ named w t →
+        atPlace (cond b 1 (further p)) (x ∷ t) ≡ cond b (some (x .1)) (named w t)
     go true p h = refl
     go false zero h = sym (at-place-zero t) ∙ h
     go false (suc p) h = h

@@ -70,7 +70,8 @@ below-at f (suc m) e n h = go (below-at f m (and-true (f m) (below f m) e .1) n)
 -- ---- runs
 
 module _ (p : ℕ → Bool) where
-  pub lead-more : (s : List ℕ) (i : ℕ) → i < length s → p (getD s i 0) ≡ true → lead p (drop i s) ≡ suc (lead p (drop (i + 1) s))
+  pub lead-more : (s : List ℕ) (i : ℕ) → i < length s → p (getD s i 0) ≡ true →
+      lead p (drop i s) ≡ suc (lead p (drop (i + 1) s))
   lead-more s i h e = rw (add-one, drop-cons s i 0, e)
 
   pub lead-stop : (s : List ℕ) (i : ℕ) → i < length s → p (getD s i 0) ≡ false → lead p (drop i s) ≡ 0
@@ -128,15 +129,19 @@ pub lines-append : (l r : List ℕ) → all inLine l ≡ true → lines (l ++ 10
 lines-append [] r h = refl
 lines-append (x ∷ l) r h = rw (not-10 x l h, lines-append l r (all-cons inLine x l h .1))
 
-lines-step : (x : ℕ) (s : List ℕ) → lines (x ∷ s) ≡ front inLine (x ∷ s) ∷ lines (drop (suc (lead inLine (x ∷ s))) (x ∷ s))
+lines-step : (x : ℕ) (s : List ℕ) →
+    lines (x ∷ s) ≡ front inLine (x ∷ s) ∷ lines (drop (suc (lead inLine (x ∷ s))) (x ∷ s))
 lines-step x [] = go (eqb x 10) refl
   where
-    go : (b : Bool) → eqb x 10 ≡ b → lines (x ∷ []) ≡ front inLine (x ∷ []) ∷ lines (drop (suc (lead inLine (x ∷ []))) (x ∷ []))
+    go : (b : Bool) → eqb x 10 ≡ b →
+        lines (x ∷ []) ≡ front inLine (x ∷ []) ∷ lines (drop (suc (lead inLine (x ∷ []))) (x ∷ []))
     go true e = rw e
     go false e = rw e
 lines-step x (y ∷ s) = go (lines-step y s) (eqb x 10) refl
   where
-    go : lines (y ∷ s) ≡ front inLine (y ∷ s) ∷ lines (drop (suc (lead inLine (y ∷ s))) (y ∷ s)) → (b : Bool) → eqb x 10 ≡ b → lines (x ∷ y ∷ s) ≡ front inLine (x ∷ y ∷ s) ∷ lines (drop (suc (lead inLine (x ∷ y ∷ s))) (x ∷ y ∷ s))
+    go : lines (y ∷ s) ≡ front inLine (y ∷ s) ∷ lines (drop (suc (lead inLine (y ∷ s))) (y ∷ s)) → (b : Bool) →
+        eqb x 10 ≡ b →
+        lines (x ∷ y ∷ s) ≡ front inLine (x ∷ y ∷ s) ∷ lines (drop (suc (lead inLine (x ∷ y ∷ s))) (x ∷ y ∷ s))
     go ih true e = rw e
     go ih false e = rw e (ap (onto x) ih)
 
@@ -171,15 +176,19 @@ module _ (d : ℕ) where
   pieces-whole [] h = refl
   pieces-whole (x ∷ t) h = go (eqb x d) refl (λ k. pieces-whole t k)
     where
-      go : (b : Bool) → eqb x d ≡ b → (lead (other d) t ≡ length t → pieces d t ≡ front (other d) t ∷ []) → pieces d (x ∷ t) ≡ front (other d) (x ∷ t) ∷ []
+      go : (b : Bool) → eqb x d ≡ b → (lead (other d) t ≡ length t → pieces d t ≡ front (other d) t ∷ []) →
+          pieces d (x ∷ t) ≡ front (other d) (x ∷ t) ∷ []
       go true e k = absurd (omega (arith, rw e at h))
       go false e k = rw e (ap (onto x) (k (omega (arith, rw e at h))))
 
-  pub pieces-more : (t : List ℕ) → lead (other d) t < length t → pieces d t ≡ front (other d) t ∷ pieces d (drop (suc (lead (other d) t)) t)
+  pub pieces-more : (t : List ℕ) → lead (other d) t < length t →
+      pieces d t ≡ front (other d) t ∷ pieces d (drop (suc (lead (other d) t)) t)
   pieces-more [] h = absurd (omega arith)
   pieces-more (x ∷ t) h = go (eqb x d) refl (λ k. pieces-more t k)
     where
-      go : (b : Bool) → eqb x d ≡ b → (lead (other d) t < length t → pieces d t ≡ front (other d) t ∷ pieces d (drop (suc (lead (other d) t)) t)) → pieces d (x ∷ t) ≡ front (other d) (x ∷ t) ∷ pieces d (drop (suc (lead (other d) (x ∷ t))) (x ∷ t))
+      go : (b : Bool) → eqb x d ≡ b →
+          (lead (other d) t < length t → pieces d t ≡ front (other d) t ∷ pieces d (drop (suc (lead (other d) t)) t)) →
+          pieces d (x ∷ t) ≡ front (other d) (x ∷ t) ∷ pieces d (drop (suc (lead (other d) (x ∷ t))) (x ∷ t))
       go true e k = rw e
       go false e k = rw e (ap (onto x) (k (omega (arith, rw e at h))))
 
@@ -240,7 +249,8 @@ drop-take (suc a) n (x ∷ l) = ap (λ (m : ℕ). drop (suc a) (take m (x ∷ l)
 pub part-long : (s : List ℕ) (i e : ℕ) → i ≤ e → e ≤ length s → length (part i e s) ≡ e - i
 part-long s i e h k = simp (length-take, length-drop) (omega arith)
 
-pub part-part : (s : List ℕ) (i e a b : ℕ) → i ≤ e → e ≤ length s → a ≤ b → b ≤ length (part i e s) → part a b (part i e s) ≡ part (i + a) (i + b) s
+pub part-part : (s : List ℕ) (i e a b : ℕ) → i ≤ e → e ≤ length s → a ≤ b → b ≤ length (part i e s) →
+    part a b (part i e s) ≡ part (i + a) (i + b) s
 part-part s i e a b h k l m =
     let q : b ≤ e - i = omega (arith, part-long s i e h k) in
     let r : e - i ≡ a + (e - i - a) = omega arith in

@@ -44,12 +44,15 @@ printable-text line b h = go line
     go false = rw (ne-eqb b 0 (λ e. omega (arith, e, low)))
 
 -- a text without its printable front
-pub text-after : (line : Bool) (s : List ℕ) → (all (textByte line) (after isPrintable s) && utf8 (after isPrintable s)) ≡ text line s
+pub text-after : (line : Bool) (s : List ℕ) →
+    (all (textByte line) (after isPrintable s) && utf8 (after isPrintable s)) ≡ text line s
 unfolding text
 text-after line [] = refl
 text-after line (b ∷ s) = go (isPrintable b) refl (text-after line s)
   where
-    go : (t : Bool) → isPrintable b ≡ t → (all (textByte line) (after isPrintable s) && utf8 (after isPrintable s)) ≡ text line s → (all (textByte line) (after isPrintable (b ∷ s)) && utf8 (after isPrintable (b ∷ s))) ≡ (all (textByte line) (b ∷ s) && utf8 (b ∷ s))
+    go : (t : Bool) → isPrintable b ≡ t →
+        (all (textByte line) (after isPrintable s) && utf8 (after isPrintable s)) ≡ text line s →
+        (all (textByte line) (after isPrintable (b ∷ s)) && utf8 (after isPrintable (b ∷ s))) ≡ (all (textByte line) (b ∷ s) && utf8 (b ∷ s))
     go true e ih = rw (e, printable-text line b e, utf8-printable b s e) ih
     go false e ih = rw e
 

@@ -26,7 +26,8 @@ unfolding rowsText
 rows-append a b = ap (rendered D.Iwd) (row-lines-append a b) ∙ rendered-append (rowLines a) (rowLines b)
 
 -- a group with a setting: its header, and then its settings
-pub group-text : (n : List ℕ) (rs : List WrittenRow) → someRow rs ≡ true → groupText n rs ≡ (91 ∷ (n ++ 93 ∷ 10 ∷ [])) ++ rowsText rs
+pub group-text : (n : List ℕ) (rs : List WrittenRow) → someRow rs ≡ true →
+    groupText n rs ≡ (91 ∷ (n ++ 93 ∷ 10 ∷ [])) ++ rowsText rs
 unfolding rowsText groupText
 group-text n [] e = absurd (false≢true e)
 group-text n (r ∷ rs) e = ap (λ (t : List ℕ). 91 ∷ t) (append-assoc n (93 ∷ []) (10 ∷ rendered D.Iwd (rowLines (r ∷ rs))) ∙ sym (append-assoc n (93 ∷ 10 ∷ []) (rendered D.Iwd (rowLines (r ∷ rs)))))
@@ -37,7 +38,8 @@ group-none n [] e = refl
 group-none n (r ∷ rs) e = absurd (true≢false e)
 
 -- the file is the text of its four groups
-pub file-groups : (j : Join) → fileText j ≡ groupText (word "Settings") (hiddenRows (j .hidden)) ++ groupText (word "Security") (secretRows (j .credential)) ++ groupText (word "IPv4") (ipv4Rows (j .ipv4) (j .servers) (j .domain)) ++ groupText (word "IPv6") (ipv6Rows (j .ipv6))
+pub file-groups : (j : Join) →
+    fileText j ≡ groupText (word "Settings") (hiddenRows (j .hidden)) ++ groupText (word "Security") (secretRows (j .credential)) ++ groupText (word "IPv4") (ipv4Rows (j .ipv4) (j .servers) (j .domain)) ++ groupText (word "IPv6") (ipv6Rows (j .ipv6))
 unfolding fileText groupText
 file-groups j =
     let a = headedLines (word "Settings") (hiddenRows (j .hidden)) in
