@@ -1,7 +1,7 @@
--- The three demands: the words of the person who asked, and under them what is proved. Here stand only definitions and
--- the types of the theorems, over the definitions that the contracts of the entry points cite; `DemandsHold` has the
--- proofs, and `Exports` says the demands of the exported functions.
-use Prim.Native.Nat.{ℕ, _≤_}
+-- The three demands, and what was asked after them: the words of the person who asked, and under them what is proved. Here
+-- stand only definitions and the types of the theorems, over the definitions that the contracts of the entry points cite;
+-- `DemandsHold` and `RoomHolds` have the proofs, and `Exports` says the demands of the exported functions.
+use Prim.Native.Nat.{ℕ, _-_, _≤_, _<_}
 use mathlib.Core.Path.{_≡_}
 use mathlib.Core.Bool.{true, false}
 use mathlib.Core.List.{List, [], _∷_, _++_}
@@ -32,11 +32,14 @@ use Rattle.settings.specs.Settings.{iwdSettings, serviceSettings}
 use Rattle.settings.specs.Given.{IwdGiven, ServiceGiven}
 use Rattle.settings.specs.Asked.{iwdAnswered, iwdServersAfter, serviceAnswered, serviceServersAfter}
 use Rattle.lookups.specs.Lookups.{iwdLookup, globalLookup, serviceLookup}
-use Rattle.records.specs.Record.{Join, joined}
+use Rattle.names.specs.Names.{nameMax}
+use Rattle.records.specs.Record.{Join, joined, laid, laidServers}
 use Rattle.records.specs.Formed.{Arrays, formed}
 use Rattle.records.specs.declared.JoinRecord.{JoinRecord}
 use Rattle.written.specs.Written.{hasPlace, nameText, fileText}
-use Rattle.writer.specs.Writing.{Writing, writes, writing, writtenAnswer, nameAfter, fileAfter, Writes}
+use Rattle.written.specs.GreatestLengths.{fileMax}
+use Rattle.written.specs.Largest.{largestFile, largestName, Takes}
+use Rattle.writer.specs.Writing.{Writing, writes, Ample, writing, writtenAnswer, nameAfter, fileAfter, Writes}
 use Rattle.writer.specs.declared.Written.{Written}
 use Rattle.joins.specs.Joins as J
 use Rattle.joins.specs.Joins.{zeroRecord, serviceJoined, iwdRecord, iwdRecordServers, serviceRecord, serviceRecordServers, needsKey, serviceSetting}
@@ -270,6 +273,52 @@ Demand-3-key =
     → Writes (moving name file w n f) n f x y a
     → a .answer ≡ Good
     → KeyKept name file w x y a
+
+-- ==== 2026-01. "We want it shown that no record the writer accepts ever needs more than 858 bytes for the file and 70 for
+-- the name, and that some record reaches each figure. Buffers of those sizes then never meet refusal 17."
+
+-- the figures: `fileMax` is what the rows of written `GreatestLengths` come to, a row for each line; `nameMax` is names'
+abbrev pub Room-figures : Type 0
+Room-figures = (fileMax ≡ 858) × (nameMax ≡ 70)
+
+-- no record that is written needs more
+pub record WithinRoom (r : JoinRecord) (s : List (List ℕ)) : Type 0 where
+  pub file : length (fileText (joined r s)) ≤ fileMax
+  pub name : length (nameText (joined r s)) ≤ nameMax
+
+abbrev pub Room-enough : Type 0
+Room-enough = (r : JoinRecord) (s : List (List ℕ)) → Arrays r s → formed r s ≡ true → WithinRoom r s
+
+-- `largestFile` and `largestName` of written `Largest` are well formed and have a place (`Takes`), and reach them; "none
+-- reaches both"
+abbrev pub Room-reached : Type 0
+Room-reached = Takes largestFile (nameMax - 1) fileMax × Takes largestName nameMax 0
+
+-- the entry points that write never answer 17 into buffers of those sizes, whatever they hold: of any record, and of any
+-- bytes, name and service
+abbrev pub Room-write : Type 0
+Room-write =
+    (r : JoinRecord) (s : List (List ℕ)) (n f : List ℕ)
+    → Arrays r s
+    → Ample n f
+    → answerNumber (answerOf (write r s n f)) ≡ 17
+    → ⊥
+
+abbrev pub Room-move : Type 0
+Room-move =
+    (name file : List ℕ) (w : ℕ) (n f : List ℕ)
+    → Ample n f
+    → answerNumber (answerOf (move name file w n f)) ≡ 17
+    → ⊥
+
+-- with a byte less there is a record that meets it
+pub record Room-less (n f : List ℕ) : Type 0 where
+  pub file :
+      length f < fileMax
+      → answerNumber (answerOf (write (laid largestFile) (laidServers largestFile) n f)) ≡ 17
+  pub name :
+      length n < nameMax
+      → answerNumber (answerOf (write (laid largestName) (laidServers largestName) n f)) ≡ 17
 
 -- ==== that Saturday: "A faulty Passphrase line treated as absent, so the service reads as open"
 

@@ -1,5 +1,5 @@
 -- The demands of the exported functions, of their calls as `Calls` defines them. Here stand only definitions and the
--- types of the theorems; `ExportsHold`, `SuccessHolds` and `PlacesHold` have the proofs.
+-- types of the theorems; `ExportsHold`, `SuccessHolds`, `PlacesHold` and `RoomHolds` have the proofs.
 use Prim.Native.Nat.{ℕ, _+_, _≤_, _<_}
 use mathlib.Core.Path.{_≡_}
 use mathlib.Core.Bool.{true}
@@ -18,6 +18,7 @@ use Rattle.lookups.specs.Lookups.{Lookup, iwdLookup, globalLookup, serviceLooku
 use Rattle.records.specs.Record.{joined}
 use Rattle.records.specs.Formed.{formed}
 use Rattle.written.specs.Written.{hasPlace, nameText, fileText}
+use Rattle.writer.specs.Writing.{Ample}
 use Rattle.joins.specs.Joins.{noRecord, serviceSetting}
 use Rattle.mover.specs.Demand.{Service, Movable}
 use Rattle.record_layout.specs.Records.{CArrays, known, recordIn, serversIn}
@@ -318,3 +319,20 @@ Exported-move =
     (name file : List ℕ) (w : ℕ) (n f : List ℕ)
     → Calls.moveService name file w n f .answer .number ≡ 0
     → MovesOver name file w n f (Calls.moveService name file w n f)
+
+-- ==== 2026-01: "Buffers of those sizes then never meet refusal 17."
+
+abbrev pub Exported-room-write : Type 0
+Exported-room-write =
+    (c : CRecord) (n f : List ℕ)
+    → CArrays c
+    → Ample n f
+    → Calls.writeIwd c n f .answer .number ≡ 17
+    → ⊥
+
+abbrev pub Exported-room-move : Type 0
+Exported-room-move =
+    (name file : List ℕ) (w : ℕ) (n f : List ℕ)
+    → Ample n f
+    → Calls.moveService name file w n f .answer .number ≡ 17
+    → ⊥

@@ -11,4 +11,5 @@ pub mod TableHolds
 pub mod ExportsHold
 pub mod SuccessHolds
 pub mod PlacesHold
+pub mod RoomHolds
 pub mod Cases

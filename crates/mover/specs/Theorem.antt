@@ -1,8 +1,7 @@
 -- Demand 3: the move of a service that holds nothing on the list writes a file whose record is the service's.
-use Prim.Native.Nat.{ℕ, _≤_}
-use borrow.Author.Tests.{le-leb}
+use Prim.Native.Nat.{ℕ}
 use mathlib.Core.Path.{_≡_, ap, ap₂, sym, _∙_}
-use mathlib.Core.Bool.{Bool, true, cond, _&&_}
+use mathlib.Core.Bool.{Bool, true, cond}
 use mathlib.Core.List.{List, []}
 use mathlib.Core.Option.{Option, none, some}
 use lib.ListN.{length, take, drop}
@@ -15,13 +14,12 @@ use Rattle.rules.specs.Asking.{entryLine, askedOf}
 use Rattle.rules.specs.Reading.{reading}
 use Rattle.rules.specs.declared.Answer.{Answer}
 use Rattle.rules.specs.declared.Answer.the-variants as A
-use Rattle.rules.specs.declared.Refusal.the-variants.{NoPlace, ShortBuffer, NoService, Malformed}
-use Rattle.records.specs.Record as Record
+use Rattle.rules.specs.declared.Refusal.the-variants.{NoService}
 use Rattle.records.specs.Record.{Join, laid, laidServers}
 use Rattle.records.specs.Formed.{WellFormed}
-use Rattle.records.specs.Laws.{laid-formed, joined-laid}
 use Rattle.written.specs.Written.{nameText, fileText, blocksOf, hasPlace}
-use Rattle.writer.specs.Writing.{Writing, writes, refuses, writingOf, writing, writingPlaced, writtenAnswer, onFront, nameAfter, fileAfter, Writes}
+use Rattle.writer.specs.Writing.{Writing, writes, writingOf, writing, writtenAnswer, onFront, nameAfter, fileAfter, Writes}
+use Rattle.writer.specs.Room.{roomy, laid-writing}
 use Rattle.writer.specs.declared.Written.{Written}
 use Rattle.joins.specs.Joins.{Joined, joined, recordAnswer, serversAfter, iwdRecord, iwdRecordServers, serviceRecord, serviceRecordServers, needsKey, noRecord, orNoPlace, serviceJoin, serviceSetting, serviceJoined, iwdJoined}
 use Rattle.joins.specs.Joins as Joins
@@ -68,18 +66,10 @@ module _ {name file : List ℕ} {w : ℕ} (s : Service name file w) where
     -- the move is what the writer answers of the service's record
     pub move-written : (n f : List ℕ) →
         moving name file w n f ≡ writing (laid (serviceJoin (serviceSetting w file))) (laidServers (serviceJoin (serviceSetting w file))) n f
-    unfolding writing
     move-written n f =
-        let j = serviceJoin (serviceSetting w file) in
-        move-writing n f
-        ∙ sym (ap (λ (b : Bool). cond b (writingPlaced (Record.joined (laid j) (laidServers j)) n f) (refuses Malformed 0)) (laid-formed j move-well-formed) ∙ ap (λ (i : Join). writingPlaced i n f) (joined-laid j) ∙ ap (λ (b : Bool). cond b (writingOf j n f) (refuses NoPlace 0)) move-placed)
+        move-writing n f ∙ sym (laid-writing (serviceJoin (serviceSetting w file)) n f move-well-formed move-placed)
 
 -- ---- demand 3
-
--- buffers with room
-roomy : (j : Join) (n f : List ℕ) → length (nameText j) ≤ length n → length (fileText j) ≤ length f →
-    writingOf j n f ≡ writes (nameText j) (fileText j)
-roomy j n f h g = ap₂ (λ (a b : Bool). cond (a && b) (writes (nameText j) (fileText j)) (refuses ShortBuffer 0)) (le-leb (length (nameText j)) (length n) h) (le-leb (length (fileText j)) (length f) g)
 
 -- the new bytes, "as many as the answer counts"
 new-bytes : (t old x : List ℕ) (k : ℕ) → x ≡ onFront t old → k ≡ length t → take k x ≡ t

@@ -1,4 +1,4 @@
--- A network's file name gives that network, a file name that gives a network is that network's only one, and it has at most 70 bytes.
+-- A network's file name gives that network, a file name that gives a network is that network's only one, and none is longer than `nameMax`.
 use mathlib.Core.Path.{_≡_, refl, ap₂, sym, _∙_, subst}
 use mathlib.Core.Bool.{Bool, true, false, cond, not}
 use mathlib.Core.List.{List, [], _∷_, _++_}
@@ -17,7 +17,7 @@ use Rattle.hex.specs.Hex.{unhex, hex}
 use Rattle.hex.specs.Laws.{unhex-hex, hex-unhex, hex-lower, hex-length, unhex-bytes}
 use Rattle.names.specs.declared.Suffix.{Suffix}
 use Rattle.names.specs.declared.Suffix.the-variants.{Open, Psk}
-use Rattle.names.specs.Names.{NetworkName, stem, unplain, hexName, nameOf, suffixOf, suffixes, Network, network, networkOf, fileName}
+use Rattle.names.specs.Names.{NetworkName, stem, unplain, hexName, nameOf, suffixOf, suffixes, Network, network, networkOf, fileName, nameMax}
 use Rattle.text.specs.OptionLaws.{only-some, then-some, sized-some}
 
 -- ---- plain bytes
@@ -165,6 +165,5 @@ stem-short n h = go (all isPlain n)
     go true = omega (arith, h)
     go false = omega (arith, h, hex-length n)
 
--- `=`, 64 digits and `.open`
-pub file-name-short : (n : List ℕ) (k : Suffix) → length n ≤ 32 → length (fileName n k) ≤ 70
+pub file-name-short : (n : List ℕ) (k : Suffix) → length n ≤ 32 → length (fileName n k) ≤ nameMax
 file-name-short n k h = omega (arith, length-append (stem n) (suffixOf k), stem-short n h, suffix-short k)

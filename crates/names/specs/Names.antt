@@ -1,5 +1,5 @@
 -- File names: "iwd: a stem and `.open` or `.psk`"; "ConnMan: one or more letters or digits, then `.config`".
-use Prim.Native.Nat.{ℕ, _≤_}
+use Prim.Native.Nat.{ℕ, _+_, _*_, _≤_}
 use mathlib.Core.Path.{_≡_}
 use mathlib.Core.Bool.{Bool, true, false, cond, not, _&&_}
 use mathlib.Core.List.{List, [], _∷_, _++_}
@@ -60,6 +60,10 @@ networkOf f = andThen (named (after (other 46) f) suffixes) (λ k. andThen (name
 -- "a stem and `.open` or `.psk`": "one network and kind has one file name" (`one-file-name` of Laws)
 abbrev pub fileName : List ℕ → Suffix → List ℕ
 fileName n k = stem n ++ suffixOf k
+
+-- the greatest length of a file name: `=`, two digits for each of 32 bytes, and the longer suffix
+abbrev pub nameMax : ℕ
+nameMax = length (word "=") + 2 * 32 + length (suffixOf Open)
 
 -- "one or more letters or digits, then `.config`"
 abbrev pub connmanName : List ℕ → Bool

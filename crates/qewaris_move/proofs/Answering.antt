@@ -7,9 +7,11 @@ use native.Mathlib.Omega.{arith}
 use lib.ListN.{length, drop, length-append}
 use Rattle.text.specs.Parts.{part}
 use Rattle.text.specs.Words.{word}
-use Rattle.writer.specs.Writing.{Writing, writes, refuses, Writes}
+use Rattle.rules.specs.Numbers.{answerNumber}
+use Rattle.writer.specs.Writing.{Writing, writes, refuses, Ample, Writes}
 use Rattle.writer.specs.declared.Written.{Written}
 use Rattle.mover.specs.Moves.{moving}
+use Rattle.mover.specs.Order.{moving-never-17}
 use Rattle.intake.specs.declared.Form.{Form}
 use Rattle.intake.specs.declared.Form.the-variants.{Empty}
 use Rattle.intake.specs.Forms.{formFrom, complete}
@@ -18,7 +20,7 @@ use Rattle.intake.specs.Input.{firstLine, behindLine, KeepsInput, SomeInput}
 use Rattle.intake.specs.Enough.{number-front, parted-first, parted-behind}
 use Rattle.intake.proofs.Fronts.{front-part}
 use Rattle.intake.specs.Number.{serviceNumber}
-use Rattle.qewaris_move.specs.Answers.{movedInput}
+use Rattle.qewaris_move.specs.Answers.{movedInput, Sayable}
 use Rattle.qewaris_move.specs.Enough.{moving-front, moving-complete, moving-incomplete}
 
 module _ (i : List ℕ) {number name file : List ℕ} {k : Input} (h : KeepsInput i number name file k) where
@@ -50,10 +52,20 @@ module _ (w : ℕ) (file : List ℕ) {form : Form} {b : Bool} (d : b ≡ complet
   pub incomplete-moved : b ≡ false → Writes (moving [] file w n f) n f x y a → (line : List ℕ) → form ≡ formFrom Empty line → Writes (moving line file w n f) n f x y a
   incomplete-moved t g line e = subst (λ (v : Writing). Writes v n f x y a) (moving-incomplete w n f line file (ap complete (sym e) ∙ sym d ∙ t)) g
 
+-- ---- what is said
+
 -- the new bytes lie in the buffers
 written-within : (v : Writing) {n f x y : List ℕ} {a : Written} → Writes v n f x y a → (a .«name_len» ≤ length x) × (a .«file_len» ≤ length y)
 written-within (writes p q) {n} {f} w = rw (w .answer, w .name, w .file) (omega (arith, length-append p (drop (length p) n)), omega (arith, length-append q (drop (length q) f)))
 written-within (refuses r l) w = rw (w .answer) (omega arith, omega arith)
 
-pub input-written : {number name file : List ℕ} {k : Input} → SomeInput number name file k → {n f x y : List ℕ} {a : Written} → ((i : List ℕ) (m : List ℕ) → KeepsInput i number m file k → Writes (movedInput i n f) n f x y a) → (a .«name_len» ≤ length x) × (a .«file_len» ≤ length y)
-input-written {number} {name} h {n} {f} g = written-within (movedInput (h .input) n f) (g (h .input) name (h .keeps))
+pub input-sayable : {number name file : List ℕ} {k : Input} → SomeInput number name file k → {n f x y : List ℕ} {a : Written} → ((i : List ℕ) (m : List ℕ) → KeepsInput i number m file k → Writes (movedInput i n f) n f x y a) → Ample n f → Sayable x y a
+input-sayable {number} {name} h {n} {f} g r =
+    let i = h .input in
+    let w = g i name (h .keeps) in
+    let within = written-within (movedInput i n f) w in
+    record {
+      name = within .0;
+      file = within .1;
+      room = λ e. moving-never-17 (firstLine (behindLine i)) (behindLine (behindLine i)) (serviceNumber (firstLine i)) n f r (ap (λ (v : Written). answerNumber (v .answer)) (sym (w .answer)) ∙ e);
+    }

@@ -12,7 +12,7 @@ ghost use Rattle.mover.specs.Moves.{moving};
 ghost use Rattle.intake.specs.declared.Form.the-variants.{Empty};
 ghost use Rattle.intake.specs.Forms.{formFrom};
 ghost use Rattle.intake.specs.Input.{KeepsInput};
-ghost use Rattle.qewaris_move.specs.Answers.{movedInput};
+ghost use Rattle.qewaris_move.specs.Answers.{movedInput, Sayable};
 use intake::FileBuffer;
 use intake::Form;
 use intake::Input;
@@ -22,14 +22,14 @@ use intake::numbers;
 use intake::streams;
 use rules::Answer;
 use writer::Written;
+use written::FILE_MAX;
+use written::NAME_MAX;
+use written::NewFile;
+use written::NewName;
 
-// Room for the longest name and the longest file that a move writes.
-type NewName = [u8; 70];
-
-type NewFile = [u8; 858];
-
+// Says what was written, or the refusal, which is never that a buffer was too short.
 fn say_written(w: Written, name: &NewName, file: &NewFile)
-    requires { ⌜ (w .«name_len» ≤ length (now name)) × (w .«file_len» ≤ length (now file)) ⌝ }
+    requires { ⌜ Sayable (now name) (now file) w ⌝ }
 {
     let name = &name[..];
     let file = &file[..];
@@ -87,8 +87,8 @@ fn main() {
     let input = streams::read_input(&mut number, &mut name, &mut file, true);
     let kept = input.kept;
     if input.whole {
-        let mut name_out = [0u8; 70];
-        let mut file_out = [0u8; 858];
+        let mut name_out = [0u8; NAME_MAX];
+        let mut file_out = [0u8; FILE_MAX];
         let written = move_kept(kept, &number, &file, &mut name_out, &mut file_out);
         say_written(written, &name_out, &file_out);
     }

@@ -1,5 +1,5 @@
 -- What the writer answers: "The writer asks 19, 16, 17.", and what the two buffers hold after it.
-use Prim.Native.Nat.{ℕ}
+use Prim.Native.Nat.{ℕ, _≤_}
 use mathlib.Core.Path.{_≡_}
 use mathlib.Core.Bool.{Bool, cond, _&&_}
 use mathlib.Core.List.{List, _++_}
@@ -11,7 +11,9 @@ use Rattle.rules.specs.declared.Answer.the-variants as A
 use Rattle.records.specs.Record.{Join, joined}
 use Rattle.records.specs.Formed.{formed}
 use Rattle.records.specs.declared.JoinRecord.{JoinRecord}
+use Rattle.names.specs.Names.{nameMax}
 use Rattle.written.specs.Written.{hasPlace, nameText, fileText}
+use Rattle.written.specs.GreatestLengths.{fileMax}
 use Rattle.writer.specs.declared.Written.{Written}
 
 -- the name and the file that are written, or a refusal and its line, which is "0 from the writer"
@@ -22,6 +24,11 @@ pub data Writing : Type 0 where
 -- "A buffer has room when it is at least as long as what must be written into it."
 abbrev pub room : List ℕ → List ℕ → Bool
 room t buffer = leb (length t) (length buffer)
+
+-- room for every name and every file that is ever written
+pub record Ample (n f : List ℕ) : Type 0 where
+  pub name : nameMax ≤ length n
+  pub file : fileMax ≤ length f
 
 -- 17: "a lent output buffer is shorter than what must be written"; n is the buffer of the name, f that of the file
 abbrev pub writingOf : Join → List ℕ → List ℕ → Writing

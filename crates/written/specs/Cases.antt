@@ -1,24 +1,16 @@
 -- Worked cases: document 01's file of 169 bytes, and records whose file is empty or begins a string with a blank.
 use mathlib.Core.Path.{_≡_, refl}
-use mathlib.Core.Bool.{false}
-use mathlib.Core.List.{List, []}
-use Prim.Native.Nat.{ℕ}
+use mathlib.Core.List.{[]}
 use lib.ListN.{length}
 use Rattle.text.specs.Bytes.{isPlain}
 use Rattle.text.specs.Words.{word}
 use Rattle.escapes.specs.Escapes.{escapeFrom}
 use Rattle.addresses.specs.Addresses.{decimal, dotted, maskBytes}
-use Rattle.connman_ipv4.specs.ConnmanIpv4.{dhcp}
 use Rattle.names.specs.Names.{stem}
-use Rattle.records.specs.Record.{Secret, noSecret, passphrase, Join}
+use Rattle.records.specs.Record.{noSecret, passphrase}
 use Rattle.records.specs.Cases.{worked}
-use Rattle.records.specs.declared.Ipv6.{Ipv6}
-use Rattle.records.specs.declared.Ipv6.the-variants as Ipv6
 use Rattle.written.specs.Written.{fileText, nameText}
-
--- a network and its credential, all else by default
-abbrev pub plainly : List ℕ → Secret → List ℕ → Join
-plainly n c d = record { name = n; credential = c; hidden = false; ipv4 = dhcp; servers = []; domain = d; ipv6 = Ipv6.Auto }
+use Rattle.written.specs.Largest.{plainly}
 
 pub worked-name : nameText worked ≡ word "Desk 4.psk"
 unfolding nameText stem isPlain

@@ -1,5 +1,5 @@
--- The lines of the written iwd file, each with its greatest length, and what they come to.
-use Prim.Native.Nat.{ℕ, _+_, _≤_}
+-- How long the written iwd file can be: its lines, each with its greatest length, and what they come to.
+use Prim.Native.Nat.{ℕ, _+_, _*_, _≤_}
 use mathlib.Core.Logic.{_⊎_}
 use mathlib.Core.List.{List, [], _∷_, _++_}
 use lib.ListN.{length}
@@ -8,42 +8,55 @@ use Rattle.text.specs.declared.Dialect.the-variants.{Iwd}
 use Rattle.lines.specs.Lines.{Line}
 use Rattle.lines.specs.Rendering.{render}
 
+-- ---- the table: a row for each line that can be written, in the order of the file
+
 -- a line: what stands in front of its value, and the greatest length of the value
 abbrev pub LineRoom : Type 0
 LineRoom = List ℕ × ℕ
 
 abbrev pub settingsRoom : List LineRoom
-settingsRoom = (word "[Settings]", 0) ∷ (word "Hidden=", 4) ∷ []
+settingsRoom = (word "[Settings]", 0) ∷ (word "Hidden=", length (word "true")) ∷ []
 
 -- a passphrase of 63 bytes, each of them escaped; a key of 32 bytes is shorter
 abbrev pub securityRoom : List LineRoom
-securityRoom = (word "[Security]", 0) ∷ (word "Passphrase=", 126) ∷ []
+securityRoom = (word "[Security]", 0) ∷ (word "Passphrase=", 2 * 63) ∷ []
 
--- four name servers with a space between; a domain of 253 bytes, each of them escaped
+-- the greatest length of an address or a netmask
+abbrev pub addressMax : ℕ
+addressMax = length (word "255.255.255.255")
+
 abbrev pub numberRoom : List LineRoom
-numberRoom = (word "Address=", 15) ∷ (word "Netmask=", 15) ∷ (word "Gateway=", 15) ∷ []
+numberRoom = (word "Address=", addressMax) ∷ (word "Netmask=", addressMax) ∷ (word "Gateway=", addressMax) ∷ []
 
+-- four name servers with a space between
 abbrev pub serverRoom : List LineRoom
-serverRoom = (word "DNS=", 63) ∷ []
+serverRoom = (word "DNS=", 4 * addressMax + 3) ∷ []
 
+-- a domain of 253 bytes, each of them escaped
 abbrev pub domainRoom : List LineRoom
-domainRoom = (word "DomainName=", 506) ∷ []
+domainRoom = (word "DomainName=", 2 * 253) ∷ []
 
 abbrev pub ipv4Room : List LineRoom
 ipv4Room = (word "[IPv4]", 0) ∷ numberRoom ++ serverRoom ++ domainRoom
 
 abbrev pub ipv6Room : List LineRoom
-ipv6Room = (word "[IPv6]", 0) ∷ (word "Enabled=", 5) ∷ []
+ipv6Room = (word "[IPv6]", 0) ∷ (word "Enabled=", length (word "false")) ∷ []
 
 abbrev pub fileRoom : List LineRoom
 fileRoom = settingsRoom ++ securityRoom ++ ipv4Room ++ ipv6Room
 
--- what lines come to, each with its byte 10
+-- ---- what lines come to, each with its byte 10
+
 abbrev pub total : List LineRoom → ℕ
 total [] = 0
 total (x ∷ t) = length (x .0) + x .1 + 1 + total t
 
--- the lines stand under the table's, in its order, and none is longer; a line of the table may be left out
+-- the greatest length of a file; that of its name is `nameMax` (names `Names`)
+abbrev pub fileMax : ℕ
+fileMax = total fileRoom
+
+-- ---- lines that stand under the table's, in its order, none longer; a line of the table may be left out
+
 abbrev pub Under : List Line → List LineRoom → Type 0
 Under [] t = Unit
 Under (l ∷ ls) [] = ⊥

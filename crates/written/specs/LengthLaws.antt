@@ -17,6 +17,7 @@ use Rattle.addresses.specs.declared.Separator.the-variants.{Spaces}
 use Rattle.connman_ipv4.specs.ConnmanIpv4.{IPv4, dhcp, off, static}
 use Rattle.lines.specs.Lines.{Line}
 use Rattle.lines.specs.Rendering.{render, rendered}
+use Rattle.names.specs.Names.{nameMax}
 use Rattle.names.specs.Laws.{file-name-short}
 use Rattle.records.specs.Record.{Secret, noSecret, passphrase, key, Join, secretOf}
 use Rattle.records.specs.Formed.{GoodSecret, WellFormed}
@@ -25,7 +26,7 @@ use Rattle.records.specs.declared.Credential.the-variants as C
 use Rattle.records.specs.declared.Ipv6.{Ipv6}
 use Rattle.records.specs.declared.Ipv6.the-variants as Ipv6
 use Rattle.written.specs.Written.{WrittenRow, rowLines, headedLines, blockLines, hiddenRows, secretRows, gatewayRows, numberRows, serverRows, domainRows, ipv4Rows, ipv6Rows, blocksOf, suffixFor, nameText, fileText}
-use Rattle.written.specs.GreatestLengths.{LineRoom, settingsRoom, securityRoom, numberRoom, serverRoom, domainRoom, ipv4Room, ipv6Room, fileRoom, total, Under}
+use Rattle.written.specs.GreatestLengths.{LineRoom, settingsRoom, securityRoom, numberRoom, serverRoom, domainRoom, ipv4Room, ipv6Room, fileRoom, total, fileMax, addressMax, Under}
 use Rattle.written.specs.TextLaws.{row-lines-append}
 
 -- ---- lines under a table
@@ -73,7 +74,7 @@ secret-under C.None p k h g = tt
 secret-under C.Passphrase p k h g = inl (omega arith, inl (omega (arith, escape-length p, h), tt))
 secret-under C.Key p k h g = inl (omega arith, inl (omega (arith, hex-length k, g), tt))
 
-pub gateway-under : (g : Option (List ℕ)) → Under (rowLines (gatewayRows g)) ((word "Gateway=", 15) ∷ [])
+pub gateway-under : (g : Option (List ℕ)) → Under (rowLines (gatewayRows g)) ((word "Gateway=", addressMax) ∷ [])
 gateway-under none = tt
 gateway-under (some g) = inl (omega (arith, dotted-short g), tt)
 
@@ -121,13 +122,18 @@ file-under j w =
     (under-append c ipv4Room (d ++ []) (ipv6Room ++ []) (ipv4-under (j .ipv4) (j .servers) (j .domain) (w .servers .high) (w .domain .high))
     (under-append d ipv6Room [] [] (ipv6-under (j .ipv6)) tt)))
 
-pub file-room : total fileRoom ≡ 858
-file-room = refl
-
-pub file-short : (j : Join) → WellFormed j → length (fileText j) ≤ 858
+pub file-short : (j : Join) → WellFormed j → length (fileText j) ≤ fileMax
 unfolding fileText
 file-short j w = under-total (blockLines (blocksOf j)) fileRoom (file-under j w)
 
-pub name-short : (j : Join) → WellFormed j → length (nameText j) ≤ 70
+pub name-short : (j : Join) → WellFormed j → length (nameText j) ≤ nameMax
 unfolding nameText
 name-short j w = file-name-short (j .name) (suffixFor (j .credential)) (w .name .high)
+
+-- ---- what the figures are
+
+pub file-max : fileMax ≡ 858
+file-max = refl
+
+pub name-max : nameMax ≡ 70
+name-max = refl

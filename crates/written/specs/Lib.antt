@@ -1,7 +1,9 @@
--- What to read beside document 01: "The written iwd file", and the greatest length of each of its lines
+-- What to read beside document 01: "The written iwd file", the greatest length of each of its lines, and the records that reach them
 pub mod Written
 pub mod GreatestLengths
--- The laws: no file is longer than its lines can be, and no name than 70 bytes; worked cases
+pub mod Largest
+-- The laws: the largest records reach the greatest lengths, and nothing that is written is longer; worked cases
+pub mod LargestLaws
 pub mod LengthLaws
 pub mod Cases
 -- For the proofs only: the same texts by groups and rows, and the parts of a record as the code has them
