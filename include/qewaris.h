@@ -263,8 +263,8 @@ qewaris_record_answer qewaris_service_record(const uint8_t *name, size_t name_le
 
 /* ---- Writing and moving */
 
-/* No name and no file that is written is longer, and some record reaches each: so buffers of these sizes never meet
- * QEWARIS_SHORT_BUFFER. */
+/* No name and no file that is written is longer, so that buffers of these sizes never meet QEWARIS_SHORT_BUFFER; some record
+ * reaches each. */
 enum { QEWARIS_NAME_MAX = 70, QEWARIS_FILE_MAX = 858 };
 
 /* How many bytes are new at the front of each buffer; what stood behind them is still there. */

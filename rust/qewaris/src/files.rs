@@ -6,10 +6,23 @@ use crate::refusal::{answered, Refusal};
 use crate::Hidden;
 use std::fmt;
 
-/// No file name that is written is longer.
+/// How many bytes to set aside for a file name that is written: none is longer, and some open network reaches it.
+///
+/// A name buffer of this size beside a file buffer of [`FILE_MAX`] bytes never meets refusal 17, which is proved of the library.
 pub const NAME_MAX: usize = raw::NAME_MAX;
 
-/// No file that is written is longer.
+/// How many bytes to set aside for a file that is written: none is longer, and some network with a passphrase reaches it.
+///
+/// ```
+/// use qewaris::{write_iwd_into, JoinRecord, FILE_MAX, NAME_MAX};
+///
+/// let (mut name, mut file) = ([0; NAME_MAX], [0; FILE_MAX]);
+/// let record = JoinRecord { hidden: true, ..JoinRecord::open(b"Desk 4") };
+/// let written = write_iwd_into(&record, &mut name, &mut file)?;
+/// assert_eq!(&name[..written.name_len], b"Desk 4.open");
+/// assert_eq!(&file[..written.file_len], b"[Settings]\nHidden=true\n");
+/// # Ok::<(), qewaris::Refusal>(())
+/// ```
 pub const FILE_MAX: usize = raw::FILE_MAX;
 
 /// How many bytes are new at the front of each buffer; what stood behind them is still there.
@@ -88,7 +101,7 @@ fn written(answer: raw::Written) -> Result<Written, Refusal> {
     })
 }
 
-/// What is written into buffers that are never too short.
+/// What is written into buffers that are never too short, as vectors of just these bytes.
 fn collected(write: impl FnOnce(&mut [u8], &mut [u8]) -> Result<Written, Refusal>) -> Result<IwdFile, Refusal> {
     let mut name = [0; NAME_MAX];
     let mut file = [0; FILE_MAX];

@@ -133,7 +133,7 @@ table! {
     NoPlaceForSearchDomains, 16, "[{group}] has SearchDomains, which has no place in iwd; a service without it moves";
     NoPlaceForTimeservers, 16, "[{group}] has Timeservers, which has no place in iwd; a service without it moves";
 
-    AnyShortBuffer, 17, "A buffer is too short for what must be written; 70 bytes for the name and 858 for the file are enough";
+    AnyShortBuffer, 17, "A buffer is too short for what must be written; 70 bytes for the name and 858 for the file are always enough";
 
     AnyNoService, 18, "There is no service with this number; services count from 1";
     NoService, 18, "There is no service {found}; the file has {allowed}";

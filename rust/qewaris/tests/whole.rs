@@ -71,14 +71,14 @@ fn a_record_that_does_not_fit_is_malformed() {
 
 #[test]
 fn a_short_buffer_is_refused_and_left_as_it_was() {
-    let (mut name, mut file) = ([7; 70], [7; 168]);
+    let (mut name, mut file) = ([7; NAME_MAX], [7; DESK.len() - 1]);
     assert_eq!(
         move_service_into(b"shop.config", SHOP, 1, &mut name, &mut file)
             .unwrap_err()
             .reason(),
         Reason::ShortBuffer
     );
-    assert_eq!((name, file), ([7; 70], [7; 168]));
+    assert_eq!((name, file), ([7; NAME_MAX], [7; DESK.len() - 1]));
 }
 
 #[test]

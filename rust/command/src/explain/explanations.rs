@@ -122,7 +122,8 @@ pub const EXPLANATIONS: [Explanation; 19] = [
         title: "a buffer is too short",
         meaning: "A program lent the library a buffer that is shorter than what must be written. This command never does.",
         example: Example::Buffer("shop.config", b"[service_till]\nType = wifi\nName = Desk 4\nHidden = true\n", 10),
-        remedy: "Lend 70 bytes for the name and 858 for the file, which are always enough.",
+        remedy: "Lend 70 bytes for the name and 858 for the file: this is proved to be enough for every network, and some need as \
+                  much. An image that sets a fixed place aside for each file may count on the same figures.",
     },
     Explanation {
         title: "there is no service with this number",

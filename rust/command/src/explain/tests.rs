@@ -1,4 +1,4 @@
-//! Each example earns the number that it stands for.
+//! Each example earns the number that it stands for, and the texts are made as they should be.
 
 use super::*;
 
@@ -8,6 +8,13 @@ fn each_example_earns_its_number() {
         let refusal = explanation.example.refusal().expect("it is refused");
         assert_eq!(usize::from(refusal.number()), place + 1);
     }
+}
+
+#[test]
+fn a_short_buffer_is_explained_with_the_sizes_that_are_enough() {
+    let sizes = format!("{} bytes for the name and {} for the file", qewaris::NAME_MAX, qewaris::FILE_MAX);
+    let short_buffer = &EXPLANATIONS[usize::from(qewaris::Reason::ShortBuffer.number()) - 1];
+    assert!(short_buffer.remedy.contains(&sizes), "{}", short_buffer.remedy);
 }
 
 #[test]

@@ -67,6 +67,13 @@ fn the_first_of_the_lines_in_the_way_is_the_librarys() {
 }
 
 #[test]
+fn a_short_buffer_is_told_with_the_sizes_that_are_enough() {
+    let sizes = format!("{} bytes for the name and {} for the file", crate::NAME_MAX, crate::FILE_MAX);
+    let sentence = Message::AnyShortBuffer.text(&[]).unwrap();
+    assert!(sentence.contains(&sizes), "{sentence}");
+}
+
+#[test]
 fn every_sentence_is_earned() {
     let moves = MOVES.iter().map(|case| case.0);
     let earned: Vec<Message> = checks().map(|case| case.0).chain(moves).collect();
