@@ -49,8 +49,8 @@ SENTENCES = (
     "the record is malformed",
 )
 MALFORMED = 19
-NAME_MAX = 70
-FILE_MAX = 858
+NAME_MAX = 70  # no file name that is written is longer, and some record reaches it
+FILE_MAX = 858  # no file that is written is longer, and some record reaches it
 
 Name = Union[str, bytes]
 

@@ -1,4 +1,4 @@
-"""Drives python/qewaris.py on the examples and on document 01's worked move.
+"""Drives python/qewaris.py on the examples, on document 01's worked move, and on the largest file and the largest name.
 
     QEWARIS_LIB_DIR=folder of libqewaris.so.1 python3 tests/python/test_qewaris.py
 """
@@ -6,6 +6,7 @@ import doctest
 import pathlib
 import sys
 import unittest
+import unittest.mock
 from ipaddress import IPv4Address
 
 ROOT = pathlib.Path(__file__).resolve().parent.parent.parent
@@ -24,6 +25,26 @@ RECORD = qewaris.JoinRecord(
     ipv4=qewaris.StaticIpv4(IPv4Address("10.20.0.14"), 24, IPv4Address("10.20.0.1")),
     name_servers=(IPv4Address("10.20.0.2"), IPv4Address("10.20.0.3")),
     ipv6="off",
+)
+
+# The record with the largest name, and the one with the largest file, which has everything that has a line: addresses of 15
+# characters, four name servers, and a passphrase and a domain of backslashes, each of which is written as two.
+ALL_255 = IPv4Address("255.255.255.255")
+LARGEST_NAME = qewaris.JoinRecord(name=b"\xff" * 32)
+LARGEST_FILE = qewaris.JoinRecord(
+    name=b"\xff" * 32,
+    passphrase=b"\\" * 63,
+    hidden=True,
+    ipv4=qewaris.StaticIpv4(ALL_255, 32, ALL_255),
+    name_servers=(ALL_255,) * 4,
+    domain=b"\\" * 253,
+    ipv6="off",
+)
+# Services that have these records.
+SERVICE_OF_NAME = b"[service_till]\nType = wifi\nSSID = " + b"ff" * 32 + b"\n"
+SERVICE_OF_FILE = (
+    SERVICE_OF_NAME + f"IPv4 = {ALL_255}/32/{ALL_255}\nNameservers = {','.join([str(ALL_255)] * 4)}\n".encode()
+    + b"Passphrase = " + b"\\" * 63 + b"\nDomain = " + b"\\" * 253 + b"\nHidden = true\nIPv6 = off\n"
 )
 
 
@@ -66,6 +87,27 @@ class WorkedMove(unittest.TestCase):
         written = qewaris.write_iwd(record)
         self.assertEqual(written.name, b"=436166c3a9.psk")
         self.assertEqual(qewaris.record(written.name, written.file), record)
+
+
+class Room(unittest.TestCase):
+    LARGEST = (
+        (LARGEST_FILE, SERVICE_OF_FILE, (len("=.psk") + 64, qewaris.FILE_MAX)),
+        (LARGEST_NAME, SERVICE_OF_NAME, (qewaris.NAME_MAX, 0)),
+    )
+
+    def test_each_greatest_length_is_reached_and_reads_back(self):
+        for record, service, lengths in self.LARGEST:
+            written = qewaris.write_iwd(record)
+            self.assertEqual((len(written.name), len(written.file)), lengths)
+            self.assertEqual(qewaris.record(written.name, written.file), record)
+            self.assertEqual(qewaris.record("till.config", service), record)
+            self.assertEqual(qewaris.move_service("till.config", service), written)
+
+    def test_a_byte_less_is_refused(self):
+        for shorter, record, service in (("FILE_MAX", LARGEST_FILE, SERVICE_OF_FILE), ("NAME_MAX", LARGEST_NAME, SERVICE_OF_NAME)):
+            with unittest.mock.patch.object(qewaris, shorter, getattr(qewaris, shorter) - 1):
+                self.assertEqual(refusal(qewaris.write_iwd, record), (17, None), shorter)
+                self.assertEqual(refusal(qewaris.move_service, "till.config", service), (17, None), shorter)
 
 
 class Settings(unittest.TestCase):
