@@ -1,5 +1,5 @@
 //! How much room a written file can take: the record with the largest file and the one with the largest name, written, and moved
-//! from services that have these records.
+//! from services that have these records; and what docs/USING.md tells of it.
 
 use qewaris::*;
 use std::net::Ipv4Addr;
@@ -114,5 +114,32 @@ fn a_byte_less_is_refused_and_changes_nothing() {
             assert_eq!((refusal.number(), refusal.line()), (17, None));
             assert_eq!((name, file), (vec![7; name_len], vec![7; file_len]));
         }
+    }
+}
+
+/// A row of the page's table of lines: how the line begins, and its length with the byte that ends it.
+fn row_of_line(row: &'static str) -> Option<(&'static str, usize)> {
+    let (front, behind) = row.strip_prefix("| `")?.split_once("` | ")?;
+    Some((front, behind.split(' ').next()?.parse().ok()?))
+}
+
+#[test]
+fn the_page_tells_how_long_each_line_of_the_largest_file_is() {
+    let page = include_str!("../../../docs/USING.md");
+    let (_, part) = page.split_once("## How much room a file can take\n").unwrap();
+    let (part, _) = part.split_once("\n## ").unwrap();
+    let file = write_iwd(&with_largest_file().record).unwrap().file;
+    let lines: Vec<&[u8]> = file.split_inclusive(|byte| *byte == b'\n').collect();
+    let rows: Vec<(&str, usize)> = part.lines().filter_map(row_of_line).collect();
+    assert_eq!(rows.len(), lines.len());
+    for ((front, length), line) in rows.iter().zip(lines) {
+        assert!(line.starts_with(front.as_bytes()) && line.len() == *length, "{front}");
+    }
+    for told in [
+        format!("| all of them | {FILE_MAX} |"),
+        format!("set aside {FILE_MAX} bytes for the file and {NAME_MAX} for the name"),
+        format!("A name of {NAME_MAX} bytes"),
+    ] {
+        assert!(part.contains(&told), "{told}");
     }
 }
