@@ -18,10 +18,11 @@
 //! ```
 //!
 //! Every byte string is some case: a first line that begins with `r` is a record's, any other a file's; numbers that are
-//! missing, no numbers or too large are replaced by 1, 70, 858 and 0, the buffers' lengths bounded by 4096; a record that is cut
-//! short ends in zeros, and what follows one that is whole is ignored.
+//! missing, no numbers or too large are replaced by 1, `NAME_MAX`, `FILE_MAX` and 0, the buffers' lengths bounded by 4096; a record
+//! that is cut short ends in zeros, and what follows one that is whole is ignored.
 
 use crate::case::{Buffers, Case, FileCase, RecordCase};
+use crate::reference::writer::{FILE_MAX, NAME_MAX};
 use qewaris::raw;
 
 /// The longest buffer that a header line can ask for.
@@ -48,8 +49,8 @@ pub fn decode(bytes: &[u8]) -> Case {
     let numbers: Vec<Option<usize>> = header.split(|&byte| byte == b' ').skip(1).map(read_number).collect();
     let number = |place: usize, default: usize| numbers.get(place).copied().flatten().unwrap_or(default);
     let buffers = |place: usize| Buffers {
-        name: number(place, 70).min(LONGEST_BUFFER),
-        file: number(place + 1, 858).min(LONGEST_BUFFER),
+        name: number(place, NAME_MAX).min(LONGEST_BUFFER),
+        file: number(place + 1, FILE_MAX).min(LONGEST_BUFFER),
         dirt: number(place + 2, 0) as u8,
     };
     if header.starts_with(b"r") {

@@ -9,13 +9,14 @@ use crate::compare::Difference;
 use crate::entry::Entry;
 use crate::judged::Answers;
 use crate::library::{write_iwd, Input};
+use crate::reference::writer::{FILE_MAX, NAME_MAX};
 use qewaris::raw;
 
 /// The promises that the library breaks at this case.
 pub fn broken_promises(case: &Case, answers: &Answers) -> Vec<Difference> {
     let room = Buffers {
-        name: 70,
-        file: 858,
+        name: NAME_MAX,
+        file: FILE_MAX,
         dirt: case.buffers().dirt,
     };
     match case {

@@ -4,6 +4,7 @@ use judge::case::{Buffers, Case, FileCase};
 use judge::encoding::{decode, encode, record_bytes, record_of_bytes, LONGEST_BUFFER};
 use judge::layout::{lay_record, lift_record};
 use judge::random::Random;
+use judge::reference::writer::{FILE_MAX, NAME_MAX};
 use judge::{generate, one};
 
 #[test]
@@ -28,23 +29,23 @@ fn seed_files_can_be_written_by_hand() {
             2,
             buffers(10, 169, 7),
         ),
-        (b"file\nDesk.open\n", b"Desk.open", b"", 1, buffers(70, 858, 0)),
+        (b"file\nDesk.open\n", b"Desk.open", b"", 1, buffers(NAME_MAX, FILE_MAX, 0)),
         (
             b"file x 9999999 -1\nDesk.open\n\n",
             b"Desk.open",
             b"\n",
             1,
-            buffers(LONGEST_BUFFER, 858, 0),
+            buffers(LONGEST_BUFFER, FILE_MAX, 0),
         ),
         (
             b"file 18446744073709551615\na\\nb\\\\c\\d\n",
             b"a\nb\\c\\d",
             b"",
             usize::MAX,
-            buffers(70, 858, 0),
+            buffers(NAME_MAX, FILE_MAX, 0),
         ),
-        (b"", b"", b"", 1, buffers(70, 858, 0)),
-        (b"\n\n\n", b"", b"\n", 1, buffers(70, 858, 0)),
+        (b"", b"", b"", 1, buffers(NAME_MAX, FILE_MAX, 0)),
+        (b"\n\n\n", b"", b"\n", 1, buffers(NAME_MAX, FILE_MAX, 0)),
     ];
     for (bytes, name, file, service, buffers) in rows {
         let expected = Case::File(FileCase {

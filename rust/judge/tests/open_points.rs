@@ -1,11 +1,9 @@
 //! The reference on the decisions about what document 01 leaves open: a table for each family, with the decision's number.
 
 use judge::layout::{lay_record, lift_record};
-use judge::reference::writer::{write, Room};
+use judge::reference::writer::{write, Room, ENOUGH};
 use judge::reference::{connman, iwd, moving, Credential, Ipv4, Ipv6, Record, Refusal};
 use qewaris::raw;
-
-const ROOM: Room = Room { name: 70, file: 858 };
 
 /// An answer as the checking program prints it.
 fn printed(result: Result<usize, Refusal>) -> String {
@@ -231,7 +229,7 @@ fn record_and_move(service: &str) -> ((u8, usize), (u8, usize)) {
     let reading = connman::read(b"a.config", file.as_bytes());
     let answer = |refusal: Refusal| (refusal.number(), refusal.line);
     let record = reading.as_ref().expect("accepted").service(1).expect("a service").record();
-    let moved = moving::move_service(&reading, 1, ROOM);
+    let moved = moving::move_service(&reading, 1, ENOUGH);
     (record.err().map_or((0, 0), answer), moved.err().map_or((0, 0), answer))
 }
 
@@ -257,7 +255,7 @@ fn what_iwd_has_no_place_for() {
 fn service_numbers_are_full_width() {
     let reading = connman::read(b"a.config", b"[service_a]\nType=wifi\nName=a\n");
     let answer = |number| {
-        moving::move_service(&reading, number, ROOM)
+        moving::move_service(&reading, number, ENOUGH)
             .err()
             .map(|refusal| (refusal.number(), refusal.line))
     };
@@ -294,7 +292,7 @@ fn malformed_records() {
     let with = |change: Change| {
         let mut record = plain;
         change(&mut record);
-        write_raw(&record, ROOM).0
+        write_raw(&record, ENOUGH).0
     };
     let rows: [(&str, Change, u8); 22] = [
         ("nothing", |_| {}, 0),
@@ -323,7 +321,7 @@ fn malformed_records() {
     for (what, change, expected) in rows {
         assert_eq!(with(change), expected, "decision 27: {what}");
     }
-    assert_eq!(write_raw(&raw::Record::ZERO, ROOM), (19, 0), "decision 28");
+    assert_eq!(write_raw(&raw::Record::ZERO, ENOUGH), (19, 0), "decision 28");
     assert_eq!(write_raw(&plain, Room { name: 6, file: 0 }), (0, 0), "decision 30");
     assert_eq!(write_raw(&plain, Room { name: 5, file: 0 }), (17, 0), "decision 30");
 }
@@ -345,7 +343,7 @@ fn texts_of_records() {
             ..plain_record()
         };
         assert_eq!(
-            write_raw(&lay_record(&record), ROOM).0,
+            write_raw(&lay_record(&record), ENOUGH).0,
             expected,
             "decision 27: {}",
             passphrase.escape_ascii()

@@ -3,10 +3,8 @@
 use judge::reference::file_name::{write_iwd, Suffix};
 use judge::reference::kind::{Ipv4, Kind};
 use judge::reference::text::{escape, unescape};
-use judge::reference::writer::{write, Room};
+use judge::reference::writer::{write, Room, ENOUGH};
 use judge::reference::{connman, iwd, moving, Credential, Ipv6, Record, Refusal};
-
-const ROOM: Room = Room { name: 70, file: 858 };
 
 /// The number and line of an answer; 0 and 0 when it is accepted.
 fn answer<T>(result: Result<T, Refusal>) -> (u8, usize) {
@@ -22,7 +20,7 @@ fn read_connman(file: &[u8]) -> (u8, usize) {
 }
 
 fn moved(file: &[u8], service: usize) -> (u8, usize) {
-    answer(moving::move_service(&connman::read(b"shop.config", file), service, ROOM))
+    answer(moving::move_service(&connman::read(b"shop.config", file), service, ENOUGH))
 }
 
 #[test]
@@ -198,14 +196,14 @@ fn the_longest_names_and_files_of_the_header() {
         ..widest
     };
     assert_eq!(
-        write(Some(&widest), ROOM).map(|written| (written.name.len(), written.file.len())),
+        write(Some(&widest), ENOUGH).map(|written| (written.name.len(), written.file.len())),
         Ok((69, 858))
     );
     let open = Record {
         credential: Credential::None,
         ..widest
     };
-    assert_eq!(write(Some(&open), ROOM).map(|written| written.name.len()), Ok(70));
+    assert_eq!(write(Some(&open), ENOUGH).map(|written| written.name.len()), Ok(70));
 }
 
 #[test]
@@ -226,7 +224,7 @@ fn slips_we_have_seen_or_fear() {
         credential: Credential::Passphrase(b"\t1234567".to_vec()),
         ..desk()
     };
-    let written = write(Some(&tab), ROOM).expect("written");
+    let written = write(Some(&tab), ENOUGH).expect("written");
     assert_eq!(
         iwd::read(&written.name, &written.file).expect("accepted").record(),
         tab,

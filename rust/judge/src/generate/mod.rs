@@ -15,7 +15,7 @@ mod values;
 use crate::case::{Buffers, Case, FileCase, RecordCase};
 use crate::layout::lift_record;
 use crate::random::Random;
-use crate::reference::writer::{write, Room, Written};
+use crate::reference::writer::{write, Room, Written, FILE_MAX, NAME_MAX};
 use crate::reference::{connman, moving, Dialect, Refusal};
 use draft::Draft;
 
@@ -134,7 +134,7 @@ fn service_number(random: &mut Random, count: usize) -> usize {
 
 /// Buffers around what must be written, or of any length where nothing is.
 fn buffers(random: &mut Random, needed: Result<Written, Refusal>) -> Buffers {
-    let (name, file) = needed.map_or((70, 858), |written| (written.name.len(), written.file.len()));
+    let (name, file) = needed.map_or((NAME_MAX, FILE_MAX), |written| (written.name.len(), written.file.len()));
     let short = |random: &mut Random, length: usize| match length {
         0 => 0,
         _ if random.once_in(2) => length - 1,

@@ -13,12 +13,23 @@ pub struct Written {
     pub file: Vec<u8>,
 }
 
+/// "We want it shown that no record the writer accepts ever needs more than 858 bytes for the file and 70 for the name, and that some
+/// record reaches each figure" (request 2026-01).
+pub const FILE_MAX: usize = 858;
+pub const NAME_MAX: usize = 70;
+
 /// How long the two lent buffers are.
 #[derive(Clone, Copy, Debug, PartialEq, Eq)]
 pub struct Room {
     pub name: usize,
     pub file: usize,
 }
+
+/// "Buffers of those sizes then never meet refusal 17."
+pub const ENOUGH: Room = Room {
+    name: NAME_MAX,
+    file: FILE_MAX,
+};
 
 /// What the writer writes of a record, which is none where it was malformed: "the writer asks 19, 16, 17".
 pub fn write(record: Option<&Record>, room: Room) -> Result<Written, Refusal> {
