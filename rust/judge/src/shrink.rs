@@ -1,4 +1,4 @@
-//! Making a failing case smaller as long as it still fails: fewer lines, fewer bytes, simpler bytes, simpler numbers.
+//! Making a failing case smaller as long as it still fails: fewer groups, fewer lines, fewer bytes, simpler bytes, simpler numbers.
 
 use crate::case::{Case, FileCase};
 use crate::encoding::{record_bytes, record_of_bytes};
@@ -57,8 +57,8 @@ impl Shrinker<'_> {
     }
 
     fn pass_file(&mut self, case: FileCase) {
-        let lines: Vec<Vec<u8>> = case.file.split_inclusive(|&byte| byte == b'\n').map(<[u8]>::to_vec).collect();
-        thin_out(lines, &mut |fewer| {
+        thin_out(groups(&case.file), &mut |fewer| self.attempt_file(fewer.concat()));
+        thin_out(lines(&self.file().file), &mut |fewer| {
             self.attempt_file(fewer.concat()) || self.attempt_plain_name(&fewer.concat())
         });
         thin_out(self.file().file, &mut |fewer| self.attempt_file(fewer.to_vec()));
@@ -163,6 +163,16 @@ impl Shrinker<'_> {
         change(&mut candidate);
         self.attempt(candidate)
     }
+}
+
+/// The lines of a file, each with its byte 10.
+fn lines(file: &[u8]) -> Vec<Vec<u8>> {
+    file.split_inclusive(|&byte| byte == b'\n').map(<[u8]>::to_vec).collect()
+}
+
+/// The headers of a file, each with the lines below it, and what stands before them.
+fn groups(file: &[u8]) -> Vec<Vec<u8>> {
+    lines(file).chunk_by(|_, next| !next.starts_with(b"[")).map(<[_]>::concat).collect()
 }
 
 /// Leaves out runs of pieces, long runs first, wherever `keeps` agrees.

@@ -2,10 +2,16 @@
 
 use super::draft::{Draft, Piece};
 use super::keys::{find, GLOBAL_KEYS, SERVICE_KEYS};
+use super::largest;
 use super::names::good_connman;
 use super::values::{good, static_ipv4};
 use crate::random::Random;
-use crate::reference::Dialect;
+use crate::reference::file_name::lower_hex;
+use crate::reference::kind::mask_of;
+use crate::reference::lines::{drop_trailing_whitespace, skip_whitespace};
+use crate::reference::text::is_broken;
+use crate::reference::writer::dotted;
+use crate::reference::{Credential, Dialect, Ipv4, Ipv6, Record};
 
 /// A legal ConnMan file under a legal name, with 0 to 8 services.
 pub fn valid(random: &mut Random) -> Draft {
@@ -73,8 +79,12 @@ fn settings(random: &mut Random, names: &[&str], percent: usize) -> Vec<Piece> {
     chosen.into_iter().map(|name| setting(random, name)).collect()
 }
 
-/// A wifi service that iwd has a place for.
+/// A wifi service that iwd has a place for, once in thirty times with a record at the largest or near it.
 fn movable(random: &mut Random) -> Vec<Piece> {
+    if random.once_in(30) {
+        let record = largest::record(random, Dialect::Connman);
+        return with_record(random, &record);
+    }
     let mut pieces = vec![word("Type", "wifi")];
     pieces.extend(network_name(random));
     match random.below(5) {
@@ -90,6 +100,43 @@ fn movable(random: &mut Random) -> Vec<Piece> {
     }
     pieces.extend(settings(random, &["IPv6", "Nameservers", "Domain", "Hidden"], 35));
     pieces
+}
+
+/// A service that has the record, which holds no 32-byte key.
+fn with_record(random: &mut Random, record: &Record) -> Vec<Piece> {
+    let mut pieces = vec![word("Type", "wifi"), with_ssid(random, &record.ssid)];
+    if let Credential::Passphrase(passphrase) = &record.credential {
+        pieces.push(Piece::setting("Passphrase", passphrase.clone()));
+    }
+    if let Ipv4::Static {
+        address,
+        prefix_length,
+        gateway: Some(gateway),
+    } = record.ipv4
+    {
+        let mask = if random.once_in(2) {
+            dotted(mask_of(prefix_length))
+        } else {
+            prefix_length.to_string().into_bytes()
+        };
+        pieces.push(Piece::setting("IPv4", [dotted(address), mask, dotted(gateway)].join(&b'/')));
+    }
+    let servers: Vec<Vec<u8>> = record.servers.iter().map(|&server| dotted(server)).collect();
+    pieces.push(Piece::setting("Nameservers", servers.join(&b',')));
+    pieces.push(Piece::setting("Domain", record.domain.clone()));
+    pieces.push(word("Hidden", if record.hidden { "true" } else { "false" }));
+    pieces.push(word("IPv6", if record.ipv6 == Ipv6::Off { "off" } else { "auto" }));
+    pieces
+}
+
+/// The network's name, often as a Name where it can be one.
+fn with_ssid(random: &mut Random, ssid: &[u8]) -> Piece {
+    let trimmed = drop_trailing_whitespace(skip_whitespace(ssid));
+    let is_string = !is_broken(ssid) && !ssid.contains(&b'\n') && trimmed == ssid;
+    if is_string && random.once_in(2) {
+        return Piece::setting("Name", ssid.to_vec());
+    }
+    Piece::setting("SSID", lower_hex(ssid))
 }
 
 fn network_name(random: &mut Random) -> Vec<Piece> {

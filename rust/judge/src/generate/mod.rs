@@ -6,6 +6,7 @@ mod connman_files;
 mod draft;
 mod iwd_files;
 mod keys;
+mod largest;
 mod mutate;
 mod names;
 mod records;
@@ -132,7 +133,7 @@ fn service_number(random: &mut Random, count: usize) -> usize {
     }
 }
 
-/// Buffers around what must be written, or of any length where nothing is.
+/// Buffers around what must be written, or of any length where nothing is; some for the largest name and file, or a byte shorter.
 fn buffers(random: &mut Random, needed: Result<Written, Refusal>) -> Buffers {
     let (name, file) = needed.map_or((NAME_MAX, FILE_MAX), |written| (written.name.len(), written.file.len()));
     let short = |random: &mut Random, length: usize| match length {
@@ -141,14 +142,15 @@ fn buffers(random: &mut Random, needed: Result<Written, Refusal>) -> Buffers {
         _ => random.below(length),
     };
     let longer = |random: &mut Random, length: usize| length + random.pick(&[0, 0, 1, 2, 7, 64, 500]);
-    let (name, file) = match random.weighted(&[45, 35, 6, 6, 4, 2, 2]) {
+    let (name, file) = match random.weighted(&[40, 32, 6, 6, 4, 2, 2, 8]) {
         0 => (name, file),
         1 => (longer(random, name), longer(random, file)),
         2 => (short(random, name), longer(random, file)),
         3 => (longer(random, name), short(random, file)),
         4 => (short(random, name), short(random, file)),
         5 => (0, longer(random, file)),
-        _ => (random.below(100), 0),
+        6 => (random.below(100), 0),
+        _ => (NAME_MAX - random.below(2), FILE_MAX - random.below(2)),
     };
     Buffers {
         name,

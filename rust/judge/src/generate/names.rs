@@ -5,7 +5,8 @@ use crate::random::Random;
 
 const PLAIN: &[u8] = b"abcXYZ0189 _-";
 
-fn plain_stem(random: &mut Random, length: usize) -> Vec<u8> {
+/// A stem of so many bytes that stands as it is.
+pub fn plain_stem(random: &mut Random, length: usize) -> Vec<u8> {
     (0..length).map(|_| random.pick(PLAIN)).collect()
 }
 
@@ -15,7 +16,7 @@ fn hex_stem(bytes: &[u8]) -> Vec<u8> {
 }
 
 /// A network name of so many bytes, with at least one byte that cannot stand plainly.
-fn odd_ssid(random: &mut Random, length: usize) -> Vec<u8> {
+pub fn odd_ssid(random: &mut Random, length: usize) -> Vec<u8> {
     let mut ssid = if random.once_in(2) {
         random.bytes(length)
     } else {

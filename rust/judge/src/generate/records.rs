@@ -1,12 +1,13 @@
 //! Records for the writer: well-formed ones of every shape, and each way of breaking one.
 
 use super::keys::Escapes;
+use super::largest;
 use super::strings::{text, BROKEN_UTF8};
 use crate::encoding::{record_bytes, record_of_bytes};
 use crate::layout::lay_record;
 use crate::random::Random;
 use crate::reference::text::unescape;
-use crate::reference::{Credential, Ipv4, Ipv6, Record};
+use crate::reference::{Credential, Dialect, Ipv4, Ipv6, Record};
 use qewaris::raw;
 
 /// A record, well formed more often than not.
@@ -24,10 +25,10 @@ pub fn record(random: &mut Random) -> raw::Record {
     record
 }
 
-/// A well-formed record.
+/// A well-formed record, once in eight times at the largest or near it.
 pub fn well_formed(random: &mut Random) -> Record {
-    if random.once_in(200) {
-        return widest(random);
+    if random.once_in(8) {
+        return largest::record(random, Dialect::Iwd);
     }
     let credential = match random.below(4) {
         0 => Credential::None,
@@ -74,29 +75,6 @@ fn just_outside(random: &mut Random) -> Record {
         }
     }
     record
-}
-
-/// A record that takes as much room as any.
-fn widest(random: &mut Random) -> Record {
-    let escaped = random.pick(b"\\\n\r");
-    let wide = [255, 254, 253, 252];
-    Record {
-        ssid: vec![0xFF; 32],
-        credential: if random.once_in(4) {
-            Credential::None
-        } else {
-            Credential::Passphrase(vec![escaped; 63])
-        },
-        hidden: true,
-        ipv4: Ipv4::Static {
-            address: wide,
-            prefix_length: random.pick(&[32, 31, 30, 26]),
-            gateway: Some([100, 200, 199, 255]),
-        },
-        servers: vec![wide; 4],
-        domain: vec![escaped; 253],
-        ipv6: Ipv6::Off,
-    }
 }
 
 fn four(random: &mut Random) -> [u8; 4] {

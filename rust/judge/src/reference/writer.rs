@@ -129,6 +129,7 @@ fn ipv6_lines(record: &Record) -> Vec<Vec<u8>> {
     }
 }
 
-fn dotted([a, b, c, d]: [u8; 4]) -> Vec<u8> {
+/// The text of an address: "four numbers 0 to 255 with dots, no leading zeros".
+pub fn dotted([a, b, c, d]: [u8; 4]) -> Vec<u8> {
     format!("{a}.{b}.{c}.{d}").into_bytes()
 }
