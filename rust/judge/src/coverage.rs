@@ -1,7 +1,8 @@
-//! How often each entry point gave each answer, and whether every answer that can occur did.
+//! How often each entry point gave each answer, and whether every answer that can occur did; then how large what was written was.
 
 use crate::entry::{Entry, ENTRIES};
 use crate::judged::Answers;
+use crate::sizes::Sizes;
 use std::fmt::Write;
 
 /// The numbers of answers: 0 to 19.
@@ -11,11 +12,13 @@ const NUMBERS: usize = 20;
 #[derive(Clone, Debug, Default)]
 pub struct Table {
     counts: [[u64; NUMBERS]; ENTRIES.len()],
+    sizes: Sizes,
 }
 
 impl Table {
     /// Counts the answers to a case; a number above 19 counts for none.
     pub fn add(&mut self, answers: &Answers) {
+        self.sizes.add(answers);
         for (entry, outcome) in answers {
             if let Some(count) = self.counts[*entry as usize].get_mut(usize::from(outcome.answer.number())) {
                 *count += 1;
@@ -25,6 +28,7 @@ impl Table {
 
     /// Adds another table's counts.
     pub fn merge(&mut self, other: &Table) {
+        self.sizes.merge(&other.sizes);
         let pairs = self.counts.iter_mut().flatten().zip(other.counts.iter().flatten());
         pairs.for_each(|(count, more)| *count += more);
     }
@@ -51,15 +55,16 @@ impl Table {
                 let _ = write!(text, "{cell:>8}");
             }
         }
-        text
+        format!("{text}\n\n{}", self.sizes.print())
     }
 
-    /// The answers that can occur and did not, and those that cannot and did.
+    /// The answers that can occur and did not, those that cannot and did, and the faults of the sizes.
     pub fn faults(&self) -> Vec<String> {
         let cells = ENTRIES.iter().flat_map(|&entry| (0..NUMBERS).map(move |number| (entry, number)));
         let wrong = cells.filter(|&(entry, number)| entry.can_answer(number) != (self.count(entry, number) > 0));
         wrong
             .map(|(entry, number)| format!("{} answered {number} {} times", entry.name(), self.count(entry, number)))
+            .chain(self.sizes.faults())
             .collect()
     }
 }

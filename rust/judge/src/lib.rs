@@ -24,6 +24,7 @@ pub mod random;
 pub mod reference;
 pub mod show;
 pub mod shrink;
+pub mod sizes;
 
 /// Puts the case that some bytes stand for (see `encoding`) to the library and to the reference. Panics, with the case made small
 /// and in print, where they differ.

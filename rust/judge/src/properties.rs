@@ -1,15 +1,17 @@
-//! The promises of document 01 put to the library's own answers, without the reference.
+//! The promises of document 01 and of request 2026-01 put to the library's own answers, without the reference's.
 //!
 //! A well-formed record with a place, written with room, reads back as the same record; the files of a move are accepted and have
-//! the service's record; a service that needs a key never becomes one that needs none.
+//! the service's record; a service that needs a key never becomes one that needs none. Buffers for the largest name and file, and
+//! longer ones, are never too short.
 
 use crate::answer::Answer;
-use crate::case::{Buffers, Case};
+use crate::case::{Buffers, Case, FileCase};
 use crate::compare::Difference;
 use crate::entry::Entry;
 use crate::judged::Answers;
 use crate::library::{write_iwd, Input};
 use crate::reference::writer::{FILE_MAX, NAME_MAX};
+use crate::reference::Fault;
 use qewaris::raw;
 
 /// The promises that the library breaks at this case.
@@ -19,21 +21,18 @@ pub fn broken_promises(case: &Case, answers: &Answers) -> Vec<Difference> {
         file: FILE_MAX,
         dirt: case.buffers().dirt,
     };
-    match case {
-        Case::Record(case) => record_reads_back(&case.record, &room).into_iter().collect(),
+    let of_case = match case {
+        Case::Record(case) => vec![record_reads_back(&case.record, &room)],
         Case::File(case) => {
-            let own = own_record(answers, Entry::IwdRecord).and_then(|record| iwd_record_is_written(&record, &room));
-            let moved = own_record(answers, Entry::ServiceRecord).and_then(|record| {
-                let mut input = Input::new(&case.name, &case.file, room.null());
-                let (moved, name, file) = new_bytes(input.move_service(case.service, &room).answer);
-                if moved.number != 0 {
-                    return None;
-                }
-                move_keeps_record(&record, &name, &file).or_else(|| move_is_what_is_written(&record, &name, &file, &room))
-            });
-            own.into_iter().chain(moved).collect()
+            let own = own_record(answers, Entry::IwdRecord);
+            vec![
+                own.and_then(|record| iwd_record_is_written(&record, &room)),
+                service_is_moved(case, answers, &room),
+            ]
         }
-    }
+    };
+    let of_buffers = own_buffers_are_enough(case.buffers(), answers);
+    of_case.into_iter().flatten().chain(of_buffers).collect()
 }
 
 fn broken(promise: &str, number: u8, members: Vec<(&str, String, String)>) -> Option<Difference> {
@@ -69,11 +68,27 @@ fn shown(bytes: &[u8]) -> String {
     format!("\"{}\"", bytes.escape_ascii())
 }
 
+/// "Buffers of those sizes then never meet refusal 17": the number of an answer with such buffers is another.
+fn room_is_enough(number: u8) -> Option<Difference> {
+    if number == Fault::ShortBuffer.number() {
+        return broken("buffers for the largest name and file are never too short", number, vec![]);
+    }
+    None
+}
+
+/// The case's own buffers, where they have those sizes or are longer, do not meet it either.
+fn own_buffers_are_enough(buffers: &Buffers, answers: &Answers) -> Option<Difference> {
+    if buffers.name < NAME_MAX || buffers.file < FILE_MAX {
+        return None;
+    }
+    answers.iter().find_map(|(_, outcome)| room_is_enough(outcome.answer.number()))
+}
+
 /// "A record so written with room reads back as the same record."
 fn record_reads_back(record: &raw::Record, room: &Buffers) -> Option<Difference> {
     let (written, name, file) = new_bytes(write_iwd(record, room).answer);
     if written.number != 0 {
-        return None;
+        return room_is_enough(written.number);
     }
     let read = Input::new(&name, &file, false).iwd_record();
     if read.number == 0 && read.record == *record {
@@ -93,6 +108,17 @@ fn iwd_record_is_written(record: &raw::Record, room: &Buffers) -> Option<Differe
         return broken("the record of an iwd file can be written with room", written.number, vec![]);
     }
     record_reads_back(record, room)
+}
+
+/// A service that is moved with room keeps its record, and becomes what is written of it.
+fn service_is_moved(case: &FileCase, answers: &Answers, room: &Buffers) -> Option<Difference> {
+    let mut input = Input::new(&case.name, &case.file, room.null());
+    let (moved, name, file) = new_bytes(input.move_service(case.service, room).answer);
+    if moved.number != 0 {
+        return room_is_enough(moved.number);
+    }
+    let record = own_record(answers, Entry::ServiceRecord)?;
+    move_keeps_record(&record, &name, &file).or_else(|| move_is_what_is_written(&record, &name, &file, room))
 }
 
 /// "A service needs a key when its credential is not none"; the moved file is accepted and has the service's record.

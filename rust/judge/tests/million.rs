@@ -1,8 +1,8 @@
 //! A million cases, each put to every entry point that applies to it, against the reference.
 //!
 //! The cases depend on the seed alone, not on the threads. `QEWARIS_SEED` and `QEWARIS_CASES` choose another run, `QEWARIS_FIRST`
-//! the number of its first case. Prints how often each entry point gave each answer, and fails where the library differs from the
-//! paper or an answer that can occur did not.
+//! the number of its first case. Prints how often each entry point gave each answer and wrote the largest name and file, and fails
+//! where the library differs from the paper, an answer that can occur did not, or a largest length was not met or was passed.
 
 use judge::case::Case;
 use judge::compare::{try_case, Difference};
@@ -48,7 +48,7 @@ fn main() {
     assert!(findings.count == 0, "{} cases differ", findings.count);
     assert!(
         cases < CASES || missing.is_empty(),
-        "the cases do not meet the answers that can occur"
+        "the cases do not meet the answers and the largest lengths that can occur"
     );
 }
 

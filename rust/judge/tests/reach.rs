@@ -6,6 +6,7 @@ use judge::generate;
 use judge::judged;
 use judge::reference::groups::groups;
 use judge::reference::lines::{header, lines, shape, Shape};
+use judge::reference::writer::{FILE_MAX, NAME_MAX};
 use judge::reference::Dialect;
 use std::collections::BTreeMap;
 
@@ -38,6 +39,26 @@ fn files_at_the_limit_are_accepted_and_refused() {
     assert!(
         lengths.keys().all(|(length, number)| (*length > 16_384) == (*number == 1)),
         "{lengths:?}"
+    );
+}
+
+#[test]
+fn buffers_for_the_largest_are_enough_and_a_byte_less_is_not() {
+    let mut numbers: BTreeMap<(usize, usize, u8), u64> = BTreeMap::new();
+    for index in 0..CASES {
+        let case = generate::case(SEED, index);
+        let buffers = case.buffers();
+        if [NAME_MAX - 1, NAME_MAX].contains(&buffers.name) && [FILE_MAX - 1, FILE_MAX].contains(&buffers.file) {
+            let (_, written) = judged::answers(&case).pop().expect("the writer or the move comes last");
+            *numbers.entry((buffers.name, buffers.file, written.answer.number())).or_default() += 1;
+        }
+    }
+    let count = |name: usize, file: usize, number: u8| numbers.get(&(name, file, number)).copied().unwrap_or(0);
+    assert!(count(NAME_MAX, FILE_MAX, 0) > 100, "{numbers:?}");
+    assert_eq!(count(NAME_MAX, FILE_MAX, 17), 0);
+    assert!(
+        count(NAME_MAX - 1, FILE_MAX, 17).min(count(NAME_MAX, FILE_MAX - 1, 17)) >= 15,
+        "{numbers:?}"
     );
 }
 
