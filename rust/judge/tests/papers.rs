@@ -1,9 +1,10 @@
-//! The reference on document 01's own examples: the twelve cases of the one table, the worked move, and what 01 leaves to tests.
+//! The reference on document 01's own examples: the twelve cases of the one table, the worked move, and what 01 leaves to tests; and
+//! on the two largest records of request 2026-01.
 
 use judge::reference::file_name::{write_iwd, Suffix};
 use judge::reference::kind::{Ipv4, Kind};
 use judge::reference::text::{escape, unescape};
-use judge::reference::writer::{write, Room, ENOUGH};
+use judge::reference::writer::{write, Room, ENOUGH, FILE_MAX, NAME_MAX};
 use judge::reference::{connman, iwd, moving, Credential, Ipv6, Record, Refusal};
 
 /// The number and line of an answer; 0 and 0 when it is accepted.
@@ -175,35 +176,46 @@ fn eight_and_nine_services() {
     );
 }
 
-#[test]
-fn the_longest_names_and_files_of_the_header() {
-    let escaped = |count: usize| vec![b'\\'; count];
-    let widest = Record {
-        ssid: vec![0xFF; 32],
-        credential: Credential::Passphrase(escaped(63)),
-        domain: escaped(253),
-        ..desk()
-    };
+/// The record of the largest file: every line of it has its greatest length.
+fn largest_file() -> Record {
     let wide = [255, 255, 255, 255];
-    let ipv4 = Ipv4::Static {
-        address: wide,
-        prefix_length: 32,
-        gateway: Some(wide),
-    };
-    let widest = Record {
-        ipv4,
+    Record {
+        ssid: vec![0xFF; 32],
+        credential: Credential::Passphrase(vec![b'\\'; 63]),
+        hidden: true,
+        ipv4: Ipv4::Static {
+            address: wide,
+            prefix_length: 32,
+            gateway: Some(wide),
+        },
         servers: vec![wide; 4],
-        ..widest
-    };
-    assert_eq!(
-        write(Some(&widest), ENOUGH).map(|written| (written.name.len(), written.file.len())),
-        Ok((69, 858))
-    );
-    let open = Record {
+        domain: vec![b'\\'; 253],
+        ipv6: Ipv6::Off,
+    }
+}
+
+/// The record of the largest name: `.open` is longer than `.psk`.
+fn largest_name() -> Record {
+    Record {
         credential: Credential::None,
-        ..widest
-    };
-    assert_eq!(write(Some(&open), ENOUGH).map(|written| written.name.len()), Ok(70));
+        ..largest_file()
+    }
+}
+
+#[test]
+fn the_largest_file_and_the_largest_name_fill_their_buffers() {
+    let security_group = b"[Security]\nPassphrase=\n".len() + 2 * 63;
+    let rows = [
+        (largest_file(), NAME_MAX - 1, FILE_MAX),
+        (largest_name(), NAME_MAX, FILE_MAX - security_group),
+    ];
+    for (record, name, file) in rows {
+        let written = write(Some(&record), Room { name, file }).expect("written");
+        assert_eq!((written.name.len(), written.file.len()), (name, file));
+        for room in [Room { name: name - 1, ..ENOUGH }, Room { file: file - 1, ..ENOUGH }] {
+            assert_eq!(answer(write(Some(&record), room)), (17, 0));
+        }
+    }
 }
 
 #[test]
