@@ -1,11 +1,16 @@
-//! Cases as bytes: what is encoded is decoded, and every byte string is some case.
+//! Cases as bytes: what is encoded is decoded, every byte string is some case, and the fuzzer's seeds are good ones.
 
+use judge::answer::Answer;
 use judge::case::{Buffers, Case, FileCase};
 use judge::encoding::{decode, encode, record_bytes, record_of_bytes, LONGEST_BUFFER};
 use judge::layout::{lay_record, lift_record};
 use judge::random::Random;
 use judge::reference::writer::{FILE_MAX, NAME_MAX};
-use judge::{generate, one};
+use judge::{generate, judged, one};
+use std::fs;
+
+/// Where the fuzzer's seeds are.
+const SEEDS: &str = concat!(env!("CARGO_MANIFEST_DIR"), "/../../fuzz/seeds");
 
 #[test]
 fn a_case_is_decoded_from_its_bytes() {
@@ -96,4 +101,24 @@ fn the_library_agrees_at_seeds_and_at_any_bytes() {
         let length = random.below(600);
         one(&random.bytes(length));
     }
+}
+
+#[test]
+fn the_library_agrees_at_every_seed_of_the_fuzzer() {
+    let seeds = fs::read_dir(SEEDS).expect("seeds").map(|entry| entry.expect("a seed").path());
+    assert!(seeds.map(|path| one(&fs::read(path).expect("bytes"))).count() > 0);
+}
+
+#[test]
+fn seeds_reach_the_largest_file_and_the_largest_name() {
+    let lengths = |seed: &str| {
+        let case = decode(&fs::read(format!("{SEEDS}/{seed}")).expect("a seed"));
+        match judged::answers(&case).pop().expect("the writer or the move comes last").1.answer {
+            Answer::Written { written, .. } => (written.name_len, written.file_len),
+            _ => panic!("nothing is written"),
+        }
+    };
+    assert_eq!(lengths("record-largest-file"), (NAME_MAX - 1, FILE_MAX));
+    assert_eq!(lengths("connman-largest-file"), (NAME_MAX - 1, FILE_MAX));
+    assert_eq!(lengths("record-largest-name").0, NAME_MAX);
 }
