@@ -6,6 +6,7 @@ use native.Mathlib.Nat.{sub-zero}
 use native.Mathlib.Omega.{arith}
 use lib.ListN.{length, take, length-take}
 use Rattle.text.specs.Parts.{part}
+use Rattle.names.specs.Names.{nameMax}
 use Rattle.names.specs.Dialects.{dialectOf}
 use Rattle.rules.specs.Reading.{reading}
 use Rattle.rules.specs.declared.Reading.{Reading}
@@ -26,7 +27,7 @@ module _ (i : List ℕ) {name file : List ℕ} {k : NamedFile} (h : KeepsFile i 
       let whole : part 0 (k .name) name ≡ h .line = ap (λ (j : ℕ). take j name) (sub-zero (k .name)) ∙ front-whole (h .named) l in
       e ∙ ap (λ (t : List ℕ). reading (dialectOf t) t (part 0 (k .file) file)) whole ∙ kept-file
 
-  pub answer-long : 70 < length name → k .name ≡ length name → {r : Reading} → r ≡ longAnswer (k .form) (part 0 (k .file) file) → r ≡ checkedInput i
+  pub answer-long : nameMax < length name → k .name ≡ length name → {r : Reading} → r ≡ longAnswer (k .form) (part 0 (k .file) file) → r ≡ checkedInput i
   answer-long l n e =
-      let long : 70 < length (h .line) = omega (arith, n, h .named .count, length-take (length name) (h .line)) in
+      let long : nameMax < length (h .line) = omega (arith, n, h .named .count, length-take (length name) (h .line)) in
       e ∙ ap (λ (f : Form). longAnswer f (part 0 (k .file) file)) (h .formed) ∙ long-answer (h .line) (part 0 (k .file) file) long ∙ kept-file

@@ -13,7 +13,7 @@ use Rattle.text.specs.Words.{word, same}
 use Rattle.text.specs.Laws.{and-true, same-eq}
 use Rattle.text.specs.declared.Dialect.{Dialect}
 use Rattle.text.specs.declared.Dialect.the-variants.{Iwd, ConnMan}
-use Rattle.names.specs.Names.{Network, networkOf, connmanName}
+use Rattle.names.specs.Names.{Network, networkOf, nameMax, connmanName}
 use Rattle.names.specs.Laws.{file-name-network, network-bytes, file-name-short}
 use Rattle.names.specs.Dialects.{dialectOf}
 use Rattle.rules.specs.Reading.{reading, nameIn}
@@ -29,8 +29,8 @@ reading-unnamed : (d g : Dialect) (a b file : List ℕ) → nameIn d a ≡ none 
 unfolding reading
 reading-unnamed d g a b file e q = rw (e, q)
 
--- no good iwd name is longer than 70 bytes
-long-unnamed : (f : List ℕ) → 70 < length f → networkOf f ≡ none
+-- no good iwd name is longer than `nameMax`
+long-unnamed : (f : List ℕ) → nameMax < length f → networkOf f ≡ none
 long-unnamed f l = go (networkOf f) refl
   where
     go : (o : Option Network) → networkOf f ≡ o → o ≡ none
@@ -49,7 +49,7 @@ no-name : nameIn Iwd [] ≡ none
 unfolding networkOf
 no-name = refl
 
-pub long-answer : (f file : List ℕ) → 70 < length f → longAnswer (formFrom Empty f) file ≡ reading (dialectOf f) f file
+pub long-answer : (f file : List ℕ) → nameMax < length f → longAnswer (formFrom Empty f) file ≡ reading (dialectOf f) f file
 long-answer f file l = ap (λ (b : Bool). cond b (reading ConnMan (word "a.config") file) (reading Iwd [] file)) (form-connman f) ∙ go (connmanName f) refl
   where
     other : connmanName f ≡ false → (d : Dialect) → reading Iwd [] file ≡ reading d f file

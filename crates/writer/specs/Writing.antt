@@ -25,7 +25,7 @@ pub data Writing : Type 0 where
 abbrev pub room : List ℕ → List ℕ → Bool
 room t buffer = leb (length t) (length buffer)
 
--- room for every name and every file that is ever written
+-- room for every name and every file that is ever written: "Buffers of those sizes" (request 2026-01)
 pub record Ample (n f : List ℕ) : Type 0 where
   pub name : nameMax ≤ length n
   pub file : fileMax ≤ length f

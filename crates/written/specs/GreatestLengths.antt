@@ -1,4 +1,5 @@
--- How long the written iwd file can be: its lines, each with its greatest length, and what they come to.
+-- How long the written iwd file can be, "no record the writer accepts ever needs more" of request 2026-01: its lines, each with
+-- its greatest length, and what they come to.
 use Prim.Native.Nat.{ℕ, _+_, _*_, _≤_}
 use mathlib.Core.Logic.{_⊎_}
 use mathlib.Core.List.{List, [], _∷_, _++_}

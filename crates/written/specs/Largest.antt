@@ -1,5 +1,5 @@
--- The records that take the most room: one by its file, and one by its name. None does both: a record with the longest file has
--- a key, so that its name ends in `.psk`, which is shorter than `.open`.
+-- The records that take the most room, "some record reaches each figure" of request 2026-01: one by its file, and one by its
+-- name. None does both: the longest file has a passphrase, so that its name ends in `.psk`, which is shorter than `.open`.
 use Prim.Native.Nat.{ℕ}
 use mathlib.Core.Path.{_≡_}
 use mathlib.Core.Bool.{true, false}

@@ -1,4 +1,4 @@
--- What to read beside document 01: "The written iwd file", the greatest length of each of its lines, and the records that reach them
+-- What to read beside document 01: "The written iwd file"; and beside request 2026-01: how long it can be, and which records reach that
 pub mod Written
 pub mod GreatestLengths
 pub mod Largest
