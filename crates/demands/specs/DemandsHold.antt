@@ -4,8 +4,6 @@ use native.Mathlib.Omega.{arith}
 use mathlib.Core.Path.{_≡_, refl, ap, sym, _∙_}
 use mathlib.Core.List.{List}
 use mathlib.Core.Option.{Option, none}
-use borrow.Author.Tests.{le-leb}
-use lib.ListN.{length}
 use Rattle.text.specs.Words.{word}
 use Rattle.text.specs.declared.Dialect.{Dialect}
 use Rattle.text.specs.declared.Dialect.the-variants.{Iwd, ConnMan}
@@ -29,6 +27,7 @@ use Rattle.records.specs.Record.{joined}
 use Rattle.records.specs.Laws.{joined-good}
 use Rattle.written.specs.Written.{nameText, fileText}
 use Rattle.writer.specs.Writing.{Writing, writes, refuses, writing, writtenAnswer}
+use Rattle.writer.specs.Room.{roomy}
 use Rattle.joins.specs.Joins as J
 use Rattle.joins.specs.Security.{key-needed, psk-needs-key, none-needs-no-key}
 use Rattle.joins.specs.SaturdayHolds.{faulty-refused}
@@ -133,8 +132,7 @@ demand-2-round-trip r s n f w =
     }
   where
     is : writing r s n f ≡ writes (nameText (joined r s)) (fileText (joined r s))
-    is =
-        rw (w .formed-is, w .placed, le-leb (length (nameText (joined r s))) (length n) (w .name-room), le-leb (length (fileText (joined r s))) (length f) (w .file-room))
+    is = rw (w .formed-is, w .placed) (roomy (joined r s) n f (w .name-room) (w .file-room))
 
 -- ---- demand 3
 

@@ -17,6 +17,7 @@ use Rattle.rules.specs.declared.Reading.{Reading}
 use Rattle.rules.specs.declared.Reading.the-variants as R
 use Rattle.rules.specs.declared.Refusal.{Refusal}
 use Rattle.rules.specs.declared.Refusal.the-variants.{NoPlace, NoService, Malformed}
+use Rattle.records.specs.Record.{Join}
 use Rattle.writer.specs.Writing.{Writing, refuses, Ample, writingOf, writtenAnswer, Writes}
 use Rattle.writer.specs.Room.{writtenNumber, RoomIs, enough, short, room-is, placed-number, ample-writes}
 use Rattle.writer.specs.declared.Written.{Written}
@@ -47,6 +48,10 @@ move-is name file w n f = go (reading D.ConnMan name file) refl
     listed s none q = placed s (earliest-none (unplaced (serviceSetting w file)) q)
     listed s (some l) q = no-place s q
 
+    service : (k m : ℕ) → reading D.ConnMan name file ≡ R.Accepted k m → between 1 m w ≡ true → Service name file w
+    service k m q b =
+        record { settings = k; services = m; accepted = q; low = between-low {x = w} 1 m b; high = between-high {x = w} 1 m b }
+
     go : (r : Reading) → reading D.ConnMan name file ≡ r →
         MoveIs name file w n f (movedIfGood (askedOf w r) (movingOf (serviceSetting w file) n f))
     go (R.Refused r k) q = file-refused q
@@ -54,10 +59,14 @@ move-is name file w n f = go (reading D.ConnMan name file) refl
       where
         numbered : (b : Bool) → between 1 m w ≡ b →
             MoveIs name file w n f (movedIfGood (cond b A.Good (A.Refused NoService 0)) (movingOf (serviceSetting w file) n f))
-        numbered true b = listed (record { settings = k; services = m; accepted = q; low = between-low {x = w} 1 m b; high = between-high {x = w} 1 m b }) (earliest (unplaced (serviceSetting w file))) refl
+        numbered true b = listed (service k m q b) (earliest (unplaced (serviceSetting w file))) refl
         numbered false b = no-service
 
 -- ---- 16, 17 and 19
+
+-- of a record that has a place the writer does not answer 16
+never-16 : (j : Join) (n f : List ℕ) → writtenNumber (writingOf j n f) ≡ 16 → ⊥
+never-16 j n f = placed-number j n f (λ k. k ≡ 16 → ⊥) (λ e. omega (arith, e)) (λ e. omega (arith, e))
 
 module _ {name file : List ℕ} {w : ℕ} (s : Service name file w) (n f : List ℕ) {l : ℕ} where
   pub moving-16 : earliest (unplaced (serviceSetting w file)) ≡ some l → moving name file w n f ≡ refuses NoPlace l
@@ -68,7 +77,7 @@ module _ {name file : List ℕ} {w : ℕ} (s : Service name file w) (n f : List 
     where
       go : (o : Option ℕ) → orUnplaced o (writingOf (serviceJoin (serviceSetting w file)) n f) ≡ refuses NoPlace l →
           o ≡ some l
-      go none q = absurd (placed-number (serviceJoin (serviceSetting w file)) n f (λ k. k ≡ 16 → ⊥) (λ e. omega (arith, e)) (λ e. omega (arith, e)) (ap writtenNumber q))
+      go none q = absurd (never-16 (serviceJoin (serviceSetting w file)) n f (ap writtenNumber q))
       go (some k) q = let g : k ≡ l = cc in ap some g
 
 -- a move never answers 19, nor, into ample buffers, 17

@@ -26,7 +26,10 @@ writtenNumber w = answerNumber (writtenAnswer w .answer)
 
 pub roomy : (j : Join) (n f : List ℕ) → length (nameText j) ≤ length n → length (fileText j) ≤ length f →
     writingOf j n f ≡ writes (nameText j) (fileText j)
-roomy j n f h g = ap₂ (λ (a b : Bool). cond (a && b) (writes (nameText j) (fileText j)) (refuses ShortBuffer 0)) (le-leb (length (nameText j)) (length n) h) (le-leb (length (fileText j)) (length f) g)
+roomy j n f h g =
+    ap₂ (λ (a b : Bool). cond (a && b) (writes (nameText j) (fileText j)) (refuses ShortBuffer 0))
+    (le-leb (length (nameText j)) (length n) h)
+    (le-leb (length (fileText j)) (length f) g)
 
 -- what is answered of a record that has a place, with room and without
 pub data RoomIs (j : Join) (n f : List ℕ) : Writing → Type 0 where
