@@ -2,11 +2,11 @@
 use Prim.Native.Nat.{ℕ, _<_}
 use native.Mathlib.Omega.{arith}
 use mathlib.Core.Path.{_≡_, refl, ap, ap₂, sym, _∙_, subst}
-use mathlib.Core.Bool.{Bool, true, false, cond, _&&_, true≢false}
+use mathlib.Core.Bool.{Bool, true, false, cond, true≢false}
 use mathlib.Core.Logic.{_↔_}
 use mathlib.Core.List.{List}
 use mathlib.Core.Option.{Option, none, some}
-use borrow.Author.Tests.{le-leb, leb-true, eq-eqb}
+use borrow.Author.Tests.{eq-eqb}
 use lib.ListN.{length, drop, replicate}
 use lib.Seq.{take-append-seam, drop-append-seam}
 use Rattle.text.specs.Laws.{inside}
@@ -23,12 +23,13 @@ use Rattle.rules.specs.declared.Answer.{Answer}
 use Rattle.rules.specs.declared.Answer.the-variants.{Good, Refused}
 use Rattle.rules.specs.declared.Reading.{Reading}
 use Rattle.rules.specs.declared.Reading.the-variants as R
-use Rattle.rules.specs.declared.Refusal.the-variants.{NoPlace, NoService, ShortBuffer, Malformed}
+use Rattle.rules.specs.declared.Refusal.the-variants.{NoService, Malformed}
 use Rattle.lookups.specs.Lookups.{lookupOf}
 use Rattle.records.specs.Record.{Join, joined}
 use Rattle.records.specs.Formed.{formed}
 use Rattle.written.specs.Written.{hasPlace, nameText, fileText}
-use Rattle.writer.specs.Writing.{Writing, writes, refuses, room, writing, writtenAnswer, nameAfter, fileAfter, Writes}
+use Rattle.writer.specs.Writing.{Writing, writes, refuses, writing, writtenAnswer, nameAfter, fileAfter, Writes}
+use Rattle.writer.specs.Room.{writtenNumber, roomy, RoomIs, enough, short, room-is, WritingIs, malformed, no-place, placed, writing-is}
 use Rattle.joins.specs.Joins as J
 use Rattle.joins.specs.Joins.{Joined, noRecord, orNoPlace, iwdJoin, networkName, serviceJoin, serviceSetting, recordAnswer, iwdRecord, serviceRecord}
 use Rattle.round_trip.specs.Structs.{writing-record, writing-servers}
@@ -116,28 +117,26 @@ module _ (c : CRecord) (n f : List ℕ) where
 
   brought-writing : WritableBytes c n f → writing (recordIn c) (serversIn c) n f ≡ writes (nameText j) (fileText j)
   unfolding writing
-  brought-writing w =
-      rw (w .formed-is, w .placed, le-leb (length (nameText j)) (length n) (w .name-room), le-leb (length (fileText j)) (length f) (w .file-room))
+  brought-writing w = rw (w .formed-is, w .placed) (roomy j n f (w .name-room) (w .file-room))
 
   writable-writes : WritableBytes c n f → writingIn c n f ≡ writes (nameText j) (fileText j)
   writable-writes w = rw (w .codes) (brought-writing w)
 
   written-writable : answerNumber (writtenAnswer (writingIn c n f) .answer) ≡ 0 → WritableBytes c n f
-  unfolding writing
   written-writable =
-      go (known c) refl (formed (recordIn c) (serversIn c)) refl (hasPlace (j .ipv4)) refl (room (nameText j) n) refl (room (fileText j) f) refl
+      go (known c) refl (writing (recordIn c) (serversIn c) n f) (writing-is (recordIn c) (serversIn c) n f)
     where
-      go : (a : Bool) → known c ≡ a → (b : Bool) → formed (recordIn c) (serversIn c) ≡ b → (p : Bool) →
-          hasPlace (j .ipv4) ≡ p → (x : Bool) → room (nameText j) n ≡ x → (y : Bool) → room (fileText j) f ≡ y →
-          answerNumber (writtenAnswer (cond a (cond b (cond p (cond (x && y) (writes (nameText j) (fileText j)) (refuses ShortBuffer 0)) (refuses NoPlace 0)) (refuses Malformed 0)) (refuses Malformed 0)) .answer) ≡ 0 →
-          WritableBytes c n f
-      go true ea true eb true ep true ex true ey e =
-          record { codes = ea; formed-is = eb; placed = ep; name-room = leb-true (length (nameText j)) (length n) ex; file-room = leb-true (length (fileText j)) (length f) ey }
-      go true ea true eb true ep true ex false ey e = absurd (omega (arith, e))
-      go true ea true eb true ep false ex y ey e = absurd (omega (arith, e))
-      go true ea true eb false ep x ex y ey e = absurd (omega (arith, e))
-      go true ea false eb p ep x ex y ey e = absurd (omega (arith, e))
-      go false ea b eb p ep x ex y ey e = absurd (omega (arith, e))
+      roomed : known c ≡ true → formed (recordIn c) (serversIn c) ≡ true → hasPlace (j .ipv4) ≡ true → (m : Writing) →
+          RoomIs j n f m → writtenNumber m ≡ 0 → WritableBytes c n f
+      roomed k g p m (enough x y) e = record { codes = k; formed-is = g; placed = p; name-room = x; file-room = y }
+      roomed k g p m short e = absurd (omega (arith, e))
+
+      go : (b : Bool) → known c ≡ b → (m : Writing) → WritingIs (recordIn c) (serversIn c) n f m →
+          writtenNumber (cond b m (refuses Malformed 0)) ≡ 0 → WritableBytes c n f
+      go true k m malformed e = absurd (omega (arith, e))
+      go true k m no-place e = absurd (omega (arith, e))
+      go true k m (placed g p) e = roomed k g p m (room-is j n f) e
+      go false k m i e = absurd (omega (arith, e))
 
   write-success : WritableBytes c n f ↔ (answerNumber (writtenAnswer (writingIn c n f) .answer) ≡ 0)
   write-success =

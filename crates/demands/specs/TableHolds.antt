@@ -2,7 +2,7 @@
 use Prim.Native.Nat.{ℕ}
 use native.Mathlib.Omega.{arith}
 use mathlib.Core.Path.{_≡_, refl}
-use mathlib.Core.Bool.{Bool, true, false, cond, not, _&&_, _||_}
+use mathlib.Core.Bool.{Bool, true, false, cond, not, _||_}
 use mathlib.Core.List.{List, [], _∷_, _++_}
 use mathlib.Core.Option.{Option, none, some}
 use lib.Dec.{leb}
@@ -33,14 +33,14 @@ use Rattle.rules.specs.declared.Answer.the-variants.{Good, Refused}
 use Rattle.rules.specs.declared.Reading.{Reading}
 use Rattle.rules.specs.declared.Reading.the-variants as R
 use Rattle.rules.specs.declared.Refusal.{Refusal}
-use Rattle.rules.specs.declared.Refusal.the-variants.{NoPlace, NoService, ShortBuffer, Malformed}
+use Rattle.rules.specs.declared.Refusal.the-variants.{NoService}
 use Rattle.settings.specs.Asked.{iwdAnswerOf, serviceAnswerOf}
 use Rattle.lookups.specs.Lookups.{lookupOf}
 use Rattle.records.specs.Record.{Join, joined}
-use Rattle.records.specs.Formed.{formed}
 use Rattle.records.specs.declared.JoinRecord.{JoinRecord}
-use Rattle.written.specs.Written.{hasPlace, nameText, fileText}
-use Rattle.writer.specs.Writing.{writes, refuses, room, writing, writingOf, writtenAnswer}
+use Rattle.written.specs.Written.{hasPlace}
+use Rattle.writer.specs.Writing.{Writing, writing, writingOf, writtenAnswer}
+use Rattle.writer.specs.Room.{RoomIs, enough, short, room-is, WritingIs, malformed, no-place, placed, writing-is}
 use Rattle.joins.specs.Joins as J
 use Rattle.rules.specs.Tables.{keysOf}
 use Rattle.joins.specs.Joins.{ipv4OrDhcp, iwdJoin, networkName, foreign, foreignSecurity, noRecord, serviceJoin, serviceSetting, recordAnswer, iwdRecord, serviceRecord, wired, orNoPlace}
@@ -183,31 +183,31 @@ record-given k Good none j h p = refl
 record-given k Good (some l) j h p = rw p
 record-given k (Refused r l) o j h p = has-row-append k serviceRows (lined 16 ∷ []) (numberOf r) l h
 
-room-given : (k : ℕ) (b : Bool) (x y : List ℕ) →
-    InRows k moveRows (writtenAnswer (cond b (writes x y) (refuses ShortBuffer 0)) .answer)
-room-given k true x y = refl
-room-given k false x y = refl
+-- of a record that has a place: 0 or 17, without a line
+room-given : (k : ℕ) (rs : List AnswerRow) → hasRow k rs 0 0 ≡ true → hasRow k rs 17 0 ≡ true → (j : Join) (n f : List ℕ) →
+    InRows k rs (writtenAnswer (writingOf j n f) .answer)
+room-given k rs x y j n f = go (writingOf j n f) (room-is j n f)
+  where
+    go : (m : Writing) → RoomIs j n f m → InRows k rs (writtenAnswer m .answer)
+    go m (enough a b) = x
+    go m short = y
 
 move-given : (k : ℕ) (a : Answer) (o : Option ℕ) (j : Join) (n f : List ℕ) → InRows k serviceRows a →
     IfSome (λ l. between 1 k l ≡ true) o →
     InRows k moveRows (writtenAnswer (movedIfGood a (orUnplaced o (writingOf j n f))) .answer)
-move-given k Good none j n f h p = room-given k (room (nameText j) n && room (fileText j) f) (nameText j) (fileText j)
+move-given k Good none j n f h p = room-given k moveRows refl refl j n f
 move-given k Good (some l) j n f h p = rw p
 move-given k (Refused r l) o j n f h p =
     has-row-append k serviceRecordRows (bare 17 ∷ []) (numberOf r) l (has-row-append k serviceRows (lined 16 ∷ []) (numberOf r) l h)
 
 pub write-given : (r : JoinRecord) (s : List (List ℕ)) (n f : List ℕ) →
     InRows 0 writerRows (writtenAnswer (writing r s n f) .answer)
-unfolding writing
-write-given r s n f =
-    go (formed r s) (hasPlace (joined r s .ipv4)) (room (nameText (joined r s)) n && room (fileText (joined r s)) f) (nameText (joined r s)) (fileText (joined r s))
+write-given r s n f = go (writing r s n f) (writing-is r s n f)
   where
-    go : (a b c : Bool) (x y : List ℕ) →
-        InRows 0 writerRows (writtenAnswer (cond a (cond b (cond c (writes x y) (refuses ShortBuffer 0)) (refuses NoPlace 0)) (refuses Malformed 0)) .answer)
-    go true true true x y = refl
-    go true true false x y = refl
-    go true false c x y = refl
-    go false b c x y = refl
+    go : (m : Writing) → WritingIs r s n f m → InRows 0 writerRows (writtenAnswer m .answer)
+    go m malformed = refl
+    go m no-place = refl
+    go m (placed e p) = room-given 0 writerRows refl refl (joined r s) n f
 
 -- ---- every call
 

@@ -10,8 +10,7 @@ ghost use lib.ListN.{length};
 use intake::streams;
 use rules::Answer;
 use rules::Reading;
-use written::FILE_MAX;
-use written::NAME_MAX;
+use written::buffers;
 
 fn check(name: &[u8], file: &[u8]) {
     let read = qewaris::check(names::dialects::dialect_of(name), name, file);
@@ -36,8 +35,8 @@ fn say_moved(name: &[u8], name_len: usize, file: &[u8], file_len: usize) {
 }
 
 fn move_service(file: &[u8], service: usize) {
-    let mut name_out = [0u8; NAME_MAX];
-    let mut file_out = [0u8; FILE_MAX];
+    let mut name_out = buffers::for_name();
+    let mut file_out = buffers::for_file();
     let written = qewaris::files::move_service(
         b"shop.config",
         file,

@@ -22,10 +22,9 @@ use intake::numbers;
 use intake::streams;
 use rules::Answer;
 use writer::Written;
-use written::FILE_MAX;
-use written::NAME_MAX;
-use written::NewFile;
-use written::NewName;
+use written::buffers;
+use written::buffers::NewFile;
+use written::buffers::NewName;
 
 // Says what was written, or the refusal, which is never that a buffer was too short.
 fn say_written(w: Written, name: &NewName, file: &NewFile)
@@ -87,8 +86,8 @@ fn main() {
     let input = streams::read_input(&mut number, &mut name, &mut file, true);
     let kept = input.kept;
     if input.whole {
-        let mut name_out = [0u8; NAME_MAX];
-        let mut file_out = [0u8; FILE_MAX];
+        let mut name_out = buffers::for_name();
+        let mut file_out = buffers::for_file();
         let written = move_kept(kept, &number, &file, &mut name_out, &mut file_out);
         say_written(written, &name_out, &file_out);
     }

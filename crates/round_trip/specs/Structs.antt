@@ -1,17 +1,18 @@
 -- The round trip of a struct and its servers: what the writer writes of them reads back as that struct and those servers.
 use Prim.Native.Nat.{ℕ}
 use native.Mathlib.Omega.{arith}
-use mathlib.Core.Path.{_≡_, refl, ap, ap₂, sym, _∙_}
-use mathlib.Core.Bool.{Bool, true, false, cond, _&&_}
+use mathlib.Core.Path.{_≡_, ap, ap₂, sym, _∙_}
+use mathlib.Core.Bool.{true}
 use mathlib.Core.List.{List}
-use Rattle.rules.specs.declared.Refusal.the-variants.{Malformed, NoPlace, ShortBuffer}
+use Rattle.rules.specs.declared.Refusal.{Refusal}
 use Rattle.rules.specs.declared.Answer.the-variants.{Good}
 use Rattle.records.specs.Record.{joined}
 use Rattle.records.specs.Formed.{formed, Arrays}
 use Rattle.records.specs.Laws.{joined-good, laid-joined, laid-joined-servers}
 use Rattle.records.specs.declared.JoinRecord.{JoinRecord}
 use Rattle.written.specs.Written.{nameText, fileText, hasPlace}
-use Rattle.writer.specs.Writing.{room, writes, refuses, writing}
+use Rattle.writer.specs.Writing.{Writing, writes, refuses, writing}
+use Rattle.writer.specs.Room.{RoomIs, enough, short, room-is, WritingIs, malformed, no-place, placed, writing-is}
 use Rattle.joins.specs.Joins.{iwdRecord, iwdRecordServers}
 use Rattle.round_trip.specs.RoundTrip.{round-trip-record, round-trip-servers}
 
@@ -22,18 +23,22 @@ record WrittenFrom (r : JoinRecord) (s : List (List ℕ)) (a b : List ℕ) : Typ
   name : nameText (joined r s) ≡ a
   file : fileText (joined r s) ≡ b
 
+refused-writes : {P : Type 0} {r : Refusal} {l : ℕ} {a b : List ℕ} → refuses r l ≡ writes a b → P
+refused-writes e = let z : _≡_ {A = ℕ} 0 1 = cc in absurd (omega arith)
+
 written-from : (r : JoinRecord) (s : List (List ℕ)) (n f : List ℕ) {a b : List ℕ} → writing r s n f ≡ writes a b →
     WrittenFrom r s a b
-unfolding writing
-written-from r s n f {a} {b} e = go (formed r s) refl (hasPlace (joined r s .ipv4)) refl (room (nameText (joined r s)) n && room (fileText (joined r s)) f) e
+written-from r s n f {a} {b} e = go (writing r s n f) (writing-is r s n f) e
   where
-    go : (x : Bool) → formed r s ≡ x → (y : Bool) → hasPlace (joined r s .ipv4) ≡ y → (z : Bool) →
-        cond x (cond y (cond z (writes (nameText (joined r s)) (fileText (joined r s))) (refuses ShortBuffer 0)) (refuses NoPlace 0)) (refuses Malformed 0) ≡ writes a b →
-        WrittenFrom r s a b
-    go true p true q true k = record { good = p; placed = q; name = cc; file = cc }
-    go true p true q false k = let z : _≡_ {A = ℕ} 0 1 = cc in absurd (omega arith)
-    go true p false q z k = let z : _≡_ {A = ℕ} 0 1 = cc in absurd (omega arith)
-    go false p y q z k = let z : _≡_ {A = ℕ} 0 1 = cc in absurd (omega arith)
+    roomed : formed r s ≡ true → hasPlace (joined r s .ipv4) ≡ true → (m : Writing) → RoomIs (joined r s) n f m →
+        m ≡ writes a b → WrittenFrom r s a b
+    roomed p q m (enough x y) k = record { good = p; placed = q; name = cc; file = cc }
+    roomed p q m short k = refused-writes k
+
+    go : (m : Writing) → WritingIs r s n f m → m ≡ writes a b → WrittenFrom r s a b
+    go m malformed k = refused-writes k
+    go m no-place k = refused-writes k
+    go m (placed p q) k = roomed p q m (room-is (joined r s) n f) k
 
 module _ (r : JoinRecord) (s : List (List ℕ)) (t : Arrays r s) (n f : List ℕ) {a b : List ℕ} (e : writing r s n f ≡ writes a b) where
   pub writing-record : iwdRecord a b ≡ record { answer = Good; «record» = r }

@@ -61,17 +61,33 @@ pub ample-writes : (j : Join) (n f : List ℕ) → WellFormed j → Ample n f �
 ample-writes j n f w a =
     roomy j n f (omega (arith, name-short j w, a .name)) (omega (arith, file-short j w, a .file))
 
--- so 17 never comes, whatever the record
+-- ---- what the writer answers, case by case
+
+-- 19; 16; or of a formed struct whose record has a place what there is room for
+pub data WritingIs (r : JoinRecord) (s : List (List ℕ)) (n f : List ℕ) : Writing → Type 0 where
+  malformed : WritingIs r s n f (refuses Malformed 0)
+  no-place : WritingIs r s n f (refuses NoPlace 0)
+  placed : formed r s ≡ true → hasPlace (joined r s .ipv4) ≡ true → WritingIs r s n f (writingOf (joined r s) n f)
+
+pub writing-is : (r : JoinRecord) (s : List (List ℕ)) (n f : List ℕ) → WritingIs r s n f (writing r s n f)
+unfolding writing
+writing-is r s n f = go (formed r s) refl (hasPlace (joined r s .ipv4)) refl
+  where
+    go : (b : Bool) → formed r s ≡ b → (p : Bool) → hasPlace (joined r s .ipv4) ≡ p →
+        WritingIs r s n f (cond b (cond p (writingOf (joined r s) n f) (refuses NoPlace 0)) (refuses Malformed 0))
+    go true e true q = placed e q
+    go true e false q = no-place
+    go false e p q = malformed
+
+-- so 17 never comes into ample buffers, whatever the record
 pub writing-never-17 : (r : JoinRecord) (s : List (List ℕ)) (n f : List ℕ) → Arrays r s → Ample n f →
     writtenNumber (writing r s n f) ≡ 17 → ⊥
-unfolding writing
-writing-never-17 r s n f a h = go (formed r s) refl (hasPlace (joined r s .ipv4))
+writing-never-17 r s n f a h = go (writing r s n f) (writing-is r s n f)
   where
-    go : (b : Bool) → formed r s ≡ b → (p : Bool) →
-        writtenNumber (cond b (cond p (writingOf (joined r s) n f) (refuses NoPlace 0)) (refuses Malformed 0)) ≡ 17 → ⊥
-    go true e true = λ q. omega (arith, ap writtenNumber (sym (ample-writes (joined r s) n f (joined-good a e) h)) ∙ q)
-    go true e false = λ q. omega (arith, q)
-    go false e p = λ q. omega (arith, q)
+    go : (m : Writing) → WritingIs r s n f m → writtenNumber m ≡ 17 → ⊥
+    go m malformed q = omega (arith, q)
+    go m no-place q = omega (arith, q)
+    go m (placed e p) q = omega (arith, ap writtenNumber (sym (ample-writes (joined r s) n f (joined-good a e) h)) ∙ q)
 
 -- ---- a record that is laid out
 

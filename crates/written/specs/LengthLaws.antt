@@ -26,7 +26,8 @@ use Rattle.records.specs.declared.Credential.the-variants as C
 use Rattle.records.specs.declared.Ipv6.{Ipv6}
 use Rattle.records.specs.declared.Ipv6.the-variants as Ipv6
 use Rattle.written.specs.Written.{WrittenRow, rowLines, headedLines, blockLines, hiddenRows, secretRows, gatewayRows, numberRows, serverRows, domainRows, ipv4Rows, ipv6Rows, blocksOf, suffixFor, nameText, fileText}
-use Rattle.written.specs.GreatestLengths.{LineRoom, settingsRoom, securityRoom, numberRoom, serverRoom, domainRoom, ipv4Room, ipv6Room, fileRoom, total, fileMax, addressMax, Under}
+use Rattle.written.specs.GreatestLengths.{LineRoom, total, Under, addressMax, fileRoom, fileMax}
+use Rattle.written.specs.GreatestLengths.{settingsRoom, securityRoom, numberRoom, serverRoom, domainRoom, ipv4Room, ipv6Room}
 use Rattle.written.specs.TextLaws.{row-lines-append}
 
 -- ---- lines under a table

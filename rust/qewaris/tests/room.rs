@@ -117,6 +117,16 @@ fn a_byte_less_is_refused_and_changes_nothing() {
     }
 }
 
+#[test]
+fn the_example_reaches_both() {
+    let example = include_bytes!("../../../examples/good/largest.config");
+    let lengths = [1, 2].map(|service| {
+        let moved = move_service(b"largest.config", example, service).unwrap();
+        (moved.name.len(), moved.file.len())
+    });
+    assert_eq!(lengths, [(with_largest_file().name_len, FILE_MAX), (NAME_MAX, 0)]);
+}
+
 /// A row of the page's table of lines: how the line begins, and its length with the byte that ends it.
 fn row_of_line(row: &'static str) -> Option<(&'static str, usize)> {
     let (front, behind) = row.strip_prefix("| `")?.split_once("` | ")?;

@@ -11,7 +11,9 @@ main-spec =
     tie.close
     (tie.spec
     (λ c κs. search needs)
-    (λ c κs. let within = in-buffers (c .before .before .before .before .before .before .read-input .ensures) in (within .inNumber, within .inFile))
-    (λ c κs. input-sayable (c .before .before .before .before .before .before .before .before .before .read-input .ensures) (c .before .before .move-kept .ensures) (record { name = omega arith; file = omega arith }))
+    (λ c κs. search needs)
+    (λ c κs. search needs)
+    (λ c κs. let within = in-buffers (c .before .before .before .before .before .before .before .before .read-input .ensures) in (within .inNumber, within .inFile))
+    (λ c κs. input-sayable (c .before .before .before .before .before .before .before .before .before .before .before .read-input .ensures) (c .before .before .move-kept .ensures) (record { name = omega arith; file = omega arith }))
     (λ c. search needs)
     (λ c. search needs))
