@@ -22,7 +22,7 @@ IPv6 = off
 DESK = """[Settings]
 Hidden=true
 [Security]
-Passphrase=low\\\\tide 88
+Passphrase=low\tide 88
 [IPv4]
 Address=10.20.0.14
 Netmask=255.255.255.0

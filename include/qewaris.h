@@ -58,7 +58,7 @@ enum {
     QEWARIS_NO_GROUP = 8,         /* setting before any group */
     QEWARIS_UNKNOWN_KEY = 9,      /* key not listed for its group */
     QEWARIS_REPEATED_KEY = 10,    /* key a second time in its group */
-    QEWARIS_VALUE_TEXT = 11,      /* value is not UTF-8, holds byte 0 or 13, or has a bad escape */
+    QEWARIS_VALUE_TEXT = 11,      /* value is not UTF-8, holds byte 0 or 13, or is a string with a bad escape */
     QEWARIS_VALUE_KIND = 12,      /* value breaks its kind */
     QEWARIS_MANY_SERVICES = 13,   /* ninth service group */
     QEWARIS_MISSING = 14,         /* something needed is missing */
@@ -196,8 +196,9 @@ qewaris_service_settings qewaris_service_settings_of(const uint8_t *name, size_t
 
 /* ---- String lookups */
 
-/* Where the value of a string setting stands in the file, still escaped. `line` is that of the refusal or of the setting; a
- * setting that is absent has number, line, start and length 0. */
+/* Where the value of a string setting stands in the file, in both formats still escaped: \s, \t, \r, \n and \\ mean a space,
+ * a tab, byte 13, byte 10 and a backslash, and an accepted string has no other backslash. A record has the bytes that are meant.
+ * `line` is that of the refusal or of the setting; a setting that is absent has number, line, start and length 0. */
 typedef struct qewaris_text {
     size_t line;
     size_t start;

@@ -51,6 +51,7 @@ SENTENCES = (
 MALFORMED = 19
 NAME_MAX = 70  # no file name that is written is longer, and some record reaches it
 FILE_MAX = 858  # no file that is written is longer, and some record reaches it
+_ESCAPES = {b"\\s": b" ", b"\\t": b"\t", b"\\r": b"\r", b"\\n": b"\n", b"\\\\": b"\\"}  # of strings, with the byte that each means
 
 Name = Union[str, bytes]
 
@@ -62,12 +63,10 @@ class Refused(Exception):
         self.number = number
         self.line: Optional[int] = line or None
         self.sentence = SENTENCES[number - 1] if number <= len(SENTENCES) else "it is refused"
-        place = f"line {line}: " if line else ""
-        super().__init__(f"{place}{self.sentence} [{number}]")
+        super().__init__((f"line {line}: " if line else "") + f"{self.sentence} [{number}]")
 
 
 # ---- What is answered
-
 
 @dataclass(frozen=True)
 class Counts:
@@ -78,10 +77,15 @@ class Counts:
 
 @dataclass(frozen=True)
 class Text:
-    """A string setting: its line, where its value starts in the file, and the value as it stands, still escaped."""
+    """A string setting: its line, where its value starts in the file, and the value as it stands, in both formats still escaped."""
     line: int
     start: int
     value: bytes = field(repr=False)
+
+    @property
+    def unescaped(self) -> bytes:
+        """The bytes that the value means: those of the join record, where it has this string."""
+        return re.sub(rb"\\.", lambda escape: _ESCAPES.get(escape[0], escape[0]), self.value)
 
 
 @dataclass(frozen=True)
@@ -91,8 +95,7 @@ class StaticIpv4:
     gateway: Optional[IPv4Address] = None
 
 
-# "dhcp", "off", or a static address.
-Ipv4 = Union[str, StaticIpv4]
+Ipv4 = Union[str, StaticIpv4]  # "dhcp", "off", or a static address
 
 
 @dataclass(frozen=True)
@@ -183,7 +186,6 @@ for _struct in re.split(r"\n(?=\w)", _LAYOUT_OF.strip()):
 
 # ---- The library
 
-
 def _load():
     folders = [os.environ.get("QEWARIS_LIB_DIR"), pathlib.Path(__file__).resolve().parent.parent / "lib"]
     file = f"libqewaris.so.{LAYOUT}"
@@ -256,9 +258,7 @@ def check(name: Name, file: bytes) -> Counts:
 
 # ---- Settings and strings
 
-
-# A yes/no that may be absent, by its code.
-_CHOICES = (None, False, True)
+_CHOICES = (None, False, True)  # a yes/no that may be absent, by its code
 
 
 def _given(has: int, value):

@@ -19,8 +19,8 @@ static qewaris_record largest_name(void) {
     return record;
 }
 
-/* A network of the same name with everything that has a line: addresses of 15 characters, four name servers, and a passphrase and
- * a domain of as many backslashes as they may have, each of which is written as two. */
+/* A network of the same name with everything that has a line: addresses of 15 characters, four name servers, and a passphrase of as
+ * many backslashes and a domain of as many bytes 10 as they may have, each of which is escaped and so written as two. */
 static qewaris_record largest_file(void) {
     qewaris_record record = largest_name();
     record.credential = QEWARIS_CREDENTIAL_PASSPHRASE;
@@ -35,7 +35,7 @@ static qewaris_record largest_file(void) {
     record.server_count = sizeof record.servers / sizeof record.address;
     memset(record.servers, 255, sizeof record.servers);
     record.domain_len = sizeof record.domain;
-    memset(record.domain, '\\', sizeof record.domain);
+    memset(record.domain, '\n', sizeof record.domain);
     record.ipv6 = QEWARIS_IPV6_OFF;
     return record;
 }

@@ -31,19 +31,19 @@ static network with_largest_file, with_largest_name;
 #define ALL_255 "255.255.255.255"
 #define SERVICE "[service_till]\nType = wifi\nSSID = %s\n"
 
-/* Fills a text with one byte, but for the zero at its end. */
-static void fill(char *text, size_t size, char byte) {
-    memset(text, byte, size - 1);
+/* Fills a text with a pair of bytes again and again, but for the zero at its end. */
+static void fill(char *text, size_t size, const char *pair) {
+    for (size_t i = 0; i < size - 1; i++) text[i] = pair[i % 2];
     text[size - 1] = 0;
 }
 
 static void make_networks(void) {
     char ssid[2 * sizeof with_largest_file.record.name + 1];
-    char passphrase[sizeof with_largest_file.record.passphrase + 1];
-    char domain[sizeof with_largest_file.record.domain + 1];
-    fill(ssid, sizeof ssid, 'f');
-    fill(passphrase, sizeof passphrase, '\\');
-    fill(domain, sizeof domain, '\\');
+    char passphrase[2 * sizeof with_largest_file.record.passphrase + 1];
+    char domain[2 * sizeof with_largest_file.record.domain + 1];
+    fill(ssid, sizeof ssid, "ff");
+    fill(passphrase, sizeof passphrase, "\\\\");
+    fill(domain, sizeof domain, "\\n");
 
     with_largest_file.record = largest_file();
     with_largest_file.needed.name_len = PSK_NAME_MAX;

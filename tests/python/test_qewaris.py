@@ -1,4 +1,5 @@
-"""Drives python/qewaris.py on the examples, on document 01's worked move, and on the largest file and the largest name.
+"""Drives python/qewaris.py on the examples, on document 01's worked move, on strings and their escapes, and on the largest file and
+the largest name.
 
     QEWARIS_LIB_DIR=folder of libqewaris.so.1 python3 tests/python/test_qewaris.py
 """
@@ -15,12 +16,12 @@ import qewaris  # noqa: E402
 
 SHOP = (ROOT / "examples/good/shop.config").read_bytes()
 DESK = (
-    b"[Settings]\nHidden=true\n[Security]\nPassphrase=low\\\\tide 88\n[IPv4]\nAddress=10.20.0.14\nNetmask=255.255.255.0\n"
+    b"[Settings]\nHidden=true\n[Security]\nPassphrase=low\tide 88\n[IPv4]\nAddress=10.20.0.14\nNetmask=255.255.255.0\n"
     b"Gateway=10.20.0.1\nDNS=10.20.0.2 10.20.0.3\n[IPv6]\nEnabled=false\n"
 )
 RECORD = qewaris.JoinRecord(
     name=b"Desk 4",
-    passphrase=b"low\\tide 88",
+    passphrase=b"low\tide 88",
     hidden=True,
     ipv4=qewaris.StaticIpv4(IPv4Address("10.20.0.14"), 24, IPv4Address("10.20.0.1")),
     name_servers=(IPv4Address("10.20.0.2"), IPv4Address("10.20.0.3")),
@@ -28,7 +29,7 @@ RECORD = qewaris.JoinRecord(
 )
 
 # The record with the largest name, and the one with the largest file, which has everything that has a line: addresses of 15
-# characters, four name servers, and a passphrase and a domain of backslashes, each of which is written as two.
+# characters, four name servers, a passphrase of backslashes and a domain of bytes 10, each of which is escaped and so written as two.
 ALL_255 = IPv4Address("255.255.255.255")
 LARGEST_NAME = qewaris.JoinRecord(name=b"\xff" * 32)
 LARGEST_FILE = qewaris.JoinRecord(
@@ -37,14 +38,14 @@ LARGEST_FILE = qewaris.JoinRecord(
     hidden=True,
     ipv4=qewaris.StaticIpv4(ALL_255, 32, ALL_255),
     name_servers=(ALL_255,) * 4,
-    domain=b"\\" * 253,
+    domain=b"\n" * 253,
     ipv6="off",
 )
 # Services that have these records.
 SERVICE_OF_NAME = b"[service_till]\nType = wifi\nSSID = " + b"ff" * 32 + b"\n"
 SERVICE_OF_FILE = (
     SERVICE_OF_NAME + f"IPv4 = {ALL_255}/32/{ALL_255}\nNameservers = {','.join([str(ALL_255)] * 4)}\n".encode()
-    + b"Passphrase = " + b"\\" * 63 + b"\nDomain = " + b"\\" * 253 + b"\nHidden = true\nIPv6 = off\n"
+    + b"Passphrase = " + b"\\\\" * 63 + b"\nDomain = " + b"\\n" * 253 + b"\nHidden = true\nIPv6 = off\n"
 )
 
 
@@ -73,7 +74,7 @@ class Examples(unittest.TestCase):
 
 
 class WorkedMove(unittest.TestCase):
-    def test_it_is_what_document_01_prints(self):
+    def test_it_is_as_it_is_printed(self):
         self.assertEqual(qewaris.check("shop.config", SHOP), qewaris.Counts(settings=7, services=1))
         self.assertEqual(qewaris.move_service("shop.config", SHOP, 1), qewaris.IwdFile(b"Desk 4.psk", DESK))
 
@@ -129,8 +130,45 @@ class Settings(unittest.TestCase):
         text = qewaris.string("shop.config", SHOP, "service_passphrase", 1)
         self.assertEqual((text.line, text.value, SHOP[text.start :][:3]), (4, b"low\\tide 88", b"low"))
         self.assertIsNone(qewaris.string("shop.config", SHOP, "service_domain", 1))
-        self.assertEqual(qewaris.string("Desk 4.psk", DESK, "iwd_passphrase").value, b"low\\\\tide 88")
+        self.assertEqual(qewaris.string("Desk 4.psk", DESK, "iwd_passphrase").value, b"low\tide 88")
         self.assertEqual(qewaris.string("a.config", b"[global]\nName = a\n", "global_name").value, b"a")
+
+
+class Strings(unittest.TestCase):
+    # A string as it stands, and what it means.
+    STRINGS = (
+        (b"low tide 88", b"low tide 88"), (b"low\\tide 88", b"low\tide 88"), (b"low\\\\tide 88", b"low\\tide 88"),
+        (b"\\s\\t\\r\\n\\\\low tide", b" \t\r\n\\low tide"), (b"low tide\\s", b"low tide "), (b"low tide\\\\", b"low tide\\"),
+    )
+
+    def expect(self, name, file, which, stretch, meant, *service):
+        text = qewaris.string(name, file, which, *service)
+        self.assertEqual((text.value, text.unescaped), (stretch, meant), which)
+
+    def test_those_of_a_connman_file_are_unescaped(self):
+        for stretch, meant in self.STRINGS:
+            file = b"[global]\nName = %s\nDescription = %s \n[service_a]\nType = wifi\nName = %s\nPassphrase = %s\t\nDomain = %s\n"
+            file = file % ((stretch,) * 5)
+            for which in ("global_name", "global_description"):
+                self.expect("a.config", file, which, stretch, meant)
+            for which in ("service_name", "service_passphrase", "service_domain"):
+                self.expect("a.config", file, which, stretch, meant, 1)
+            record = qewaris.record("a.config", file, 1)
+            self.assertEqual((record.name, record.passphrase, record.domain), (meant,) * 3)
+
+    def test_those_of_an_iwd_file_are_unescaped(self):
+        for stretch, meant in self.STRINGS:
+            file = b"[Security]\nPassphrase=%s\n[IPv4]\nDomainName=%s\n" % (stretch, stretch)
+            for which in ("iwd_passphrase", "iwd_domain_name"):
+                self.expect("a.psk", file, which, stretch, meant)
+            record = qewaris.record("a.psk", file)
+            self.assertEqual((record.passphrase, record.domain), (meant, meant))
+
+    def test_a_bad_escape_is_refused(self):
+        for value in (b"low\\dtide 88", b"low tide 88\\ \t", b"\\S"):
+            for key in (b"Name", b"Passphrase", b"Domain"):
+                file = b"[service_a]\nType = wifi\n%s = %s\n" % (key, value)
+                self.assertEqual(refusal(qewaris.check, "a.config", file), (11, 3), file)
 
 
 class Refusals(unittest.TestCase):

@@ -342,7 +342,8 @@ pub record AllRefuse (d : Dialect) (name file : List ℕ) (n : ℕ) : Type 0 whe
   pub answers : (c : Call) → ReadingCall name file d c → answerOf c ≡ Refused refusal line
   pub zeros : (c : Call) → ReadingCall name file d c → Zeroed c refusal line
 
--- a file whose line n, wherever it stands, is a Passphrase line with broken text or no passphrase
+-- a file of either kind whose line n, wherever it stands, is a Passphrase line with broken text, a bad escape, or not 8 to 63 bytes once
+-- unescaped
 abbrev pub Saturday : Type 0
 Saturday = (d : Dialect) (name file : List ℕ) (n : ℕ) → FaultyPassphrase d file n → AllRefuse d name file n
 

@@ -1,92 +1,109 @@
 -- The turns and the ends of the loops.
-use mathlib.Core.Path.{_≡_, refl, ap, sym, _∙_, subst}
-use mathlib.Core.Bool.{Bool, true, false}
+use mathlib.Core.Path.{_≡_, refl, ap, ap₂, sym, _∙_, subst}
+use mathlib.Core.Bool.{Bool, true, false, not, true≢false}
 use mathlib.Core.List.{List, [], _∷_, _++_, append-assoc, append-nil}
 use mathlib.Core.Option.{none, some}
 use Prim.Native.Nat.{ℕ, zero, suc, _+_, _-_, _*_, _≤_, _<_}
 use native.Mathlib.Numerals.{add-one}
 use native.Mathlib.Omega.{arith}
-use borrow.Author.Tests.{eq-eqb, ne-eqb}
+use borrow.Author.Tests.{eqb-true, eq-eqb, ne-eqb}
 use lib.Dec.{eqb}
-use lib.ListN.{length, drop, set, getD, drop-of-length-le, length-append, length-set}
-use lib.Seq.{drop-cons}
+use lib.ListN.{length, drop, set, getD, drop-of-length-le, length-append, length-drop, length-set}
+use lib.Seq.{drop-cons, length-take-le}
+use Rattle.text.specs.Bytes.{other}
+use Rattle.text.specs.Parts.{front, after, part}
+use Rattle.text.specs.Scans.{Stop}
+use Rattle.text.proofs.ScanLaws.{stop-low, stop-front, stop-after, stop-byte}
 use Rattle.put.specs.Put.{Wrote}
 use Rattle.put.specs.Laws.{then, wrote-byte}
 use Rattle.text.specs.Options.{prepend, orEmpty, ReadsUpTo}
-use Rattle.put.proofs.Filling.{glue, glue-prepend, glue-nil, Filling, filling-first, filling-none, filling-end, filling-room, filling-byte}
+use Rattle.put.proofs.Filling.{glue, glue-prepend, glue-cons, glue-glue, glue-nil, Filling, filling-first, filling-none, filling-end, filling-room, filling-byte}
 use Rattle.escapes.specs.Escapes.{meant, unescapeFrom, unescape, shown, escapeFrom, escape}
-use Rattle.escapes.specs.Strings.{sizeOf}
+use Rattle.escapes.specs.Answers.{sizeOf}
 use Rattle.escapes.specs.Letters.{byLetter, Letter}
 use Rattle.escapes.specs.declared.Size.the-variants.{Long, Broken}
 
--- ---- reading: t is read of the first i bytes, and what follows is what the rest says
+-- ---- the length: t is read of the bytes before i, where a backslash stands or the string ends
 
-pub record ReadSoFar (s : List ℕ) (i : ℕ) (after : Bool) (t : List ℕ) : Type 0 where
+-- what stands before a backslash is read as it stands
+run-read : (v : List ℕ) → unescapeFrom false v ≡ glue (front (other 92) v) (unescapeFrom false (after (other 92) v))
+unfolding unescapeFrom
+run-read [] = refl
+run-read (c ∷ v) = go (eqb c 92) refl (run-read v)
+  where
+    go : (b : Bool) → eqb c 92 ≡ b → unescapeFrom false v ≡ glue (front (other 92) v) (unescapeFrom false (after (other 92) v)) → unescapeFrom false (c ∷ v) ≡ glue (front (other 92) (c ∷ v)) (unescapeFrom false (after (other 92) (c ∷ v)))
+    go true q k = rw (eqb-true c 92 q) (sym (glue-nil (unescapeFrom true v)))
+    go false q k = rw (q, k) (glue-cons c (front (other 92) v) (unescapeFrom false (after (other 92) v)))
+
+pub record Sizing (s : List ℕ) (i less : ℕ) : Type 0 where
   pub within : i ≤ length s
-  pub rest : glue t (unescapeFrom after (drop i s)) ≡ unescape s
-
-read-first : (s : List ℕ) → ReadSoFar s 0 false []
-read-first s = record { within = omega arith; rest = glue-nil (unescapeFrom false s) }
-
-module _ {s : List ℕ} {i : ℕ} {a : Bool} {t : List ℕ} (h : ReadSoFar s i a t) where
-  pub read-end : length s ≤ i → a ≡ false → unescape s ≡ some t
-  unfolding unescapeFrom
-  read-end l e = sym (rw (drop-of-length-le s l, e, append-nil) at (h .rest))
-
-  pub read-open-end : length s ≤ i → a ≡ true → unescape s ≡ none
-  unfolding unescapeFrom
-  read-open-end l e = sym (rw (drop-of-length-le s l, e) at (h .rest))
-
-  module _ (l : i < length s) where
-    pub read-byte : a ≡ false → (getD s i 0 ≡ 92 → ⊥) → ReadSoFar s (i + 1) false (t ++ (getD s i 0 ∷ []))
-    unfolding unescapeFrom
-    read-byte e n = record { within = omega arith; rest = rw (add-one i, ← glue-prepend t (getD s i 0)) (rw (drop-cons s i 0 l, e, ne-eqb (getD s i 0) 92 n) at (h .rest)) }
-
-    pub read-open : a ≡ false → getD s i 0 ≡ 92 → ReadSoFar s (i + 1) true t
-    unfolding unescapeFrom
-    read-open e n = record { within = omega arith; rest = rw (add-one i) (rw (drop-cons s i 0 l, e, eq-eqb (getD s i 0) 92 n) at (h .rest)) }
-
-    pub read-meant : a ≡ true → (meant (getD s i 0) ≡ 0 → ⊥) → ReadSoFar s (i + 1) false (t ++ (meant (getD s i 0) ∷ []))
-    unfolding unescapeFrom
-    read-meant e n = record { within = omega arith; rest = rw (add-one i, ← glue-prepend t (meant (getD s i 0))) (rw (drop-cons s i 0 l, e, ne-eqb (meant (getD s i 0)) 0 n) at (h .rest)) }
-
-    pub read-bad : a ≡ true → meant (getD s i 0) ≡ 0 → unescape s ≡ none
-    unfolding unescapeFrom
-    read-bad e n = sym (rw (drop-cons s i 0 l, e, eq-eqb (meant (getD s i 0)) 0 n) at (h .rest))
-
--- ---- the length
-
-pub record Sizing (s : List ℕ) (i : ℕ) (after : Bool) (n : ℕ) : Type 0 where
   pub text : List ℕ
-  pub read : ReadSoFar s i after text
-  pub size : n ≡ length text
-  pub few : n ≤ i
+  pub rest : glue text (unescapeFrom false (drop i s)) ≡ unescape s
+  pub size : length text + less ≡ i
+  pub ends : i < length s → getD s i 0 ≡ 92
 
-pub sizing-first : (s : List ℕ) → Sizing s 0 false 0
-sizing-first s = record { text = []; read = read-first s; size = refl; few = omega arith }
+backslash : (c : ℕ) → other 92 c ≡ false → c ≡ 92
+backslash c h = go (eqb c 92) refl h
+  where
+    go : (b : Bool) → eqb c 92 ≡ b → not b ≡ false → c ≡ 92
+    go true q h = eqb-true c 92 q
+    go false q h = absurd (true≢false h)
 
-module _ {s : List ℕ} {i : ℕ} {a : Bool} {n : ℕ} (h : Sizing s i a n) where
-  more : (x : ℕ) → n + 1 ≡ length (h .text ++ (x ∷ []))
-  more x = simp length-append (omega (arith, h .size))
+-- a text read up to i, and the run from there
+module _ (s t : List ℕ) (i less : ℕ) (w : i ≤ length s) (r : glue t (unescapeFrom false (drop i s)) ≡ unescape s) (z : length t + less ≡ i) {e : ℕ} (h : Stop (other 92) s i e) where
+  sizing-run : Sizing s e less
+  sizing-run =
+      record {
+        within = h .within;
+        text = t ++ part i e s;
+        rest = sym (glue-glue t (part i e s) (unescapeFrom false (drop e s))) ∙ ap (glue t) (sym (run-read (drop i s) ∙ ap₂ (λ (a b : List ℕ). glue a (unescapeFrom false b)) (stop-front h) (stop-after h))) ∙ r;
+        size = simp length-append (omega (arith, z, stop-low h, long));
+        ends = λ l. backslash (getD s e 0) (stop-byte h l);
+      }
+    where
+      long : length (part i e s) ≡ e - i
+      long = length-take-le (e - i) (drop i s) (simp length-drop (omega (arith, h .within)))
 
-  pub sizing-end : length s ≤ i → a ≡ false → Long n ≡ sizeOf (unescape s)
-  sizing-end l e = rw (read-end (h .read) l e) (ap Long (h .size))
+pub sizing-first : (s : List ℕ) {e : ℕ} → Stop (other 92) s 0 e → Sizing s e 0
+sizing-first s h = sizing-run s [] 0 0 (omega arith) (glue-nil (unescape s)) (omega arith) h
 
-  pub sizing-open-end : length s ≤ i → a ≡ true → Broken ≡ sizeOf (unescape s)
-  sizing-open-end l e = rw (read-open-end (h .read) l e)
+module _ {s : List ℕ} {i less : ℕ} (h : Sizing s i less) where
+  pub sizing-few : less ≤ i
+  sizing-few = omega (arith, h .size)
+
+  pub sizing-end : length s ≤ i → Long (length s - less) ≡ sizeOf (unescape s)
+  unfolding unescapeFrom
+  sizing-end l =
+      let r : some (h .text) ≡ unescape s = rw (drop-of-length-le s l, append-nil) at (h .rest) in
+      rw (sym r) (ap Long (omega (arith, h .size, h .within)))
 
   module _ (l : i < length s) where
-    pub sizing-byte : a ≡ false → (getD s i 0 ≡ 92 → ⊥) → Sizing s (i + 1) a (n + 1)
-    sizing-byte e k = rw e (record { text = h .text ++ (getD s i 0 ∷ []); read = read-byte (h .read) l e k; size = more _; few = omega (arith, h .few) })
+    opened : glue (h .text) (unescapeFrom true (drop (i + 1) s)) ≡ unescape s
+    unfolding unescapeFrom
+    opened = rw (add-one i) (rw (drop-cons s i 0 l, h .ends l) at (h .rest))
 
-    pub sizing-open : a ≡ false → getD s i 0 ≡ 92 → Sizing s (i + 1) true n
-    sizing-open e k = record { text = h .text; read = read-open (h .read) l e k; size = h .size; few = omega (arith, h .few) }
+    pub sizing-short : length s - i < 2 → Broken ≡ sizeOf (unescape s)
+    unfolding unescapeFrom
+    sizing-short k =
+        let m : length s ≤ i + 1 = omega arith in
+        let r : none ≡ unescape s = rw (drop-of-length-le s m) at opened in
+        rw (sym r)
 
-    pub sizing-meant : a ≡ true → {m : ℕ} → m ≡ meant (getD s i 0) → (m ≡ 0 → ⊥) → Sizing s (i + 1) false (n + 1)
-    sizing-meant e q k = record { text = h .text ++ (meant (getD s i 0) ∷ []); read = read-meant (h .read) l e (λ z. k (q ∙ z)); size = more _; few = omega (arith, h .few) }
+    module _ (k : i + 1 < length s) {m : ℕ} (q : m ≡ meant (getD s (i + 1) 0)) where
+      pub sizing-bad : m ≡ 0 → Broken ≡ sizeOf (unescape s)
+      unfolding unescapeFrom
+      sizing-bad z =
+          let r : none ≡ unescape s = rw (drop-cons s (i + 1) 0 k, eq-eqb (meant (getD s (i + 1) 0)) 0 (sym q ∙ z)) at opened in
+          rw (sym r)
 
-    pub sizing-bad : a ≡ true → {m : ℕ} → m ≡ meant (getD s i 0) → m ≡ 0 → Broken ≡ sizeOf (unescape s)
-    sizing-bad e q k = rw (read-bad (h .read) l e (sym q ∙ k))
+      pub sizing-turn : (m ≡ 0 → ⊥) → {e : ℕ} → Stop (other 92) s (i + 2) e → Sizing s e (less + 1)
+      unfolding unescapeFrom
+      sizing-turn z g =
+          let n : suc (i + 1) ≡ i + 2 = omega arith in
+          let x : ℕ = meant (getD s (i + 1) 0) in
+          let r = rw (drop-cons s (i + 1) 0 k, ne-eqb x 0 (λ y. z (q ∙ y))) at opened in
+          let u : glue (h .text) (prepend x (unescapeFrom false (drop (i + 2) s))) ≡ unescape s = subst (λ (m : ℕ). glue (h .text) (prepend x (unescapeFrom false (drop m s))) ≡ unescape s) n r in
+          sizing-run s (h .text ++ (x ∷ [])) (i + 2) (less + 1) (omega arith) (sym (glue-prepend (h .text) x (unescapeFrom false (drop (i + 2) s))) ∙ u) (simp length-append (omega (arith, h .size))) g
 
 -- ---- the copy
 

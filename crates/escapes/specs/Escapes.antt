@@ -6,7 +6,8 @@ use mathlib.Core.Option.{Option, none, some}
 use lib.Dec.{eqb}
 use Rattle.text.specs.Options.{prepend}
 
--- what a backslash and the byte c stand for: `\s` `\t` `\r` `\n` `\\`; 0 for any other c
+-- "escapes in strings": `\s` `\t` `\r` `\n` `\\` in iwd, and by request 2026-02 in ConnMan: "strings know `\s`, `\t`, `\r`, `\n` and `\\`"; what a
+-- backslash and the byte c stand for, 0 where they are none of the five
 abbrev pub meant : ℕ → ℕ
 meant c = cond (eqb c 115) 32 (cond (eqb c 116) 9 (cond (eqb c 114) 13 (cond (eqb c 110) 10 (cond (eqb c 92) 92 0))))
 

@@ -1,6 +1,6 @@
--- What `unescape` and `stringOf` read is what the text stands for.
+-- What `unescape` reads is what the text stands for.
 use Prim.Native.Nat.{ℕ}
-use mathlib.Core.Path.{_≡_, refl, ap, subst}
+use mathlib.Core.Path.{_≡_, refl, subst}
 use mathlib.Core.Bool.{Bool, true, false, cond, true≢false}
 use mathlib.Core.List.{List, [], _∷_}
 use mathlib.Core.Option.{none, some, Option·some-injective, Option·none-ne-some}
@@ -8,11 +8,8 @@ use borrow.Author.Tests.{eqb-true, eqb-false, ne-eqb}
 use lib.Dec.{eqb}
 use Rattle.text.specs.Options.{prepend}
 use Rattle.text.specs.OptionLaws.{prepend-some}
-use Rattle.text.specs.declared.Dialect.{Dialect}
-use Rattle.text.specs.declared.Dialect.the-variants.{Iwd, ConnMan}
 use Rattle.escapes.specs.Escapes.{meant, unescapeFrom, unescape}
-use Rattle.escapes.specs.Strings.{stringOf}
-use Rattle.escapes.specs.StringRules.{Escape, space, tab, return, newline, backslash, Unescaped, no-more, as-it-stands, escaped, StringIs}
+use Rattle.escapes.specs.StringRules.{Escape, space, tab, return, newline, backslash, Unescaped, no-more, as-it-stands, escaped}
 
 -- ---- one escape
 
@@ -83,13 +80,3 @@ unfolding unescapeFrom
 is-unescape no-more = refl
 is-unescape (as-it-stands {c} d h) = rw (ne-eqb c 92 d, is-unescape h)
 is-unescape (escaped d h) = let k = escape-meant d in rw (k .0, is-unescape h, k .1)
-
--- ---- a string of either dialect
-
-pub string-is : (d : Dialect) (v : List ℕ) {t : List ℕ} → stringOf d v ≡ some t → StringIs d v t
-string-is Iwd v e = unescape-is v e
-string-is ConnMan v {t} e = Option·some-injective v t e
-
-pub is-string : (d : Dialect) (v : List ℕ) {t : List ℕ} → StringIs d v t → stringOf d v ≡ some t
-is-string Iwd v h = is-unescape h
-is-string ConnMan v h = ap some h

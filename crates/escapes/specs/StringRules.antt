@@ -1,9 +1,7 @@
--- What a string's text stands for, said of its bytes. `StringRuleLaws` shows that `stringOf` keeps to it.
+-- What a string's text stands for, said of its bytes. `StringRuleLaws` shows that `unescape` keeps to it.
 use Prim.Native.Nat.{ℕ}
 use mathlib.Core.Path.{_≡_}
 use mathlib.Core.List.{List, [], _∷_}
-use Rattle.text.specs.declared.Dialect.{Dialect}
-use Rattle.text.specs.declared.Dialect.the-variants.{Iwd, ConnMan}
 
 -- "`\s` `\t` `\r` `\n` `\\`": the letter behind the backslash, and the byte that the two stand for
 pub data Escape : ℕ → ℕ → Type 0 where
@@ -18,8 +16,3 @@ pub data Unescaped : List ℕ → List ℕ → Type 0 where
   no-more : Unescaped [] []
   as-it-stands : {c : ℕ} {s t : List ℕ} → ¬ (c ≡ 92) → Unescaped s t → Unescaped (c ∷ s) (c ∷ t)
   escaped : {c byte : ℕ} {s t : List ℕ} → Escape c byte → Unescaped s t → Unescaped (92 ∷ c ∷ s) (byte ∷ t)
-
--- "escapes in strings": the five in iwd; in ConnMan "none, bytes as they stand"
-abbrev pub StringIs : Dialect → List ℕ → List ℕ → Type 0
-StringIs Iwd v t = Unescaped v t
-StringIs ConnMan v t = v ≡ t

@@ -1,21 +1,18 @@
 -- What is escaped is a value's text just where it was a record's, and what is read of a value's text is a record's text.
-use mathlib.Core.Path.{_≡_, refl, ap, ap₂, sym, _∙_, subst}
+use mathlib.Core.Path.{_≡_, refl, ap, ap₂, sym, _∙_}
 use mathlib.Core.Bool.{Bool, true, false, _&&_}
 use mathlib.Core.List.{List, [], _∷_, _++_}
-use mathlib.Core.Option.{some, Option·some-injective}
+use mathlib.Core.Option.{some}
 use Prim.Native.Nat.{ℕ, _<_, _≤_}
 use native.Mathlib.Omega.{arith}
 use borrow.Author.Tests.{ne-eqb}
 use Rattle.text.specs.Bytes.{between}
 use Rattle.text.specs.Parts.{all}
 use Rattle.text.specs.Laws.{and-true, all-cons}
-use Rattle.text.specs.declared.Dialect.{Dialect}
-use Rattle.text.specs.declared.Dialect.the-variants.{Iwd, ConnMan}
 use Rattle.utf8.specs.Utf8.{Range, follow, utf8From, utf8, textByte, text, valueText, recordText}
 use Rattle.utf8.specs.Laws.{follow-ascii}
-use Rattle.utf8.specs.ByteLaws.{AllTrailing, end, more, follow-trailing, trailing-ascii, value-record-byte, value-record}
+use Rattle.utf8.specs.ByteLaws.{AllTrailing, end, more, follow-trailing, trailing-ascii, value-record-byte}
 use Rattle.escapes.specs.Escapes.{shown, unescape, escapeFrom, escape}
-use Rattle.escapes.specs.Strings.{stringOf}
 use Rattle.escapes.specs.StringRules.{Escape, space, tab, return, newline, backslash, Unescaped, no-more, as-it-stands, escaped}
 use Rattle.escapes.specs.StringRuleLaws.{unescape-is}
 use Rattle.escapes.specs.Laws.{shown-cases}
@@ -125,15 +122,9 @@ unescaped-bytes (escaped {c} {byte} {s} d h) e =
     let k = all-cons (textByte true) c s (all-cons (textByte true) 92 (c ∷ s) e .1) in
     rw (escape-byte d) (unescaped-bytes h (k .1))
 
-unescape-text : (v : List ℕ) {t : List ℕ} → valueText v ≡ true → unescape v ≡ some t → recordText t ≡ true
+pub unescape-text : (v : List ℕ) {t : List ℕ} → valueText v ≡ true → unescape v ≡ some t → recordText t ≡ true
 unfolding text
 unescape-text v e r =
     let k = and-true (all (textByte true) v) (utf8 v) e in
     let h = unescape-is v r in
     rw (unescaped-bytes h (k .0)) (unescaped-utf8 [] end h (k .1))
-
-pub string-text : (d : Dialect) (v : List ℕ) {t : List ℕ} → valueText v ≡ true → stringOf d v ≡ some t →
-    recordText t ≡ true
-string-text Iwd v h e = unescape-text v h e
-string-text ConnMan v {t} h e =
-    subst (λ (s : List ℕ). recordText s ≡ true) (Option·some-injective v t e) (value-record v h)

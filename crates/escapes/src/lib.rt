@@ -6,9 +6,9 @@ ghost use Rattle.text.specs.Options.{orEmpty, ReadsUpTo};
 ghost use Rattle.text.specs.Parts.{padded};
 ghost use Rattle.put.specs.Put.{Wrote};
 ghost use Rattle.escapes.specs.Escapes.{meant, unescape, escape};
-ghost use Rattle.escapes.specs.Strings.{stringOf, sizeOf};
+ghost use Rattle.escapes.specs.Answers.{sizeOf};
 ghost use Rattle.escapes.specs.Letters.{Letter};
-use text::Dialect;
+use text::scan;
 
 // How many bytes a string has once unescaped, or that a backslash begins no escape.
 pub enum Size {
@@ -38,49 +38,27 @@ fn stands_for(c: u8) -> u8
     0
 }
 
-fn unescaped_len(s: &[u8]) -> Size
+// The length of the string s once unescaped, or that it is broken: each escape is a byte less, and only a backslash is looked at.
+pub fn string_len(s: &[u8]) -> Size
     ensures { λ r. ⌜ r ≡ sizeOf (unescape (now (s .entry))) ⌝ }
 {
-    let mut after = false;
-    let mut n = 0;
-    let mut i = 0;
+    let mut less = 0;
+    let mut i = scan::find(s, 0, 92);
     while i < s.len() {
-        let b = s[i];
-        if after {
-            if stands_for(b) == 0 {
-                return Size::Broken;
-            }
-            after = false;
-            n += 1;
-            i += 1;
-        } else {
-            if b == 92 {
-                after = true;
-                i += 1;
-            } else {
-                n += 1;
-                i += 1;
-            }
+        if s.len() - i < 2 {
+            return Size::Broken;
         }
+        if stands_for(s[i + 1]) == 0 {
+            return Size::Broken;
+        }
+        less += 1;
+        i = scan::find(s, i + 2, 92);
     }
-    if after {
-        return Size::Broken;
-    }
-    Size::Long(n)
+    Size::Long(s.len() - less)
 }
 
-// The length of the string s once unescaped, or that it is broken.
-pub fn string_len(d: Dialect, s: &[u8]) -> Size
-    ensures { λ r. ⌜ r ≡ sizeOf (stringOf d (now (s .entry))) ⌝ }
-{
-    match d {
-        Dialect::Iwd => unescaped_len(s),
-        Dialect::ConnMan => Size::Long(s.len()),
-    }
-}
-
-// Writes s, unescaped, at the front of out, and returns its length.
-fn put_unescaped(out: &mut [u8], s: &[u8]) -> usize
+// Writes the string s, unescaped, at the front of out, and returns its length.
+pub fn put_string(out: &mut [u8], s: &[u8]) -> usize
     requires { ⌜ ReadsUpTo (length (now out)) (unescape (now s)) ⌝ }
     ensures { λ r. ⌜ Wrote (orEmpty (unescape (now (s .entry)))) 0 (now (out .entry)) (now (out .exit)) r ⌝ }
 {
@@ -108,42 +86,31 @@ fn put_unescaped(out: &mut [u8], s: &[u8]) -> usize
     n
 }
 
-// Writes the string s, unescaped, at the front of out, and returns its length.
-pub fn put_string(out: &mut [u8], d: Dialect, s: &[u8]) -> usize
-    requires { ⌜ ReadsUpTo (length (now out)) (stringOf d (now s)) ⌝ }
-    ensures { λ r. ⌜ Wrote (orEmpty (stringOf d (now (s .entry)))) 0 (now (out .entry)) (now (out .exit)) r ⌝ }
-{
-    match d {
-        Dialect::Iwd => put_unescaped(out, s),
-        Dialect::ConnMan => put::put_text(out, 0, s),
-    }
-}
-
 // The string s of at most 32, 63 or 253 bytes, with zeros behind it.
-pub fn string_32(d: Dialect, s: &[u8]) -> [u8; 32]
-    requires { ⌜ ReadsUpTo 32 (stringOf d (now s)) ⌝ }
-    ensures { λ r. ⌜ r ≡ padded 32 (orEmpty (stringOf d (now (s .entry)))) ⌝ }
+pub fn string_32(s: &[u8]) -> [u8; 32]
+    requires { ⌜ ReadsUpTo 32 (unescape (now s)) ⌝ }
+    ensures { λ r. ⌜ r ≡ padded 32 (orEmpty (unescape (now (s .entry)))) ⌝ }
 {
     let mut a = [0u8; 32];
-    put_string(&mut a, d, s);
+    put_string(&mut a, s);
     a
 }
 
-pub fn string_63(d: Dialect, s: &[u8]) -> [u8; 63]
-    requires { ⌜ ReadsUpTo 63 (stringOf d (now s)) ⌝ }
-    ensures { λ r. ⌜ r ≡ padded 63 (orEmpty (stringOf d (now (s .entry)))) ⌝ }
+pub fn string_63(s: &[u8]) -> [u8; 63]
+    requires { ⌜ ReadsUpTo 63 (unescape (now s)) ⌝ }
+    ensures { λ r. ⌜ r ≡ padded 63 (orEmpty (unescape (now (s .entry)))) ⌝ }
 {
     let mut a = [0u8; 63];
-    put_string(&mut a, d, s);
+    put_string(&mut a, s);
     a
 }
 
-pub fn string_253(d: Dialect, s: &[u8]) -> [u8; 253]
-    requires { ⌜ ReadsUpTo 253 (stringOf d (now s)) ⌝ }
-    ensures { λ r. ⌜ r ≡ padded 253 (orEmpty (stringOf d (now (s .entry)))) ⌝ }
+pub fn string_253(s: &[u8]) -> [u8; 253]
+    requires { ⌜ ReadsUpTo 253 (unescape (now s)) ⌝ }
+    ensures { λ r. ⌜ r ≡ padded 253 (orEmpty (unescape (now (s .entry)))) ⌝ }
 {
     let mut a = [0u8; 253];
-    put_string(&mut a, d, s);
+    put_string(&mut a, s);
     a
 }
 

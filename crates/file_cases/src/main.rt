@@ -4,7 +4,7 @@
 // for the service and the file, which is shop.config then. A line without `|` is no case. Behind a case come ` = ` and
 // the answer: `accepted` with the numbers of settings and services, the new name and the new file as the moving program
 // writes them, or `refused` with the number and the line. The expected side, the file stdout, is written by hand from
-// document 01 and docs/DECISIONS.md.
+// documents 01 and 02 and docs/DECISIONS.md.
 ghost use Prim.Native.Nat.{_≤_};
 ghost use lib.ListN.{length};
 use intake::streams;

@@ -9,7 +9,6 @@ use lib.ListN.{length}
 use Rattle.text.specs.Parts.{padded}
 use Rattle.text.specs.Options.{orEmpty}
 use Rattle.text.specs.Words.{word}
-use Rattle.text.specs.declared.Dialect.{Dialect}
 use Rattle.text.specs.declared.Dialect.the-variants.{Iwd, ConnMan}
 use Rattle.escapes.specs.Escapes.{unescapeFrom}
 use Rattle.addresses.specs.Addresses.{address, addressAnswer, addresses}
@@ -48,15 +47,13 @@ use Rattle.joins.proofs.Choosing.{row-choice, numbers-given}
 
 -- ---- no string reads as one from no bytes
 
-string-none : (d : Dialect) (high : ℕ) → string d 1 high [] ≡ none
+string-none : (high : ℕ) → string 1 high [] ≡ none
 unfolding string unescapeFrom
-string-none Iwd high = refl
-string-none ConnMan high = refl
+string-none high = refl
 
-phrase-none : (d : Dialect) → passphrase d [] ≡ none
+phrase-none : passphrase [] ≡ none
 unfolding string unescapeFrom
-phrase-none Iwd = refl
-phrase-none ConnMan = refl
+phrase-none = refl
 
 -- ---- rows
 
@@ -84,18 +81,18 @@ network-padded none = refl
 network-padded (some x) = refl
 
 module _ (name : List ℕ) {file x : List ℕ} (h : IwdFileRows file x) where
-  pub iwd-joined : {n : IwdName} {login : Login} {hidden : Bool} {numbers : Ipv4} {count : ℕ} {domain : Domain} {i : Ipv6} {r : JoinRecord} → n ≡ iwdNameAnswer (networkOf name) → login ≡ iwdLoginAt file x (base G.Security 0) → hidden ≡ orFalse (yesAt x (base G.Settings 0) N.IwdHidden) → numbers ≡ iwdNumbersAt file x (base G.Ipv4 0) → count ≡ serverCountAt Spaces file x (base G.Ipv4 0) N.Dns → domain ≡ domainAt Iwd file x (base G.Ipv4 0) N.DomainName → i ≡ enabledIpv6 (yesAt x (base G.Ipv6 0) N.Enabled) → r ≡ assembled (n .length) (n .bytes) login hidden numbers count domain i → r ≡ laid (iwdFileJoin name file)
+  pub iwd-joined : {n : IwdName} {login : Login} {hidden : Bool} {numbers : Ipv4} {count : ℕ} {domain : Domain} {i : Ipv6} {r : JoinRecord} → n ≡ iwdNameAnswer (networkOf name) → login ≡ iwdLoginAt file x (base G.Security 0) → hidden ≡ orFalse (yesAt x (base G.Settings 0) N.IwdHidden) → numbers ≡ iwdNumbersAt file x (base G.Ipv4 0) → count ≡ serverCountAt Spaces file x (base G.Ipv4 0) N.Dns → domain ≡ domainAt file x (base G.Ipv4 0) N.DomainName → i ≡ enabledIpv6 (yesAt x (base G.Ipv6 0) N.Enabled) → r ≡ assembled (n .length) (n .bytes) login hidden numbers count domain i → r ≡ laid (iwdFileJoin name file)
   unfolding keysOf
   iwd-joined p q s t u v w e =
       e
       ∙ rw (
         ap (λ (n : IwdName). n .length) p ∙ network-long (networkOf name),
         ap (λ (n : IwdName). n .bytes) p ∙ network-padded (networkOf name),
-        q ∙ ap₂ (λ (a b : Option (List ℕ)). loginAnswer (secretFrom a b)) (row-read N.IwdPassphrase (h .rows .security) (passphrase Iwd) (phrase-none Iwd)) (row-read N.PreSharedKey (h .rows .security) preSharedKey key-none),
+        q ∙ ap₂ (λ (a b : Option (List ℕ)). loginAnswer (secretFrom a b)) (row-read N.IwdPassphrase (h .rows .security) passphrase phrase-none) (row-read N.PreSharedKey (h .rows .security) preSharedKey key-none),
         s ∙ ap orFalse (row-choice N.IwdHidden (h .rows .general) refl),
         t ∙ ap₂ (λ (a g : Option (List ℕ)). numbersRead (addressAnswer a) (keySlot x (base G.Ipv4 0) N.Netmask .code) (addressAnswer g)) (row-read N.Address (h .rows .ipv4) address address-none) (row-read N.Gateway (h .rows .ipv4) address address-none) ∙ ap (λ (n : ℕ). numbersRead (addressAnswer (readAs address (iwdEntry (sectionsOf Iwd file) (word "IPv4") (word "Address")))) n (addressAnswer (readAs address (iwdEntry (sectionsOf Iwd file) (word "IPv4") (word "Gateway"))))) (row-mask (h .rows .ipv4)) ∙ numbers-given (readAs address (iwdEntry (sectionsOf Iwd file) (word "IPv4") (word "Address"))) (readAs address (iwdEntry (sectionsOf Iwd file) (word "IPv4") (word "Gateway"))) (iwdEntry (sectionsOf Iwd file) (word "IPv4") (word "Netmask")),
         u ∙ ap (λ (o : Option (List (List ℕ))). length (orEmpty o)) (row-read N.Dns (h .rows .ipv4) (addresses Spaces) (addresses-none Spaces)),
-        v ∙ ap domainAnswer (row-read N.DomainName (h .rows .ipv4) (string Iwd 1 253) (string-none Iwd 253)),
+        v ∙ ap domainAnswer (row-read N.DomainName (h .rows .ipv4) (string 1 253) (string-none 253)),
         w ∙ ap enabledIpv6 (row-choice N.Enabled (h .rows .ipv6) refl),
       )
 
@@ -119,22 +116,22 @@ numbers-laid n b l y s d i (some (static a m none)) = refl
 numbers-laid n b l y s d i (some (static a m (some g))) = refl
 
 module _ {file x : List ℕ} {b : ℕ} where
-  pub service-joined : {n : Ssid} {login : Login} {hidden : Bool} {numbers : Ipv4} {count : ℕ} {domain : Domain} {i : Ipv6} {r : JoinRecord} → n ≡ serviceNameAt file x b → login ≡ serviceLoginAt file x b → hidden ≡ orFalse (yesAt x b N.Hidden) → numbers ≡ ipv4Answer (ipv4 (bytesOf file x b N.Ipv4)) → count ≡ serverCountAt Comma file x b N.Nameservers → domain ≡ domainAt ConnMan file x b N.Domain → i ≡ serviceIpv6At x b → r ≡ assembled (n .length) (n .bytes) login hidden numbers count domain i → RowGives ConnMan file x b G.Service (λ at. laid (serviceJoin at)) r
+  pub service-joined : {n : Ssid} {login : Login} {hidden : Bool} {numbers : Ipv4} {count : ℕ} {domain : Domain} {i : Ipv6} {r : JoinRecord} → n ≡ serviceNameAt file x b → login ≡ serviceLoginAt file x b → hidden ≡ orFalse (yesAt x b N.Hidden) → numbers ≡ ipv4Answer (ipv4 (bytesOf file x b N.Ipv4)) → count ≡ serverCountAt Comma file x b N.Nameservers → domain ≡ domainAt file x b N.Domain → i ≡ serviceIpv6At x b → r ≡ assembled (n .length) (n .bytes) login hidden numbers count domain i → RowGives ConnMan file x b G.Service (λ at. laid (serviceJoin at)) r
   unfolding keysOf
   service-joined {n} {login} {hidden} {numbers} {count} {domain} {i} p q s t u v w e =
       record {
         is = λ es h.
-            let named : n ≡ nameRead (ssidAnswer (readAs ssid (entryOf (word "SSID") es))) (ssidAnswer (readAs (string ConnMan 1 32) (entryOf (word "Name") es))) = p ∙ ap₂ (λ (a b : Option (List ℕ)). nameRead (ssidAnswer a) (ssidAnswer b)) (row-read N.Ssid h ssid ssid-none) (row-read N.Name h (string ConnMan 1 32) (string-none ConnMan 32)) in
+            let named : n ≡ nameRead (ssidAnswer (readAs ssid (entryOf (word "SSID") es))) (ssidAnswer (readAs (string 1 32) (entryOf (word "Name") es))) = p ∙ ap₂ (λ (a b : Option (List ℕ)). nameRead (ssidAnswer a) (ssidAnswer b)) (row-read N.Ssid h ssid ssid-none) (row-read N.Name h (string 1 32) (string-none 32)) in
             e
             ∙ ap (λ (m : Ipv4). assembled (n .length) (n .bytes) login hidden m count domain i) (t ∙ ap ipv4Answer (row-read N.Ipv4 h ipv4 ipv4-none))
             ∙ numbers-laid (n .length) (n .bytes) login hidden count domain i (readAs ipv4 (entryOf (word "IPv4") es))
             ∙ rw (
-              ap (λ (m : Ssid). m .length) named ∙ name-long (readAs ssid (entryOf (word "SSID") es)) (readAs (string ConnMan 1 32) (entryOf (word "Name") es)),
-              ap (λ (m : Ssid). m .bytes) named ∙ name-padded (readAs ssid (entryOf (word "SSID") es)) (readAs (string ConnMan 1 32) (entryOf (word "Name") es)),
-              q ∙ ap (λ (o : Option (List ℕ)). loginAnswer (secretFrom o none)) (row-read N.Passphrase h (passphrase ConnMan) (phrase-none ConnMan)),
+              ap (λ (m : Ssid). m .length) named ∙ name-long (readAs ssid (entryOf (word "SSID") es)) (readAs (string 1 32) (entryOf (word "Name") es)),
+              ap (λ (m : Ssid). m .bytes) named ∙ name-padded (readAs ssid (entryOf (word "SSID") es)) (readAs (string 1 32) (entryOf (word "Name") es)),
+              q ∙ ap (λ (o : Option (List ℕ)). loginAnswer (secretFrom o none)) (row-read N.Passphrase h passphrase phrase-none),
               s ∙ ap orFalse (row-choice N.Hidden h refl),
               u ∙ ap (λ (o : Option (List (List ℕ))). length (orEmpty o)) (row-read N.Nameservers h (addresses Comma) (addresses-none Comma)),
-              v ∙ ap domainAnswer (row-read N.Domain h (string ConnMan 1 253) (string-none ConnMan 253)),
+              v ∙ ap domainAnswer (row-read N.Domain h (string 1 253) (string-none 253)),
               w ∙ ap (λ (a : Bool). cond a Ipv6.Off Ipv6.Auto) (row-word N.Ipv6 h L.Ipv6Method refl W.Off),
             );
       }

@@ -9,15 +9,12 @@ use lib.ListN.{length}
 use Rattle.text.specs.Parts.{padded}
 use Rattle.text.specs.Options.{isSome, sized, orEmpty, ReadsUpTo}
 use Rattle.text.specs.Laws.{inside, under, over}
-use Rattle.text.specs.declared.Dialect.{Dialect}
-use Rattle.text.specs.declared.Dialect.the-variants.{ConnMan}
-use Rattle.escapes.specs.Strings.{stringOf, sizeOf}
+use Rattle.escapes.specs.Escapes.{unescape}
+use Rattle.escapes.specs.Answers.{sizeOf}
 use Rattle.escapes.specs.declared.Size.the-variants.{Long, Broken}
-use Rattle.kinds.specs.Kinds.{string, passphrase}
+use Rattle.kinds.specs.Kinds.{string}
 use Rattle.hex_values.specs.Answers.{ssidAnswer}
 use Rattle.joins.specs.Answers.{phraseAnswer, domainAnswer}
-use Rattle.joins.specs.declared.Phrase.{Phrase}
-use Rattle.joins.specs.declared.Domain.{Domain}
 
 long-is : {a b : ℕ} → Long a ≡ Long b → a ≡ b
 long-is e = cc
@@ -58,54 +55,35 @@ size-some : (o : Option (List ℕ)) {n : ℕ} → sizeOf o ≡ Long n → isSome
 size-some none e = not-long e
 size-some (some t) e = refl
 
--- ---- a passphrase
+-- ---- a string of low to high bytes, whatever is answered of it
 
-module _ (d : Dialect) (s : List ℕ) where
-  pub phrase-under : {r : Phrase} {n : ℕ} → r ≡ phraseAnswer none → sizeOf (stringOf d s) ≡ Long n → n < 8 → r ≡ phraseAnswer (passphrase d s)
+module _ {R : Type 0} (answer : Option (List ℕ) → R) (low high : ℕ) (s : List ℕ) {r : R} where
+  pub string-broken : r ≡ answer none → sizeOf (unescape s) ≡ Broken → r ≡ answer (string low high s)
   unfolding string
-  phrase-under q e h = q ∙ ap phraseAnswer (sym (sized-under 8 63 (stringOf d s) e h))
+  string-broken q e = q ∙ ap answer (sym (sized-broken low high (unescape s) e))
 
-  pub phrase-over : {r : Phrase} {n : ℕ} → r ≡ phraseAnswer none → sizeOf (stringOf d s) ≡ Long n → 63 < n → r ≡ phraseAnswer (passphrase d s)
-  unfolding string
-  phrase-over q e h = q ∙ ap phraseAnswer (sym (sized-over 8 63 (stringOf d s) e h))
+  module _ {n : ℕ} (e : sizeOf (unescape s) ≡ Long n) where
+    pub string-under : r ≡ answer none → n < low → r ≡ answer (string low high s)
+    unfolding string
+    string-under q h = q ∙ ap answer (sym (sized-under low high (unescape s) e h))
 
-  pub phrase-is : {b : List ℕ} {n : ℕ} → sizeOf (stringOf d s) ≡ Long n → 8 ≤ n → n ≤ 63 → b ≡ padded 63 (orEmpty (stringOf d s)) → record { ok = true; length = n; bytes = b } ≡ phraseAnswer (passphrase d s)
-  unfolding string
-  phrase-is e h g q = rw (sized-inside 8 63 (stringOf d s) e h g, q, size-some (stringOf d s) e, size-plain (stringOf d s) e)
+    pub string-over : r ≡ answer none → high < n → r ≡ answer (string low high s)
+    unfolding string
+    string-over q h = q ∙ ap answer (sym (sized-over low high (unescape s) e h))
 
-  pub phrase-broken : {r : Phrase} → r ≡ phraseAnswer none → sizeOf (stringOf d s) ≡ Broken → r ≡ phraseAnswer (passphrase d s)
-  unfolding string
-  phrase-broken q e = q ∙ ap phraseAnswer (sym (sized-broken 8 63 (stringOf d s) e))
+    pub string-inside : low ≤ n → n ≤ high → r ≡ answer (unescape s) → r ≡ answer (string low high s)
+    unfolding string
+    string-inside h g q = q ∙ ap answer (sym (sized-inside low high (unescape s) e h g))
 
-  -- ---- a domain
+-- ---- and what is answered of one that is inside
 
-  pub domain-under : {r : Domain} {n : ℕ} → r ≡ domainAnswer none → sizeOf (stringOf d s) ≡ Long n → n < 1 → r ≡ domainAnswer (string d 1 253 s)
-  unfolding string
-  domain-under q e h = q ∙ ap domainAnswer (sym (sized-under 1 253 (stringOf d s) e h))
+module _ (o : Option (List ℕ)) {b : List ℕ} {n : ℕ} (e : sizeOf o ≡ Long n) where
+  pub phrase-is : b ≡ padded 63 (orEmpty o) → record { ok = true; length = n; bytes = b } ≡ phraseAnswer o
+  phrase-is q = rw (q, size-some o e, size-plain o e)
 
-  pub domain-over : {r : Domain} {n : ℕ} → r ≡ domainAnswer none → sizeOf (stringOf d s) ≡ Long n → 253 < n → r ≡ domainAnswer (string d 1 253 s)
-  unfolding string
-  domain-over q e h = q ∙ ap domainAnswer (sym (sized-over 1 253 (stringOf d s) e h))
+  pub domain-is : b ≡ padded 253 (orEmpty o) → record { length = n; bytes = b } ≡ domainAnswer o
+  domain-is q = rw (q, size-plain o e)
 
-  pub domain-is : {b : List ℕ} {n : ℕ} → sizeOf (stringOf d s) ≡ Long n → 1 ≤ n → n ≤ 253 → b ≡ padded 253 (orEmpty (stringOf d s)) → record { length = n; bytes = b } ≡ domainAnswer (string d 1 253 s)
-  unfolding string
-  domain-is e h g q = rw (sized-inside 1 253 (stringOf d s) e h g, q, size-plain (stringOf d s) e)
-
-  pub domain-broken : {r : Domain} → r ≡ domainAnswer none → sizeOf (stringOf d s) ≡ Broken → r ≡ domainAnswer (string d 1 253 s)
-  unfolding string
-  domain-broken q e = q ∙ ap domainAnswer (sym (sized-broken 1 253 (stringOf d s) e))
-
--- ---- a ConnMan service's Name
-
-module _ (s : List ℕ) where
-  pub name-under : length s < 1 → ssidAnswer none ≡ ssidAnswer (string ConnMan 1 32 s)
-  unfolding string
-  name-under h = ap ssidAnswer (sym (sized-under 1 32 (some s) refl h))
-
-  pub name-over : 32 < length s → ssidAnswer none ≡ ssidAnswer (string ConnMan 1 32 s)
-  unfolding string
-  name-over h = ap ssidAnswer (sym (sized-over 1 32 (some s) refl h))
-
-  pub name-is : {b : List ℕ} → 1 ≤ length s → length s ≤ 32 → b ≡ padded 32 (orEmpty (stringOf ConnMan s)) → record { ok = true; length = length s; bytes = b } ≡ ssidAnswer (string ConnMan 1 32 s)
-  unfolding string
-  name-is h g q = rw (sized-inside 1 32 (some s) refl h g, q)
+pub ssid-is : (o : Option (List ℕ)) {b : List ℕ} {n : ℕ} → sizeOf o ≡ Long n → b ≡ padded 32 (orEmpty o) → record { ok = true; length = n; bytes = b } ≡ ssidAnswer o
+ssid-is none e q = not-long e
+ssid-is (some t) e q = rw (q, sym (long-is e))

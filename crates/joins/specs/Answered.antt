@@ -8,10 +8,9 @@ use mathlib.Core.Option.{Option, none, some, Option·none-ne-some}
 use Rattle.text.specs.Words.{word, same}
 use Rattle.text.specs.Options.{isSome, andThen, mapped, orElse, only, orEmpty}
 use Rattle.text.specs.OptionLaws.{IfSome, sized-some}
-use Rattle.text.specs.declared.Dialect.{Dialect}
 use Rattle.text.specs.declared.Dialect.the-variants as D
 use Rattle.utf8.specs.Utf8.{utf8From, text, valueText}
-use Rattle.escapes.specs.Strings.{stringOf}
+use Rattle.escapes.specs.Escapes.{unescape}
 use Rattle.addresses.specs.Addresses.{address, isAddress, netmask, addresses}
 use Rattle.addresses.specs.declared.Separator.{Separator}
 use Rattle.addresses.specs.declared.Separator.the-variants.{Spaces, Comma}
@@ -25,7 +24,7 @@ use Rattle.kinds.specs.Typed as T
 use Rattle.kinds.specs.Typed.{typed}
 use Rattle.addresses.specs.Laws.{address-bytes, addresses-good}
 use Rattle.utf8.specs.ByteLaws.{text-bytes}
-use Rattle.escapes.specs.TextLaws.{string-text}
+use Rattle.escapes.specs.TextLaws.{unescape-text}
 use Rattle.addresses.specs.MaskRuleLaws.{netmask-good}
 use Rattle.connman_ipv4.specs.Laws.{Ipv4Good, ipv4-good}
 use Rattle.hex_values.specs.Laws.{pre-shared-key-size, ssid-size}
@@ -54,22 +53,22 @@ use Rattle.joins.specs.Joining.{or-false, joined-good, service-joining}
 
 -- ---- what is read from a setting
 
-string-of : (d : Dialect) (low high : ℕ) (v : List ℕ) {t : List ℕ} → string d low high v ≡ some t →
-    stringOf d v ≡ some t
+string-of : (low high : ℕ) (v : List ℕ) {t : List ℕ} → string low high v ≡ some t →
+    unescape v ≡ some t
 unfolding string
-string-of d low high v e = sized-some low high (stringOf d v) e .1
+string-of low high v e = sized-some low high (unescape v) e .1
 
-good-passphrase : (d : Dialect) (v : List ℕ) {p : List ℕ} → valueText v ≡ true → K.passphrase d v ≡ some p →
+good-passphrase : (v : List ℕ) {p : List ℕ} → valueText v ≡ true → K.passphrase v ≡ some p →
     GoodPassphrase p
-good-passphrase d v h e =
-    let s = string-size d 8 63 v e in
-    record { low = s .0; high = s .1; text = string-text d v h (string-of d 8 63 v e) }
+good-passphrase v h e =
+    let s = string-size 8 63 v e in
+    record { low = s .0; high = s .1; text = unescape-text v h (string-of 8 63 v e) }
 
 good-key : (v : List ℕ) {k : List ℕ} → HexValues.preSharedKey v ≡ some k → GoodKey k
 good-key v e = let s = pre-shared-key-size v e in record { long = s .0; bytes = s .1 }
 
-good-domain : (d : Dialect) (v : List ℕ) {t : List ℕ} → valueText v ≡ true → string d 1 253 v ≡ some t → GoodDomain t
-good-domain d v h e = record { high = string-size d 1 253 v e .1; text = string-text d v h (string-of d 1 253 v e) }
+good-domain : (v : List ℕ) {t : List ℕ} → valueText v ≡ true → string 1 253 v ≡ some t → GoodDomain t
+good-domain v h e = record { high = string-size 1 253 v e .1; text = unescape-text v h (string-of 1 253 v e) }
 
 -- ---- the parts of a record, of what is read
 
@@ -97,6 +96,16 @@ unfolding text utf8From
 domain-formed none h = record { high = omega arith; text = refl }
 domain-formed (some d) h = h
 
+-- a passphrase and a domain of either format, their text being whole
+module _ (o : Option Entry) (whole : (e : Entry) → o ≡ some e → valueText (e .value) ≡ true) where
+  read-passphrase : IfSome GoodPassphrase (readAs K.passphrase o)
+  read-passphrase = read-holds GoodPassphrase K.passphrase o (λ e q x r. good-passphrase (e .value) (whole e q) r)
+
+  read-domain : GoodDomain (orEmpty (readAs (string 1 253) o))
+  read-domain =
+      domain-formed (readAs (string 1 253) o)
+      (read-holds GoodDomain (string 1 253) o (λ e q x r. good-domain (e .value) (whole e q) r))
+
 -- ---- an iwd file
 
 network-formed : (name : List ℕ) (o : Option Network) → networkOf name ≡ o → {k : Name} →
@@ -109,15 +118,16 @@ module _ (name file : List ℕ) {n m : ℕ} (a : reading D.Iwd name file ≡ Acc
   iwd-secret-formed : GoodSecret (iwdJoin (networkName (networkOf name)) (iwdEntry (sectionsOf D.Iwd file)) .credential)
   unfolding groupOf keysOf
   iwd-secret-formed =
-      secret-formed (readAs (K.passphrase D.Iwd) (iwdEntry (sectionsOf D.Iwd file) (word "Security") (word "Passphrase"))) (readAs HexValues.preSharedKey (iwdEntry (sectionsOf D.Iwd file) (word "Security") (word "PreSharedKey")))
-      (read-holds GoodPassphrase (K.passphrase D.Iwd) (iwdEntry (sectionsOf D.Iwd file) (word "Security") (word "Passphrase")) (λ e q x r. good-passphrase D.Iwd (e .value) (group-value D.Iwd name file a (word "Security") (word "Passphrase") refl refl q .text) r))
-      (read-holds GoodKey HexValues.preSharedKey (iwdEntry (sectionsOf D.Iwd file) (word "Security") (word "PreSharedKey")) (λ e q x r. good-key (e .value) r))
+      let at = iwdEntry (sectionsOf D.Iwd file) (word "Security") in
+      secret-formed (readAs K.passphrase (at (word "Passphrase"))) (readAs HexValues.preSharedKey (at (word "PreSharedKey")))
+      (read-passphrase (at (word "Passphrase")) (λ e q. group-value D.Iwd name file a (word "Security") (word "Passphrase") refl refl q .text))
+      (read-holds GoodKey HexValues.preSharedKey (at (word "PreSharedKey")) (λ e q x r. good-key (e .value) r))
 
   iwd-domain-formed : GoodDomain (iwdJoin (networkName (networkOf name)) (iwdEntry (sectionsOf D.Iwd file)) .domain)
   unfolding groupOf keysOf
   iwd-domain-formed =
-      domain-formed (readAs (string D.Iwd 1 253) (iwdEntry (sectionsOf D.Iwd file) (word "IPv4") (word "DomainName")))
-      (read-holds GoodDomain (string D.Iwd 1 253) (iwdEntry (sectionsOf D.Iwd file) (word "IPv4") (word "DomainName")) (λ e q x r. good-domain D.Iwd (e .value) (group-value D.Iwd name file a (word "IPv4") (word "DomainName") refl refl q .text) r))
+      read-domain (iwdEntry (sectionsOf D.Iwd file) (word "IPv4") (word "DomainName"))
+      (λ e q. group-value D.Iwd name file a (word "IPv4") (word "DomainName") refl refl q .text)
 
 address-formed : (at : Option Entry) → IfSome (λ x. isAddress x ≡ true) (readAs address at)
 address-formed at = read-holds (λ (x : List ℕ). isAddress x ≡ true) address at (λ e q x r. address-bytes (e .value) r)
@@ -195,18 +205,18 @@ has-name es h t r s n = go (entryOf (word "Type") es) refl
 ssid-name : (v : List ℕ) {s : List ℕ} → ssid v ≡ some s → NetworkName s
 ssid-name v e = let h = ssid-size v e in record { low = h .0; high = h .1; bytes = h .2 }
 
-text-name : (v : List ℕ) {t : List ℕ} → valueText v ≡ true → string D.ConnMan 1 32 v ≡ some t → NetworkName t
+text-name : (v : List ℕ) {t : List ℕ} → valueText v ≡ true → string 1 32 v ≡ some t → NetworkName t
 text-name v {t} h e =
-    let s = string-size D.ConnMan 1 32 v e in
-    record { low = s .0; high = s .1; bytes = text-bytes t (string-text D.ConnMan v h (string-of D.ConnMan 1 32 v e)) }
+    let s = string-size 1 32 v e in
+    record { low = s .0; high = s .1; bytes = text-bytes t (unescape-text v h (string-of 1 32 v e)) }
 
 reads-ssid : (v : List ℕ) → GoodValue D.ConnMan Kind.Ssid v → (s : List ℕ) × (ssid v ≡ some s)
 unfolding typed
 reads-ssid v g = mapped-some T.bytes (ssid v) (g .reads)
 
-reads-name : (v : List ℕ) → GoodValue D.ConnMan (Kind.Text 1 32) v → (s : List ℕ) × (string D.ConnMan 1 32 v ≡ some s)
+reads-name : (v : List ℕ) → GoodValue D.ConnMan (Kind.Text 1 32) v → (s : List ℕ) × (string 1 32 v ≡ some s)
 unfolding typed
-reads-name v g = mapped-some T.bytes (string D.ConnMan 1 32 v) (g .reads)
+reads-name v g = mapped-some T.bytes (string 1 32 v) (g .reads)
 
 reads-type : (v : List ℕ) → GoodValue D.ConnMan (Kind.Named L.ServiceType) v →
     (w : Word) × (wordOf L.ServiceType v ≡ some w)
@@ -215,10 +225,10 @@ reads-type v g = mapped-some T.word (wordOf L.ServiceType v) (g .reads)
 
 name-formed : (s n : Option Entry) → ((e : Entry) → s ≡ some e → GoodValue D.ConnMan Kind.Ssid (e .value)) →
     ((e : Entry) → n ≡ some e → GoodValue D.ConnMan (Kind.Text 1 32) (e .value)) → (s ≡ none → n ≡ none → ⊥) →
-    NetworkName (nameFrom (readAs ssid s) (readAs (string D.ConnMan 1 32) n))
+    NetworkName (nameFrom (readAs ssid s) (readAs (string 1 32) n))
 name-formed (some e) n f g h =
     let r = reads-ssid (e .value) (f e refl) in
-    subst (λ (o : Option (List ℕ)). NetworkName (nameFrom o (readAs (string D.ConnMan 1 32) n))) (sym (r .1)) (ssid-name (e .value) (r .1))
+    subst (λ (o : Option (List ℕ)). NetworkName (nameFrom o (readAs (string 1 32) n))) (sym (r .1)) (ssid-name (e .value) (r .1))
 name-formed none (some e) f g h =
     let r = reads-name (e .value) (g e refl) in
     subst (λ (o : Option (List ℕ)). NetworkName (nameFrom none o)) (sym (r .1)) (text-name (e .value) (g e refl .text) (r .1))
@@ -244,15 +254,15 @@ module _ (name file : List ℕ) (w : ℕ) {n m : ℕ} (a : reading D.ConnMan nam
   service-secret-formed : GoodSecret (serviceJoin (serviceSetting w file) .credential)
   unfolding keysOf
   service-secret-formed =
-      secret-formed (readAs (K.passphrase D.ConnMan) (serviceSetting w file (word "Passphrase"))) none
-      (read-holds GoodPassphrase (K.passphrase D.ConnMan) (serviceSetting w file (word "Passphrase")) (λ e q x r. good-passphrase D.ConnMan (e .value) (service-value D.ConnMan name file a w (word "Passphrase") refl q .text) r))
+      secret-formed (readAs K.passphrase (serviceSetting w file (word "Passphrase"))) none
+      (read-passphrase (serviceSetting w file (word "Passphrase")) (λ e q. service-value D.ConnMan name file a w (word "Passphrase") refl q .text))
       tt
 
   service-domain-formed : GoodDomain (serviceJoin (serviceSetting w file) .domain)
   unfolding keysOf
   service-domain-formed =
-      domain-formed (readAs (string D.ConnMan 1 253) (serviceSetting w file (word "Domain")))
-      (read-holds GoodDomain (string D.ConnMan 1 253) (serviceSetting w file (word "Domain")) (λ e q x r. good-domain D.ConnMan (e .value) (service-value D.ConnMan name file a w (word "Domain") refl q .text) r))
+      read-domain (serviceSetting w file (word "Domain"))
+      (λ e q. service-value D.ConnMan name file a w (word "Domain") refl q .text)
 
   service-name-formed : lacks (serviceAt w (sectionsOf D.ConnMan file)) ≡ false →
       wired (serviceSetting w file) ≡ false →

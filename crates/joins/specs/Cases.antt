@@ -8,6 +8,7 @@ use Prim.Native.String.{String}
 use lib.ListN.{replicate}
 use Rattle.text.specs.Bytes.{isKeyByte, isPlain}
 use Rattle.text.specs.Words.{word}
+use Rattle.text.specs.Worked.{shop, desk}
 use Rattle.utf8.specs.Utf8.{follow, utf8From, text}
 use Rattle.escapes.specs.Escapes.{unescapeFrom}
 use Rattle.hex.specs.Hex.{nibble, unhex}
@@ -25,7 +26,7 @@ use Rattle.rules.specs.Faults.{fault}
 use Rattle.rules.specs.Sections.{withLine}
 use Rattle.rules.specs.Groups.{serviceFault, fileFault}
 use Rattle.rules.specs.Reading.{lineFault, grown, sectionsOf, reading}
-use Rattle.rules.specs.declared.Refusal.the-variants.{Missing, NoPlace, NoService}
+use Rattle.rules.specs.declared.Refusal.the-variants.{ValueText, Missing, NoPlace, NoService}
 use Rattle.records.specs.Record.{Secret, noSecret, passphrase, Join}
 use Rattle.records.specs.Record as R
 use Rattle.records.specs.Cases.{worked}
@@ -48,7 +49,7 @@ IwdCase = String × String × Joined
 -- cases 1, 2 and 8 of the twelve are the second, third and fourth; a Passphrase wins over a PreSharedKey; a mask is absent; a domain is unescaped
 abbrev iwdCases : List IwdCase
 iwdCases =
-    ("Desk 4.psk", "[Settings]\nHidden=true\n[Security]\nPassphrase=low\\\\tide 88\n[IPv4]\nAddress=10.20.0.14\nNetmask=255.255.255.0\nGateway=10.20.0.1\nDNS=10.20.0.2 10.20.0.3\n[IPv6]\nEnabled=false\n", joined worked)
+    ("Desk 4.psk", desk, joined worked)
     ∷ ("Desk.open", "", joined (plainJoin "Desk" noSecret))
     ∷ ("Desk.psk", "", refused Missing 0)
     ∷ ("Desk.open", "[IPv4]\nAddress=10.0.0.2\nNetmask=255.255.254.0\nGateway=10.0.0.1", joined (withNumbers (static (10 ∷ 0 ∷ 0 ∷ 2 ∷ []) 23 (some (10 ∷ 0 ∷ 0 ∷ 1 ∷ [])))))
@@ -73,10 +74,11 @@ iwd-table = refl
 abbrev ServiceCase : Type 0
 ServiceCase = ℕ × String × Joined
 
--- case 9 of the twelve, without its move, is the fourth; SSID wins over Name; a Passphrase without Security, and neither; the second service; what has no record, and services that are not there
+-- case 9 of the twelve, without its move, is the fourth; SSID wins over Name; a Passphrase without Security, and neither; the second
+-- service; what has no record, and services that are not there; strings that are unescaped behind the trimming
 abbrev serviceCases : List ServiceCase
 serviceCases =
-    (1, "[service_till]\nType = wifi\nName = Desk 4\nPassphrase = low\\tide 88\nIPv4 = 10.20.0.14/24/10.20.0.1\nNameservers = 10.20.0.2,10.20.0.3\nHidden = true\nIPv6 = off\n", joined worked)
+    (1, shop, joined worked)
     ∷ (1, "[service_a]\nType=wifi\nName=Till\nSSID=4465736b\nPassphrase=12345678", joined (plainJoin "Desk" (passphrase (word "12345678"))))
     ∷ (2, "[service_a]\nType=ethernet\n[global]\nName=x\n[service_b]\nType=wifi\nName=Desk", joined (plainJoin "Desk" noSecret))
     ∷ (1, "[service_a]\nType=wifi\nName=Desk\nIPv4=10.0.0.2/24", joined (withNumbers (static (10 ∷ 0 ∷ 0 ∷ 2 ∷ []) 24 none)))
@@ -85,6 +87,8 @@ serviceCases =
     ∷ (1, "[service_a]\nType=wifi\nSecurity=ieee8021x\nName=Desk", refused NoPlace 3)
     ∷ (2, "[service_a]\nType=ethernet", refused NoService 0)
     ∷ (0, "[service_a]\nType=wifi\nName=Desk", refused NoService 0)
+    ∷ (1, "[service_a]\nType=wifi\nName=\\s \nPassphrase= \\ta\\nb\\rcde\\s\t", joined (plainJoin " " (passphrase (word "\ta\nb\rcde "))))
+    ∷ (1, "[service_a]\nType=wifi\nName=Desk\nPassphrase=abcdefg\\ \t", refused ValueText 4)
     ∷ []
 
 abbrev ofService : ServiceCase → Joined

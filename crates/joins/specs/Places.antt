@@ -5,8 +5,7 @@ use mathlib.Core.List.{List}
 use mathlib.Core.Option.{Option, none}
 use lib.ListN.{length}
 use Rattle.text.specs.Options.{orEmpty}
-use Rattle.text.specs.declared.Dialect.{Dialect}
-use Rattle.text.specs.declared.Dialect.the-variants.{Iwd, ConnMan}
+use Rattle.text.specs.declared.Dialect.the-variants.{Iwd}
 use Rattle.addresses.specs.Addresses.{address, addressAnswer, addresses}
 use Rattle.addresses.specs.declared.Separator.{Separator}
 use Rattle.hex_values.specs.HexValues.{preSharedKey, ssid}
@@ -45,23 +44,23 @@ pub record IwdFileRows (file x : List ℕ) : Type 0 where
 
 abbrev pub iwdLoginAt : List ℕ → List ℕ → ℕ → Login
 iwdLoginAt file x b =
-    loginAnswer (secretFrom (passphrase Iwd (bytesOf file x b N.IwdPassphrase)) (preSharedKey (bytesOf file x b N.PreSharedKey)))
+    loginAnswer (secretFrom (passphrase (bytesOf file x b N.IwdPassphrase)) (preSharedKey (bytesOf file x b N.PreSharedKey)))
 
 abbrev pub serviceLoginAt : List ℕ → List ℕ → ℕ → Login
-serviceLoginAt file x b = loginAnswer (secretFrom (passphrase ConnMan (bytesOf file x b N.Passphrase)) none)
+serviceLoginAt file x b = loginAnswer (secretFrom (passphrase (bytesOf file x b N.Passphrase)) none)
 
 abbrev pub serviceNameAt : List ℕ → List ℕ → ℕ → Ssid
 serviceNameAt file x b =
     nameRead (ssidAnswer (ssid (bytesOf file x b N.Ssid)))
-    (ssidAnswer (string ConnMan 1 32 (bytesOf file x b N.Name)))
+    (ssidAnswer (string 1 32 (bytesOf file x b N.Name)))
 
 abbrev pub iwdNumbersAt : List ℕ → List ℕ → ℕ → Ipv4
 iwdNumbersAt file x b =
     numbersRead (addressAnswer (address (bytesOf file x b N.Address))) (keySlot x b N.Netmask .code)
     (addressAnswer (address (bytesOf file x b N.Gateway)))
 
-abbrev pub domainAt : Dialect → List ℕ → List ℕ → ℕ → KeyName → Domain
-domainAt d file x b k = domainAnswer (string d 1 253 (bytesOf file x b k))
+abbrev pub domainAt : List ℕ → List ℕ → ℕ → KeyName → Domain
+domainAt file x b k = domainAnswer (string 1 253 (bytesOf file x b k))
 
 abbrev pub serverCountAt : Separator → List ℕ → List ℕ → ℕ → KeyName → ℕ
 serverCountAt sep file x b k = length (orEmpty (addresses sep (bytesOf file x b k)))

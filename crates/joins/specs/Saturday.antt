@@ -10,6 +10,7 @@ use Rattle.text.specs.Parts.{lines}
 use Rattle.text.specs.Words.{word}
 use Rattle.text.specs.declared.Dialect.{Dialect}
 use Rattle.utf8.specs.Utf8.{valueText}
+use Rattle.escapes.specs.Escapes.{unescape}
 use Rattle.lines.specs.Lines.{setting, lineOf}
 use Rattle.kinds.specs.Kinds as K
 use Rattle.rules.specs.Sections.{Entry}
@@ -21,10 +22,11 @@ use Rattle.joins.specs.Joins.{needsKey}
 
 -- ---- a faulty Passphrase line
 
--- broken text, or no passphrase: none of 8 to 63 bytes, or none at all where an escape is broken
-pub data NoPassphrase (d : Dialect) (v : List ℕ) : Type 0 where
-  broken-text : valueText v ≡ false → NoPassphrase d v
-  no-string : K.passphrase d v ≡ none → NoPassphrase d v
+-- broken text, a bad escape, or not 8 to 63 bytes once unescaped
+pub data NoPassphrase (v : List ℕ) : Type 0 where
+  broken-text : valueText v ≡ false → NoPassphrase v
+  bad-escape : unescape v ≡ none → NoPassphrase v
+  wrong-size : K.passphrase v ≡ none → NoPassphrase v
 
 -- line n of a file
 pub record LineAt (file : List ℕ) (n : ℕ) (l : List ℕ) : Type 0 where
@@ -38,7 +40,7 @@ pub record FaultyPassphrase (d : Dialect) (file : List ℕ) (n : ℕ) : Type 0 w
   pub stands : LineAt file n line
   pub value : List ℕ
   pub reads : lineOf d line ≡ setting (word "Passphrase") value
-  pub faulty : NoPassphrase d value
+  pub faulty : NoPassphrase value
 
 -- ---- what is answered
 
@@ -53,12 +55,12 @@ pub record RefusedBy (d : Dialect) (name file : List ℕ) (n : ℕ) : Type 0 whe
 -- ---- a good Passphrase line
 
 -- the bytes that a passphrase reads as
-pub record PassphraseRead (d : Dialect) (v : List ℕ) : Type 0 where
+pub record PassphraseRead (v : List ℕ) : Type 0 where
   pub bytes : List ℕ
-  pub is : K.passphrase d v ≡ some bytes
+  pub is : K.passphrase v ≡ some bytes
 
 -- the credential is that passphrase
-pub record PassphraseKept (d : Dialect) (e : Entry) (j : Join) : Type 0 where
-  pub read : PassphraseRead d (e .value)
+pub record PassphraseKept (e : Entry) (j : Join) : Type 0 where
+  pub read : PassphraseRead (e .value)
   pub is : j .credential ≡ passphrase (read .bytes)
   pub needed : needsKey j ≡ true

@@ -14,6 +14,7 @@ use Rattle.text.specs.Options.{mapped}
 use Rattle.text.specs.declared.Dialect.{Dialect}
 use Rattle.text.specs.declared.Dialect.the-variants as D
 use Rattle.utf8.specs.Utf8.{valueText}
+use Rattle.escapes.specs.Escapes.{unescape}
 use Rattle.lines.specs.Lines.{setting, lineOf}
 use Rattle.hex_values.specs.HexValues as HexValues
 use Rattle.kinds.specs.Kinds as K
@@ -35,7 +36,7 @@ use Rattle.rules.specs.declared.Refusal.the-variants.{Size, FileName, NoGroup, 
 use Rattle.records.specs.Record.{Join, passphrase}
 use Rattle.joins.specs.Joins.{joined, secretFrom, secretGiven, networkName, iwdJoin, iwdJoined, serviceSetting, serviceJoined}
 use Rattle.joins.specs.Joining.{joined-good, service-joining}
-use Rattle.joins.specs.Saturday.{NoPassphrase, broken-text, no-string, FaultyPassphrase, RefusedBy, PassphraseRead, PassphraseKept}
+use Rattle.joins.specs.Saturday.{NoPassphrase, broken-text, bad-escape, wrong-size, FaultyPassphrase, RefusedBy, PassphraseRead, PassphraseKept}
 
 -- ---- such a value is faulty, wherever the key is listed
 
@@ -49,10 +50,14 @@ passphrase-kind Ipv6 {k} e = absurd (Option·none-ne-some k e)
 passphrase-kind Global {k} e = absurd (Option·none-ne-some k e)
 passphrase-kind Service {k} e = sym (Option·some-injective Kind.Passphrase k e)
 
-value-faulty : (d : Dialect) (v : List ℕ) → NoPassphrase d v → valueFault (judged d Kind.Passphrase v) ≡ none → ⊥
+-- nothing of 8 to 63 bytes is read, as where an escape is bad
+no-string : (v : List ℕ) → unescape v ≡ none → K.passphrase v ≡ none
+unfolding K.string
+no-string v q = rw q
+
+unread-faulty : (d : Dialect) (v : List ℕ) → K.passphrase v ≡ none → valueFault (judged d Kind.Passphrase v) ≡ none → ⊥
 unfolding judged kindJudged typed
-value-faulty d v (broken-text q) = rw q (λ e. Option·none-ne-some ValueText (sym e))
-value-faulty d v (no-string q) = go (valueText v) (stringBroken d Kind.Passphrase v) (K.passphrase d v) q
+unread-faulty d v q = go (valueText v) (stringBroken Kind.Passphrase v) (K.passphrase v) q
   where
     go : (a b : Bool) (o : Option (List ℕ)) → o ≡ none →
         valueFault (cond a (cond b brokenText (byKind (mapped bytes o))) brokenText) ≡ none → ⊥
@@ -61,7 +66,13 @@ value-faulty d v (no-string q) = go (valueText v) (stringBroken d Kind.Passphras
     go true false (some p) q e = Option·none-ne-some p (sym q)
     go false b o q e = Option·none-ne-some ValueText (sym e)
 
-key-faulty : (d : Dialect) (v : List ℕ) → NoPassphrase d v → (g : Group) (o : Option Kind) (es : List Entry) →
+value-faulty : (d : Dialect) (v : List ℕ) → NoPassphrase v → valueFault (judged d Kind.Passphrase v) ≡ none → ⊥
+unfolding judged
+value-faulty d v (broken-text q) = rw q (λ e. Option·none-ne-some ValueText (sym e))
+value-faulty d v (bad-escape q) = unread-faulty d v (no-string v q)
+value-faulty d v (wrong-size q) = unread-faulty d v q
+
+key-faulty : (d : Dialect) (v : List ℕ) → NoPassphrase v → (g : Group) (o : Option Kind) (es : List Entry) →
     kindOf g (word "Passphrase") ≡ o → keyFault d (word "Passphrase") v o es ≡ none → ⊥
 key-faulty d v h g none es q e = Option·none-ne-some UnknownKey (sym e)
 key-faulty d v h g (some k) es q e = go (given (word "Passphrase") es) e
@@ -70,7 +81,7 @@ key-faulty d v h g (some k) es q e = go (given (word "Passphrase") es) e
     go true e = Option·none-ne-some RepeatedKey (sym e)
     go false e = value-faulty d v h (ap (λ (x : Kind). valueFault (judged d x v)) (sym (passphrase-kind g q)) ∙ e)
 
-setting-faulty : (d : Dialect) (v : List ℕ) → NoPassphrase d v → (gs : List Section) →
+setting-faulty : (d : Dialect) (v : List ℕ) → NoPassphrase v → (gs : List Section) →
     fault d gs (setting (word "Passphrase") v) ≡ none → ⊥
 unfolding fault
 setting-faulty d v h [] e = Option·none-ne-some NoGroup (sym e)
@@ -85,7 +96,7 @@ record FaultBy (d : Dialect) (n s : ℕ) (gs : List Section) (ls : List (List �
   early : first .line ≤ m
 
 fault-early : (d : Dialect) (n s : ℕ) (gs : List Section) (before : List (List ℕ)) (l : List ℕ) (rest : List (List ℕ)) {v : List ℕ} →
-    lineOf d l ≡ setting (word "Passphrase") v → NoPassphrase d v →
+    lineOf d l ≡ setting (word "Passphrase") v → NoPassphrase v →
     FaultBy d n s gs (before ++ l ∷ rest) (n + length before)
 unfolding lineFault
 fault-early d n s gs [] l rest {v} q h = go (fault d gs (lineOf d l)) refl
@@ -117,37 +128,39 @@ faulty-refused d name file {n} p = go (leb (length file) 16384) refl (nameIn d n
 
 -- ---- a good one
 
-reads-passphrase : (d : Dialect) (v : List ℕ) → GoodValue d Kind.Passphrase v → PassphraseRead d v
+reads-passphrase : {d : Dialect} (v : List ℕ) → GoodValue d Kind.Passphrase v → PassphraseRead v
 unfolding typed
-reads-passphrase d v g = go (K.passphrase d v) refl (g .reads)
+reads-passphrase v g = go (K.passphrase v) refl (g .reads)
   where
-    go : (o : Option (List ℕ)) → K.passphrase d v ≡ o → mapped bytes o ≡ some (g .value) → PassphraseRead d v
+    go : (o : Option (List ℕ)) → K.passphrase v ≡ o → mapped bytes o ≡ some (g .value) → PassphraseRead v
     go none q e = absurd (Option·none-ne-some (g .value) e)
     go (some p) q e = record { bytes = p; is = q }
 
 -- a record whose credential is read from the setting, whatever else it may be read from
-kept : (d : Dialect) {o : Option Entry} (k : Option (List ℕ)) {j : Join} →
-    j .credential ≡ secretFrom (readAs (K.passphrase d) o) k → {e : Entry} → o ≡ some e →
-    GoodValue d Kind.Passphrase (e .value) → PassphraseKept d e j
-kept d k {j} c {e} q g =
-    let p = reads-passphrase d (e .value) g in
-    let s : j .credential ≡ passphrase (p .bytes) = c ∙ ap (λ (o : Option Entry). secretFrom (readAs (K.passphrase d) o) k) q ∙ ap (λ (o : Option (List ℕ)). secretFrom o k) (p .is) in
+kept : {d : Dialect} {o : Option Entry} (k : Option (List ℕ)) {j : Join} →
+    j .credential ≡ secretFrom (readAs K.passphrase o) k → {e : Entry} → o ≡ some e →
+    GoodValue d Kind.Passphrase (e .value) → PassphraseKept e j
+kept {o} k {j} c {e} q g =
+    let p = reads-passphrase (e .value) g in
+    let r : readAs K.passphrase o ≡ some (p .bytes) = ap (readAs K.passphrase) q ∙ p .is in
+    let s : j .credential ≡ passphrase (p .bytes) = c ∙ ap (λ (x : Option (List ℕ)). secretFrom x k) r in
     record { read = p; is = s; needed = ap secretGiven s }
 
 -- a record that is answered, of an iwd file with a Passphrase line
 pub iwd-passphrase-kept : (name file : List ℕ) {j : Join} → iwdJoined name file ≡ joined j → {e : Entry} →
-    iwdEntry (sectionsOf D.Iwd file) (word "Security") (word "Passphrase") ≡ some e → PassphraseKept D.Iwd e j
+    iwdEntry (sectionsOf D.Iwd file) (word "Security") (word "Passphrase") ≡ some e → PassphraseKept e j
 unfolding groupOf keysOf
 iwd-passphrase-kept name file {j} a {e} q =
     let at = iwdEntry (sectionsOf D.Iwd file) in
     let h = joined-good (asked (reading D.Iwd name file)) none (iwdJoin (networkName (networkOf name)) at) a in
     let r = asked-reading (reading D.Iwd name file) (h .0) in
-    kept D.Iwd (readAs HexValues.preSharedKey (at (word "Security") (word "PreSharedKey"))) (ap (λ (i : Join). i .credential) (sym (h .1))) q (group-value D.Iwd name file (r .1 .1) (word "Security") (word "Passphrase") refl refl q)
+    let g = group-value D.Iwd name file (r .1 .1) (word "Security") (word "Passphrase") refl refl q in
+    kept (readAs HexValues.preSharedKey (at (word "Security") (word "PreSharedKey"))) (ap (λ (i : Join). i .credential) (sym (h .1))) q g
 
 -- a record that is answered, of a service with a Passphrase line
 pub passphrase-kept : (name file : List ℕ) (w : ℕ) {j : Join} → serviceJoined name file w ≡ joined j → {e : Entry} →
-    serviceSetting w file (word "Passphrase") ≡ some e → PassphraseKept D.ConnMan e j
+    serviceSetting w file (word "Passphrase") ≡ some e → PassphraseKept e j
 unfolding keysOf
 passphrase-kept name file w {j} a {e} q =
     let h = service-joining name file w a in
-    kept D.ConnMan none (ap (λ (i : Join). i .credential) (sym (h .is))) q (service-value D.ConnMan name file (h .accepted) w (word "Passphrase") refl q)
+    kept none (ap (λ (i : Join). i .credential) (sym (h .is))) q (service-value D.ConnMan name file (h .accepted) w (word "Passphrase") refl q)

@@ -69,7 +69,7 @@ pub fn iwd_join(name: &[u8], file: &[u8], x: &Places, count: usize) -> JoinRecor
     let hidden = parts::hidden_at(x, base_of(Group::Settings, 0), KeyName::IwdHidden);
     let row = base_of(Group::Ipv4, 0);
     let numbers = parts::iwd_numbers(file, x, row);
-    let domain = parts::domain_at(Dialect::Iwd, file, x, row, KeyName::DomainName);
+    let domain = parts::domain_at(file, x, row, KeyName::DomainName);
     let ipv6 = parts::iwd_ipv6(x, base_of(Group::Ipv6, 0));
     let bytes = network.bytes;
     assemble(
@@ -94,7 +94,7 @@ pub fn service_join(file: &[u8], x: &Places, row: usize, count: usize) -> JoinRe
     let login = parts::service_login(file, x, row);
     let hidden = parts::hidden_at(x, row, KeyName::Hidden);
     let numbers = values::ipv4_at(file, x, row, KeyName::Ipv4);
-    let domain = parts::domain_at(Dialect::ConnMan, file, x, row, KeyName::Domain);
+    let domain = parts::domain_at(file, x, row, KeyName::Domain);
     let ipv6 = parts::service_ipv6(x, row);
     let bytes = name.bytes;
     assemble(

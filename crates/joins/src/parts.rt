@@ -2,7 +2,8 @@
 ghost use mathlib.Core.Path.{_≡_};
 ghost use mathlib.Core.Option.{none};
 ghost use Prim.Native.Nat.{_<_};
-ghost use Rattle.escapes.specs.Strings.{stringOf, sizeOf};
+ghost use Rattle.escapes.specs.Escapes.{unescape};
+ghost use Rattle.escapes.specs.Answers.{sizeOf};
 ghost use Rattle.kinds.specs.Kinds.{string, passphrase};
 ghost use Rattle.hex_values.specs.Answers.{ssidAnswer};
 ghost use Rattle.places.specs.KeySlots.{RowInTable, ValueInFile};
@@ -44,9 +45,9 @@ fn no_phrase() -> Phrase
 }
 
 // The passphrase s, which has n bytes once unescaped.
-fn phrase_of(d: Dialect, s: &[u8], n: usize) -> Phrase
-    requires { ⌜ sizeOf (stringOf d (now s)) ≡ Size.Long n ⌝ }
-    ensures { λ r. ⌜ r ≡ phraseAnswer (passphrase d (now (s .entry))) ⌝ }
+fn phrase_of(s: &[u8], n: usize) -> Phrase
+    requires { ⌜ sizeOf (unescape (now s)) ≡ Size.Long n ⌝ }
+    ensures { λ r. ⌜ r ≡ phraseAnswer (passphrase (now (s .entry))) ⌝ }
 {
     if n < 8 {
         return no_phrase();
@@ -54,7 +55,7 @@ fn phrase_of(d: Dialect, s: &[u8], n: usize) -> Phrase
     if 63 < n {
         return no_phrase();
     }
-    let bytes = escapes::string_63(d, s);
+    let bytes = escapes::string_63(s);
     Phrase {
         ok: true,
         length: n,
@@ -62,12 +63,12 @@ fn phrase_of(d: Dialect, s: &[u8], n: usize) -> Phrase
     }
 }
 
-fn read_phrase(d: Dialect, s: &[u8]) -> Phrase
-    ensures { λ r. ⌜ r ≡ phraseAnswer (passphrase d (now (s .entry))) ⌝ }
+fn read_phrase(s: &[u8]) -> Phrase
+    ensures { λ r. ⌜ r ≡ phraseAnswer (passphrase (now (s .entry))) ⌝ }
 {
-    let size = escapes::string_len(d, s);
+    let size = escapes::string_len(s);
     match size {
-        Size::Long(n) => phrase_of(d, s, n),
+        Size::Long(n) => phrase_of(s, n),
         Size::Broken => no_phrase(),
     }
 }
@@ -82,9 +83,9 @@ fn no_domain() -> Domain
 }
 
 // The domain s, which has n bytes once unescaped.
-fn domain_of(d: Dialect, s: &[u8], n: usize) -> Domain
-    requires { ⌜ sizeOf (stringOf d (now s)) ≡ Size.Long n ⌝ }
-    ensures { λ r. ⌜ r ≡ domainAnswer (string d 1 253 (now (s .entry))) ⌝ }
+fn domain_of(s: &[u8], n: usize) -> Domain
+    requires { ⌜ sizeOf (unescape (now s)) ≡ Size.Long n ⌝ }
+    ensures { λ r. ⌜ r ≡ domainAnswer (string 1 253 (now (s .entry))) ⌝ }
 {
     if n < 1 {
         return no_domain();
@@ -92,43 +93,56 @@ fn domain_of(d: Dialect, s: &[u8], n: usize) -> Domain
     if 253 < n {
         return no_domain();
     }
-    let bytes = escapes::string_253(d, s);
+    let bytes = escapes::string_253(s);
     Domain { length: n, bytes }
 }
 
-fn read_domain(d: Dialect, s: &[u8]) -> Domain
-    ensures { λ r. ⌜ r ≡ domainAnswer (string d 1 253 (now (s .entry))) ⌝ }
+fn read_domain(s: &[u8]) -> Domain
+    ensures { λ r. ⌜ r ≡ domainAnswer (string 1 253 (now (s .entry))) ⌝ }
 {
-    let size = escapes::string_len(d, s);
+    let size = escapes::string_len(s);
     match size {
-        Size::Long(n) => domain_of(d, s, n),
+        Size::Long(n) => domain_of(s, n),
         Size::Broken => no_domain(),
     }
 }
 
-// A ConnMan service's Name, which has no escapes.
-fn read_name(s: &[u8]) -> Ssid
-    ensures { λ r. ⌜ r ≡ ssidAnswer (string Dialect.ConnMan 1 32 (now (s .entry))) ⌝ }
+fn no_ssid() -> Ssid
+    ensures { λ r. ⌜ r ≡ ssidAnswer none ⌝ }
 {
-    if s.len() < 1 {
-        return Ssid {
-            ok: false,
-            length: 0,
-            bytes: [0; 32],
-        };
+    Ssid {
+        ok: false,
+        length: 0,
+        bytes: [0; 32],
     }
-    if 32 < s.len() {
-        return Ssid {
-            ok: false,
-            length: 0,
-            bytes: [0; 32],
-        };
+}
+
+// The network name that a Name s gives, which has n bytes once unescaped.
+fn ssid_of(s: &[u8], n: usize) -> Ssid
+    requires { ⌜ sizeOf (unescape (now s)) ≡ Size.Long n ⌝ }
+    ensures { λ r. ⌜ r ≡ ssidAnswer (string 1 32 (now (s .entry))) ⌝ }
+{
+    if n < 1 {
+        return no_ssid();
     }
-    let bytes = escapes::string_32(Dialect::ConnMan, s);
+    if 32 < n {
+        return no_ssid();
+    }
+    let bytes = escapes::string_32(s);
     Ssid {
         ok: true,
-        length: s.len(),
+        length: n,
         bytes,
+    }
+}
+
+fn read_name(s: &[u8]) -> Ssid
+    ensures { λ r. ⌜ r ≡ ssidAnswer (string 1 32 (now (s .entry))) ⌝ }
+{
+    let size = escapes::string_len(s);
+    match size {
+        Size::Long(n) => ssid_of(s, n),
+        Size::Broken => no_ssid(),
     }
 }
 
@@ -167,7 +181,7 @@ pub fn iwd_login(file: &[u8], x: &Places, row: usize) -> Login
     requires { ⌜ RowOf Dialect.Iwd (now file) (now x) row Group.Security ⌝ }
     ensures { λ r. ⌜ r ≡ iwdLoginAt (now (file .entry)) (now (x .entry)) row ⌝ }
 {
-    let phrase = read_phrase(Dialect::Iwd, value_of(file, x, row, KeyName::IwdPassphrase));
+    let phrase = read_phrase(value_of(file, x, row, KeyName::IwdPassphrase));
     let psk = values::key_at(file, x, row, KeyName::PreSharedKey);
     login_of(phrase, psk)
 }
@@ -177,10 +191,7 @@ pub fn service_login(file: &[u8], x: &Places, row: usize) -> Login
     requires { ⌜ RowOf Dialect.ConnMan (now file) (now x) row Group.Service ⌝ }
     ensures { λ r. ⌜ r ≡ serviceLoginAt (now (file .entry)) (now (x .entry)) row ⌝ }
 {
-    let phrase = read_phrase(
-        Dialect::ConnMan,
-        value_of(file, x, row, KeyName::Passphrase),
-    );
+    let phrase = read_phrase(value_of(file, x, row, KeyName::Passphrase));
     login_of(
         phrase,
         PreSharedKey {
@@ -191,11 +202,11 @@ pub fn service_login(file: &[u8], x: &Places, row: usize) -> Login
 }
 
 // The domain that a key of a row gives.
-pub fn domain_at(d: Dialect, file: &[u8], x: &Places, row: usize, k: KeyName) -> Domain
+pub fn domain_at(file: &[u8], x: &Places, row: usize, k: KeyName) -> Domain
     requires { ⌜ ValueInFile (now file) (now x) row k ⌝ }
-    ensures { λ r. ⌜ r ≡ domainAt d (now (file .entry)) (now (x .entry)) row k ⌝ }
+    ensures { λ r. ⌜ r ≡ domainAt (now (file .entry)) (now (x .entry)) row k ⌝ }
 {
-    read_domain(d, value_of(file, x, row, k))
+    read_domain(value_of(file, x, row, k))
 }
 
 // Whether a key of a row says that the network is hidden, which it is not where nothing is said.

@@ -1,23 +1,22 @@
 -- The judgement of each kind, from what its reader answers.
-use mathlib.Core.Path.{_≡_, refl, ap, sym, _∙_}
+use mathlib.Core.Path.{_≡_, refl, ap, _∙_}
 use mathlib.Core.Bool.{Bool, true, false, cond, not}
 use mathlib.Core.List.{List, [], _∷_}
 use mathlib.Core.Option.{Option, none, some}
-use Prim.Native.Nat.{ℕ, _≤_, _<_}
+use Prim.Native.Nat.{ℕ}
 use native.Mathlib.Omega.{arith}
-use borrow.Author.Tests.{le-leb}
-use lib.Dec.{eqb, leb, eqb·suc-zero}
+use lib.Dec.{eqb, eqb·suc-zero}
 use lib.ListN.{length}
 use Rattle.text.specs.Bytes.{between}
 use Rattle.text.specs.Parts.{pieces}
 use Rattle.text.specs.Options.{isSome, mapped, sized, orEmpty, each}
-use Rattle.text.specs.Laws.{under, between-low}
+use Rattle.text.specs.Laws.{between-low}
 use Rattle.text.specs.OptionLaws.{sized-some}
 use Rattle.text.specs.declared.Dialect.{Dialect}
 use Rattle.text.specs.declared.Place.{Place}
-use Rattle.escapes.specs.Strings.{stringOf, sizeOf}
+use Rattle.escapes.specs.Escapes.{unescape}
+use Rattle.escapes.specs.Answers.{sizeOf}
 use Rattle.escapes.specs.declared.Size.{Size}
-use Rattle.escapes.specs.declared.Size.the-variants as S
 use Rattle.addresses.specs.Addresses as A
 use Rattle.addresses.specs.declared.Address.{Address}
 use Rattle.addresses.specs.declared.Netmask.{Netmask}
@@ -27,14 +26,14 @@ use Rattle.connman_ipv4.specs.ConnmanIpv4 as ConnmanIpv4
 use Rattle.hex_values.specs.HexValues as HexValues
 use Rattle.entry_lists.specs.EntryLists as EntryLists
 use Rattle.kinds.specs.Kinds as K
-use Rattle.kinds.specs.Typed.{Typed, typed, kindJudged, byKind, bytes}
+use Rattle.kinds.specs.Typed.{Typed, typed, escapesBroken, kindJudged, byKind, bytes}
 use Rattle.kinds.specs.Typed as T
 use Rattle.named_words.specs.Answers.{yesNo, namedWord}
 use Rattle.connman_ipv4.specs.Answers.{ipv4Answer}
 use Rattle.hex_values.specs.Answers.{macAnswer}
 use Rattle.entry_lists.specs.Answers.{entriesAnswer}
 use Rattle.kinds.specs.Answers.{valueAt, judgementAt}
-use Rattle.kinds.specs.Judging.{keptAt, flagJudgement, wordJudgement, maskJudgement}
+use Rattle.kinds.specs.Judging.{keptAt, flagJudgement, wordJudgement, maskJudgement, stringJudgement}
 use Rattle.kinds.specs.declared.Kind.{Kind}
 use Rattle.kinds.specs.declared.Kind.the-variants.{Flag, Named, Address as AddressKind, Netmask as NetmaskKind, Ipv4 as Ipv4Kind, Addresses, Entries as EntriesKind, Mac as MacKind, PreSharedKey, Ssid, Passphrase, Text}
 use Rattle.named_words.specs.declared.WordList.{WordList}
@@ -44,7 +43,6 @@ use Rattle.connman_ipv4.specs.declared.Ipv4.{Ipv4}
 use Rattle.entry_lists.specs.declared.Entries.{Entries}
 use Rattle.hex_values.specs.declared.Mac.{Mac}
 use Rattle.kinds.specs.declared.Judgement.{Judgement}
-use Rattle.kinds.specs.declared.Judgement.the-variants.{BrokenText, BrokenKind}
 use Rattle.kinds.specs.declared.Value.the-variants as W
 
 -- ---- what an answer says of the reading
@@ -79,6 +77,19 @@ counted high o e = go (sized 1 high o) refl e
 kept-is : {A : Type 0} (p : Place) (f : A → Typed) → ((a : A) → valueAt p (f a) ≡ W.Text p) → (o : Option A) {ok : Bool} → ok ≡ isSome o → keptAt p ok ≡ judgementAt p (byKind (mapped f o))
 kept-is p f t none e = rw e
 kept-is p f t (some a) e = rw (e, t a)
+
+-- a string by its size
+string-is : (low high : ℕ) (v : List ℕ) (p : Place) {y : Size} → y ≡ sizeOf (unescape v) → stringJudgement p low high y ≡ judgementAt p (cond (escapesBroken v) T.brokenText (byKind (mapped bytes (K.string low high v))))
+unfolding K.string
+string-is low high v p e = ap (stringJudgement p low high) e ∙ go (unescape v)
+  where
+    go : (o : Option (List ℕ)) → stringJudgement p low high (sizeOf o) ≡ judgementAt p (cond (not (isSome o)) T.brokenText (byKind (mapped bytes (sized low high o))))
+    go none = refl
+    go (some t) = last (between low high (length t))
+      where
+        last : (b : Bool) → keptAt p b ≡ judgementAt p (byKind (mapped bytes (cond b (some t) none)))
+        last true = refl
+        last false = refl
 
 module _ (d : Dialect) (v : List ℕ) (p : Place) {k : Kind} {r : Judgement} where
   pub flag-kind : k ≡ Flag → {y : YesNo} → y ≡ yesNo (NamedWords.flag d v) → r ≡ flagJudgement y → r ≡ judgementAt p (kindJudged d k v)
@@ -133,40 +144,10 @@ module _ (d : Dialect) (v : List ℕ) (p : Place) {k : Kind} {r : Judgement} whe
   unfolding kindJudged typed
   ssid-kind q e h = rw q (h ∙ kept-is p T.bytes (λ a. refl) (HexValues.ssid v) e)
 
-  pub passphrase-kind : k ≡ Passphrase → r ≡ judgementAt p (kindJudged d (Text 8 63) v) → r ≡ judgementAt p (kindJudged d k v)
+  pub passphrase-kind : k ≡ Passphrase → {y : Size} → y ≡ sizeOf (unescape v) → r ≡ stringJudgement p 8 63 y → r ≡ judgementAt p (kindJudged d k v)
   unfolding kindJudged typed
-  passphrase-kind q h = rw q h
+  passphrase-kind q e h = rw q (h ∙ string-is 8 63 v p e)
 
-  pub text-kind : {low high : ℕ} → k ≡ Text low high → r ≡ judgementAt p (kindJudged d (Text low high) v) → r ≡ judgementAt p (kindJudged d k v)
+  pub text-kind : {low high : ℕ} → k ≡ Text low high → {y : Size} → y ≡ sizeOf (unescape v) → r ≡ stringJudgement p low high y → r ≡ judgementAt p (kindJudged d k v)
   unfolding kindJudged typed
-  text-kind q h = rw q h
-
--- ---- strings
-
-module _ (d : Dialect) (low high : ℕ) (v : List ℕ) (p : Place) {y : Size} (e : y ≡ sizeOf (stringOf d v)) where
-  size-broken : (o : Option (List ℕ)) → y ≡ sizeOf o → y ≡ S.Broken → o ≡ none
-  size-broken none h q = refl
-  size-broken (some t) h q = let z : _≡_ {A = ℕ} 0 1 = cc in absurd (omega arith)
-
-  pub string-broken : y ≡ S.Broken → BrokenText ≡ judgementAt p (kindJudged d (Text low high) v)
-  unfolding kindJudged typed
-  string-broken q = rw (size-broken (stringOf d v) e q)
-
-  module _ {n : ℕ} (q : y ≡ S.Long n) where
-    sized-is : {t : Bool} → between low high n ≡ t → judgementAt p (kindJudged d (Text low high) v) ≡ keptAt p t
-    unfolding K.string kindJudged typed
-    sized-is {t} h = go (stringOf d v) e
-      where
-        go : (o : Option (List ℕ)) → y ≡ sizeOf o → judgementAt p (cond (not (isSome o)) T.brokenText (byKind (mapped bytes (sized low high o)))) ≡ keptAt p t
-        go none g = let z : _≡_ {A = ℕ} 0 1 = cc in absurd (omega arith)
-        go (some u) g = let l : length u ≡ n = cc in rw (l, h) (last t)
-          where
-            last : (t : Bool) → judgementAt p (byKind (mapped bytes (cond t (some u) none))) ≡ keptAt p t
-            last true = refl
-            last false = refl
-
-    pub string-short : n < low → BrokenKind ≡ judgementAt p (kindJudged d (Text low high) v)
-    string-short h = sym (sized-is (under {x = n} low high h))
-
-    pub string-long : low ≤ n → {r : Judgement} → r ≡ keptAt p (leb n high) → r ≡ judgementAt p (kindJudged d (Text low high) v)
-    string-long h g = g ∙ sym (sized-is {t = leb n high} (rw (le-leb low n h)))
+  text-kind {low} {high} q e h = rw q (h ∙ string-is low high v p e)

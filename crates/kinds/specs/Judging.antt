@@ -1,6 +1,10 @@
 -- The code's judgements by what each reader answers.
+use Prim.Native.Nat.{ℕ}
 use mathlib.Core.Bool.{Bool, cond}
+use Rattle.text.specs.Bytes.{between}
 use Rattle.text.specs.declared.Place.{Place}
+use Rattle.escapes.specs.declared.Size.{Size}
+use Rattle.escapes.specs.declared.Size.the-variants as S
 use Rattle.addresses.specs.declared.Netmask.{Netmask}
 use Rattle.addresses.specs.declared.Netmask.the-variants as M
 use Rattle.named_words.specs.declared.YesNo.{YesNo}
@@ -9,7 +13,7 @@ use Rattle.named_words.specs.declared.NamedWord.{NamedWord}
 use Rattle.named_words.specs.declared.NamedWord.the-variants as N
 use Rattle.kinds.specs.declared.Value.the-variants.{Flag, Mask, Word, Text}
 use Rattle.kinds.specs.declared.Judgement.{Judgement}
-use Rattle.kinds.specs.declared.Judgement.the-variants.{Good, BrokenKind}
+use Rattle.kinds.specs.declared.Judgement.the-variants.{Good, BrokenText, BrokenKind}
 
 abbrev pub keptAt : Place → Bool → Judgement
 keptAt p ok = cond ok (Good (Text p)) BrokenKind
@@ -25,3 +29,7 @@ wordJudgement N.Broken = BrokenKind
 abbrev pub maskJudgement : Netmask → Judgement
 maskJudgement (M.Length n) = Good (Mask n)
 maskJudgement M.Broken = BrokenKind
+
+abbrev pub stringJudgement : Place → ℕ → ℕ → Size → Judgement
+stringJudgement p low high (S.Long n) = keptAt p (between low high n)
+stringJudgement p low high S.Broken = BrokenText

@@ -4,13 +4,13 @@ use Prim.Native.Nat.{ℕ}
 use mathlib.Core.List.{List}
 use mathlib.Core.Option.{Option}
 use Rattle.text.specs.Options.{sized}
-use Rattle.text.specs.declared.Dialect.{Dialect}
-use Rattle.escapes.specs.Strings.{stringOf}
+use Rattle.escapes.specs.Escapes.{unescape}
 
--- a string of low to high bytes: "Every string's length counts its bytes after unescaping."
-unfoldable pub string : Dialect → ℕ → ℕ → List ℕ → Option (List ℕ)
-string d low high s = sized low high (stringOf d s)
+-- a string of low to high bytes: "Every string's length counts its bytes after unescaping." What is read is the value as it was trimmed
+-- (lines `ended`): strings "are to be unescaped after the whitespace is trimmed, and lengths count the bytes after that" (2026-02).
+unfoldable pub string : ℕ → ℕ → List ℕ → Option (List ℕ)
+string low high s = sized low high (unescape s)
 
 -- "Passphrase (string, 8 to 63 bytes after unescaping)"
-abbrev pub passphrase : Dialect → List ℕ → Option (List ℕ)
-passphrase d s = string d 8 63 s
+abbrev pub passphrase : List ℕ → Option (List ℕ)
+passphrase s = string 8 63 s

@@ -6,7 +6,7 @@ use mathlib.Core.Option.{Option, none, some}
 use Rattle.text.specs.Options.{isSome, mapped}
 use Rattle.text.specs.declared.Dialect.{Dialect}
 use Rattle.utf8.specs.Utf8.{valueText}
-use Rattle.escapes.specs.Strings.{stringOf}
+use Rattle.escapes.specs.Escapes.{unescape}
 use Rattle.addresses.specs.Addresses as A
 use Rattle.named_words.specs.NamedWords as NamedWords
 use Rattle.connman_ipv4.specs.ConnmanIpv4 as ConnmanIpv4
@@ -41,26 +41,26 @@ typed d Entries v = mapped entries (EntryLists.entries v)
 typed d Mac v = mapped bytes (HexValues.mac v)
 typed d PreSharedKey v = mapped bytes (HexValues.preSharedKey v)
 typed d Ssid v = mapped bytes (HexValues.ssid v)
-typed d Passphrase v = mapped bytes (K.passphrase d v)
-typed d (Text low high) v = mapped bytes (K.string d low high v)
+typed d Passphrase v = mapped bytes (K.passphrase v)
+typed d (Text low high) v = mapped bytes (K.string low high v)
 
 -- "Only strings are unescaped."
-abbrev pub escapesBroken : Dialect → List ℕ → Bool
-escapesBroken d v = not (isSome (stringOf d v))
+abbrev pub escapesBroken : List ℕ → Bool
+escapesBroken v = not (isSome (unescape v))
 
-abbrev pub stringBroken : Dialect → Kind → List ℕ → Bool
-stringBroken d Flag v = false
-stringBroken d (Named w) v = false
-stringBroken d Address v = false
-stringBroken d Netmask v = false
-stringBroken d Ipv4 v = false
-stringBroken d (Addresses sep) v = false
-stringBroken d Entries v = false
-stringBroken d Mac v = false
-stringBroken d PreSharedKey v = false
-stringBroken d Ssid v = false
-stringBroken d Passphrase v = escapesBroken d v
-stringBroken d (Text low high) v = escapesBroken d v
+abbrev pub stringBroken : Kind → List ℕ → Bool
+stringBroken Flag v = false
+stringBroken (Named w) v = false
+stringBroken Address v = false
+stringBroken Netmask v = false
+stringBroken Ipv4 v = false
+stringBroken (Addresses sep) v = false
+stringBroken Entries v = false
+stringBroken Mac v = false
+stringBroken PreSharedKey v = false
+stringBroken Ssid v = false
+stringBroken Passphrase v = escapesBroken v
+stringBroken (Text low high) v = escapesBroken v
 
 -- a value is good, its text is broken, or it breaks its kind
 pub data Judged : Type 0 where
@@ -74,8 +74,9 @@ byKind (some t) = good t
 
 -- by its kind, where its text is good so far
 unfoldable pub kindJudged : Dialect → Kind → List ℕ → Judged
-kindJudged d k v = cond (stringBroken d k v) brokenText (byKind (typed d k v))
+kindJudged d k v = cond (stringBroken k v) brokenText (byKind (typed d k v))
 
--- "Value text is broken (11) if it is not UTF-8, holds byte 0 or byte 13, or, for an iwd string, has a backslash not beginning one of the five escapes."
+-- "Value text is broken (11) if it is not UTF-8, holds byte 0 or byte 13, or, for an iwd string, has a backslash not beginning one of the
+-- five escapes." Request 2026-02 says the same of ConnMan's strings: "a bad escape there is 11."
 unfoldable pub judged : Dialect → Kind → List ℕ → Judged
 judged d k v = cond (valueText v) (kindJudged d k v) brokenText

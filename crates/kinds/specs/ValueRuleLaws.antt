@@ -13,9 +13,9 @@ use Rattle.text.specs.Laws.{and-true, all-cons, all-weaken}
 use Rattle.text.specs.declared.Dialect.{Dialect}
 use Rattle.utf8.specs.Utf8.{utf8, text, textByte, valueText}
 use Rattle.utf8.specs.WellFormedLaws.{utf8-formed, formed-utf8}
-use Rattle.escapes.specs.Strings.{stringOf}
-use Rattle.escapes.specs.StringRules.{StringIs}
-use Rattle.escapes.specs.StringRuleLaws.{string-is, is-string}
+use Rattle.escapes.specs.Escapes.{unescape}
+use Rattle.escapes.specs.StringRules.{Unescaped}
+use Rattle.escapes.specs.StringRuleLaws.{unescape-is, is-unescape}
 use Rattle.addresses.specs.Addresses.{address, netmask, addresses}
 use Rattle.addresses.specs.AddressRuleLaws.{address-is, is-address, addresses-is, is-addresses}
 use Rattle.addresses.specs.MaskRuleLaws.{netmask-is, is-netmask}
@@ -37,21 +37,21 @@ use Rattle.kinds.specs.declared.Kind.the-variants as K
 
 -- ---- strings
 
-text-is : (d : Dialect) (low high : ℕ) (v : List ℕ) {t : List ℕ} → string d low high v ≡ some t →
-    TextIs d low high v t
+text-is : (low high : ℕ) (v : List ℕ) {t : List ℕ} → string low high v ≡ some t →
+    TextIs low high v t
 unfolding string
-text-is d low high v e = let s = sized-is low high (stringOf d v) e in record { is = string-is d v (s .1); size = s .0 }
+text-is low high v e = let s = sized-is low high (unescape v) e in record { is = unescape-is v (s .1); size = s .0 }
 
-is-text : (d : Dialect) (low high : ℕ) (v : List ℕ) {t : List ℕ} → TextIs d low high v t →
-    string d low high v ≡ some t
+is-text : (low high : ℕ) (v : List ℕ) {t : List ℕ} → TextIs low high v t →
+    string low high v ≡ some t
 unfolding string
-is-text d low high v h = is-sized low high (stringOf d v) (h .size) (is-string d v (h .is))
+is-text low high v h = is-sized low high (unescape v) (h .size) (is-unescape (h .is))
 
-pub string-size : (d : Dialect) (low high : ℕ) (v : List ℕ) {t : List ℕ} → string d low high v ≡ some t →
+pub string-size : (low high : ℕ) (v : List ℕ) {t : List ℕ} → string low high v ≡ some t →
     (low ≤ length t) × (length t ≤ high)
 unfolding string
-string-size d low high v {t} e =
-    let h = sized-is low high (stringOf d v) e .0 in
+string-size low high v {t} e =
+    let h = sized-is low high (unescape v) e .0 in
     (h .least, h .most)
 
 -- ---- every kind
@@ -75,9 +75,9 @@ typed-value d K.Mac v e = given d K.Mac v T.bytes (mac v) (λ b q. R.mac (mac-is
 typed-value d K.PreSharedKey v e = given d K.PreSharedKey v T.bytes (preSharedKey v) (λ b q. R.preSharedKey (pre-shared-key-is v q)) e
 typed-value d K.Ssid v e = given d K.Ssid v T.bytes (ssid v) (λ b q. R.ssid (ssid-is v q)) e
 typed-value d K.Passphrase v e =
-    given d K.Passphrase v T.bytes (passphrase d v) (λ b q. R.passphrase (text-is d 8 63 v q)) e
+    given d K.Passphrase v T.bytes (passphrase v) (λ b q. R.passphrase (text-is 8 63 v q)) e
 typed-value d (K.Text low high) v e =
-    given d (K.Text low high) v T.bytes (string d low high v) (λ b q. R.text (text-is d low high v q)) e
+    given d (K.Text low high) v T.bytes (string low high v) (λ b q. R.text (text-is low high v q)) e
 
 pub value-typed : (d : Dialect) (k : Kind) (v : List ℕ) {t : Typed} → ValueIs d k v t → typed d k v ≡ some t
 unfolding typed
@@ -91,46 +91,46 @@ value-typed d k v (R.entries h) = ap (mapped T.entries) (are-entries v h)
 value-typed d k v (R.mac h) = ap (mapped T.bytes) (is-mac v h)
 value-typed d k v (R.preSharedKey h) = ap (mapped T.bytes) (is-pre-shared-key v h)
 value-typed d k v (R.ssid h) = ap (mapped T.bytes) (is-ssid v h)
-value-typed d k v (R.passphrase h) = ap (mapped T.bytes) (is-text d 8 63 v h)
-value-typed d k v (R.text {low} {high} h) = ap (mapped T.bytes) (is-text d low high v h)
+value-typed d k v (R.passphrase h) = ap (mapped T.bytes) (is-text 8 63 v h)
+value-typed d k v (R.text {low} {high} h) = ap (mapped T.bytes) (is-text low high v h)
 
 -- ---- whole text
 
-escapes-whole : (d : Dialect) (v : List ℕ) → escapesBroken d v ≡ false → (bytes : List ℕ) × StringIs d v bytes
-escapes-whole d v h = let k = some-is (stringOf d v) (go (isSome (stringOf d v)) h) in (k .0, string-is d v (k .1))
+escapes-whole : (v : List ℕ) → escapesBroken v ≡ false → (bytes : List ℕ) × Unescaped v bytes
+escapes-whole v h = let k = some-is (unescape v) (go (isSome (unescape v)) h) in (k .0, unescape-is v (k .1))
   where
     go : (b : Bool) → not b ≡ false → b ≡ true
     go true h = refl
     go false h = absurd (true≢false h)
 
-whole-escapes : (d : Dialect) (v : List ℕ) → ((bytes : List ℕ) × StringIs d v bytes) → escapesBroken d v ≡ false
-whole-escapes d v h = ap (λ (o : Option (List ℕ)). not (isSome o)) (is-string d v (h .1))
+whole-escapes : (v : List ℕ) → ((bytes : List ℕ) × Unescaped v bytes) → escapesBroken v ≡ false
+whole-escapes v h = ap (λ (o : Option (List ℕ)). not (isSome o)) (is-unescape (h .1))
 
-string-whole : (d : Dialect) (k : Kind) (v : List ℕ) → stringBroken d k v ≡ false → IsString k →
-    (bytes : List ℕ) × StringIs d v bytes
-string-whole d K.Flag v e h = absurd h
-string-whole d (K.Named l) v e h = absurd h
-string-whole d K.Address v e h = absurd h
-string-whole d K.Netmask v e h = absurd h
-string-whole d K.Ipv4 v e h = absurd h
-string-whole d (K.Addresses sep) v e h = absurd h
-string-whole d K.Entries v e h = absurd h
-string-whole d K.Mac v e h = absurd h
-string-whole d K.PreSharedKey v e h = absurd h
-string-whole d K.Ssid v e h = absurd h
-string-whole d K.Passphrase v e h = escapes-whole d v e
-string-whole d (K.Text low high) v e h = escapes-whole d v e
+string-whole : (k : Kind) (v : List ℕ) → stringBroken k v ≡ false → IsString k →
+    (bytes : List ℕ) × Unescaped v bytes
+string-whole K.Flag v e h = absurd h
+string-whole (K.Named l) v e h = absurd h
+string-whole K.Address v e h = absurd h
+string-whole K.Netmask v e h = absurd h
+string-whole K.Ipv4 v e h = absurd h
+string-whole (K.Addresses sep) v e h = absurd h
+string-whole K.Entries v e h = absurd h
+string-whole K.Mac v e h = absurd h
+string-whole K.PreSharedKey v e h = absurd h
+string-whole K.Ssid v e h = absurd h
+string-whole K.Passphrase v e h = escapes-whole v e
+string-whole (K.Text low high) v e h = escapes-whole v e
 
-pub judged-whole : (d : Dialect) (k : Kind) (v : List ℕ) → valueText v ≡ true → stringBroken d k v ≡ false →
-    WholeText d k v
+pub judged-whole : (k : Kind) (v : List ℕ) → valueText v ≡ true → stringBroken k v ≡ false →
+    WholeText k v
 unfolding text
-judged-whole d k v h e =
+judged-whole k v h e =
     let p = and-true (all (textByte true) v) (utf8 v) h in
     record {
       encoded = utf8-formed v (p .1);
       no-zero = all-weaken (textByte true) (other 0) (λ x i. and-true (other 0 x) (other 13 x) i .0) v (p .0);
       no-return = all-weaken (textByte true) (other 13) (λ x i. and-true (other 0 x) (other 13 x) i .1) v (p .0);
-      escapes = string-whole d k v e;
+      escapes = string-whole k v e;
     }
 
 all-both : (v : List ℕ) → all (other 0) v ≡ true → all (other 13) v ≡ true → all (textByte true) v ≡ true
@@ -140,20 +140,20 @@ all-both (x ∷ v) h k =
     let j = all-cons (other 13) x v k in
     rw (i .0, j .0) (all-both v (i .1) (j .1))
 
-pub whole-text : (d : Dialect) (k : Kind) (v : List ℕ) → WholeText d k v → valueText v ≡ true
+pub whole-text : (k : Kind) (v : List ℕ) → WholeText k v → valueText v ≡ true
 unfolding text
-whole-text d k v w = rw (all-both v (w .no-zero) (w .no-return)) (formed-utf8 (w .encoded))
+whole-text k v w = rw (all-both v (w .no-zero) (w .no-return)) (formed-utf8 (w .encoded))
 
-pub whole-unbroken : (d : Dialect) (k : Kind) (v : List ℕ) → WholeText d k v → stringBroken d k v ≡ false
-whole-unbroken d K.Flag v w = refl
-whole-unbroken d (K.Named l) v w = refl
-whole-unbroken d K.Address v w = refl
-whole-unbroken d K.Netmask v w = refl
-whole-unbroken d K.Ipv4 v w = refl
-whole-unbroken d (K.Addresses sep) v w = refl
-whole-unbroken d K.Entries v w = refl
-whole-unbroken d K.Mac v w = refl
-whole-unbroken d K.PreSharedKey v w = refl
-whole-unbroken d K.Ssid v w = refl
-whole-unbroken d K.Passphrase v w = whole-escapes d v (w .escapes tt)
-whole-unbroken d (K.Text low high) v w = whole-escapes d v (w .escapes tt)
+pub whole-unbroken : (k : Kind) (v : List ℕ) → WholeText k v → stringBroken k v ≡ false
+whole-unbroken K.Flag v w = refl
+whole-unbroken (K.Named l) v w = refl
+whole-unbroken K.Address v w = refl
+whole-unbroken K.Netmask v w = refl
+whole-unbroken K.Ipv4 v w = refl
+whole-unbroken (K.Addresses sep) v w = refl
+whole-unbroken K.Entries v w = refl
+whole-unbroken K.Mac v w = refl
+whole-unbroken K.PreSharedKey v w = refl
+whole-unbroken K.Ssid v w = refl
+whole-unbroken K.Passphrase v w = whole-escapes v (w .escapes tt)
+whole-unbroken (K.Text low high) v w = whole-escapes v (w .escapes tt)

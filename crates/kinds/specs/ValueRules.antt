@@ -9,7 +9,7 @@ use Rattle.text.specs.Parts.{all}
 use Rattle.text.specs.Relations.{Sized}
 use Rattle.text.specs.declared.Dialect.{Dialect}
 use Rattle.utf8.specs.WellFormed.{WellFormedUtf8}
-use Rattle.escapes.specs.StringRules.{StringIs}
+use Rattle.escapes.specs.StringRules.{Unescaped}
 use Rattle.addresses.specs.AddressRules.{AddressIs, MaskIs, AddressesIs}
 use Rattle.addresses.specs.declared.Separator.{Separator}
 use Rattle.named_words.specs.WordRules.{Means, flagRows, wordRows}
@@ -27,8 +27,8 @@ use Rattle.kinds.specs.declared.Kind.the-variants as K
 -- ---- strings
 
 -- a string of low to high bytes: "Every string's length counts its bytes after unescaping."
-pub record TextIs (d : Dialect) (low high : ℕ) (v bytes : List ℕ) : Type 0 where
-  pub is : StringIs d v bytes
+pub record TextIs (low high : ℕ) (v bytes : List ℕ) : Type 0 where
+  pub is : Unescaped v bytes
   pub size : Sized low high bytes
 
 -- ---- a value of each kind, and the typed value that it gives
@@ -46,8 +46,8 @@ pub data ValueIs (d : Dialect) : Kind → List ℕ → Typed → Type 0 where
   preSharedKey : {v bytes : List ℕ} → PreSharedKeyIs v bytes → ValueIs d K.PreSharedKey v (T.bytes bytes)
   ssid : {v bytes : List ℕ} → SsidIs v bytes → ValueIs d K.Ssid v (T.bytes bytes)
   -- "Passphrase (string, 8 to 63 bytes after unescaping)"
-  passphrase : {v bytes : List ℕ} → TextIs d 8 63 v bytes → ValueIs d K.Passphrase v (T.bytes bytes)
-  text : {low high : ℕ} {v bytes : List ℕ} → TextIs d low high v bytes → ValueIs d (K.Text low high) v (T.bytes bytes)
+  passphrase : {v bytes : List ℕ} → TextIs 8 63 v bytes → ValueIs d K.Passphrase v (T.bytes bytes)
+  text : {low high : ℕ} {v bytes : List ℕ} → TextIs low high v bytes → ValueIs d (K.Text low high) v (T.bytes bytes)
 
 -- ---- whole text
 
@@ -67,9 +67,9 @@ IsString K.Passphrase = Unit
 IsString (K.Text low high) = Unit
 
 -- "Value text is broken (11) if it is not UTF-8, holds byte 0 or byte 13, or, for an iwd string, has a backslash not
--- beginning one of the five escapes.": text that is not broken
-pub record WholeText (d : Dialect) (kind : Kind) (v : List ℕ) : Type 0 where
+-- beginning one of the five escapes.", and by request 2026-02 for a ConnMan string too: text that is not broken
+pub record WholeText (kind : Kind) (v : List ℕ) : Type 0 where
   pub encoded : WellFormedUtf8 v
   pub no-zero : all (other 0) v ≡ true
   pub no-return : all (other 13) v ≡ true
-  pub escapes : IsString kind → (bytes : List ℕ) × StringIs d v bytes
+  pub escapes : IsString kind → (bytes : List ℕ) × Unescaped v bytes

@@ -11,7 +11,6 @@ use lib.ListN.{length}
 use Rattle.text.specs.Bytes.{isByte, between, inLine, isBlank, isDigit, isLowerHex}
 use Rattle.text.specs.Parts.{all, after, empty}
 use Rattle.text.specs.Laws.{inside, between-low, between-high, pass-other, all-cons, all-weaken, all-other}
-use Rattle.text.specs.declared.Dialect.the-variants.{Iwd}
 use Rattle.utf8.specs.Utf8.{text, valueText, recordText}
 use Rattle.utf8.specs.Laws.{isPrintable, text-printable}
 use Rattle.escapes.specs.Escapes.{escape}
@@ -37,7 +36,7 @@ pub escape-stands : (t : List ℕ) → recordText t ≡ true → StandsOnLine (e
 escape-stands t h = record { text = escape-text t ∙ h; line = escape-line t; start = escape-start t }
 
 pub string-escape : (low high : ℕ) (t : List ℕ) → low ≤ length t → length t ≤ high →
-    string Iwd low high (escape t) ≡ some t
+    string low high (escape t) ≡ some t
 unfolding string
 string-escape low high t h g = rw (unescape-escape t, inside {x = length t} low high h g)
 

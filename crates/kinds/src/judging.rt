@@ -4,7 +4,7 @@ ghost use lib.ListN.{length};
 ghost use Rattle.text.specs.Parts.{partAt, Inside};
 ghost use Rattle.kinds.specs.Typed.{kindJudged, judged};
 ghost use Rattle.kinds.specs.Answers.{judgementAt};
-ghost use Rattle.kinds.specs.Judging.{keptAt, flagJudgement, wordJudgement, maskJudgement};
+ghost use Rattle.kinds.specs.Judging.{keptAt, flagJudgement, wordJudgement, maskJudgement, stringJudgement};
 use crate::Judgement;
 use crate::Kind;
 use crate::Value;
@@ -52,11 +52,10 @@ fn mask_judgement(m: Netmask) -> Judgement
     }
 }
 
-// A string of low to high bytes once unescaped.
-fn string_judgement(d: Dialect, v: &[u8], low: u8, high: u8, at: Place) -> Judgement
-    ensures { λ r. ⌜ r ≡ judgementAt at (kindJudged d (Kind.Text low high) (now (v .entry))) ⌝ }
+// A string of low to high bytes, by its size once unescaped.
+fn string_judgement(size: Size, low: u8, high: u8, at: Place) -> Judgement
+    ensures { λ r. ⌜ r ≡ stringJudgement at low high size ⌝ }
 {
-    let size = escapes::string_len(d, v);
     let Size::Long(n) = size else {
         return Judgement::BrokenText;
     };
@@ -93,8 +92,8 @@ fn judge_kind(d: Dialect, kind: Kind, v: &[u8], at: Place) -> Judgement
         }
         Kind::PreSharedKey => kept(hex_values::is_pre_shared_key(v), at),
         Kind::Ssid => kept(hex_values::is_ssid(v), at),
-        Kind::Passphrase => string_judgement(d, v, 8, 63, at),
-        Kind::Text(low, high) => string_judgement(d, v, low, high, at),
+        Kind::Passphrase => string_judgement(escapes::string_len(v), 8, 63, at),
+        Kind::Text(low, high) => string_judgement(escapes::string_len(v), low, high, at),
     }
 }
 

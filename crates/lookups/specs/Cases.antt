@@ -5,6 +5,7 @@ use Prim.Native.Nat.{ℕ}
 use Prim.Native.String.{String}
 use Rattle.text.specs.Bytes.{isKeyByte, isPlain}
 use Rattle.text.specs.Words.{word}
+use Rattle.text.specs.Worked.{shop}
 use Rattle.utf8.specs.Utf8.{follow, utf8From, text}
 use Rattle.escapes.specs.Escapes.{unescapeFrom}
 use Rattle.hex.specs.Hex.{nibble, unhex}
@@ -35,10 +36,6 @@ handed k file = (answerNumber (k .answer), lookupLine (k .answer) (k .setting), 
 abbrev Case : Type 0
 Case = (List ℕ → List ℕ → Lookup) × String × String × Handed
 
--- 01's `shop.config`
-abbrev shop : String
-shop = "[service_till]\nType = wifi\nName = Desk 4\nPassphrase = low\\tide 88\nIPv4 = 10.20.0.14/24/10.20.0.1\nNameservers = 10.20.0.2,10.20.0.3\nHidden = true\nIPv6 = off\n"
-
 abbrev cases : List Case
 cases =
     (serviceLookup 1 (word "Name"), "shop.config", shop, (0, 3, word "Desk 4"))
@@ -52,6 +49,8 @@ cases =
     ∷ (globalLookup (word "Description"), "a.config", "[global]\nDescription=b \nName=a", (0, 2, word "b"))
     ∷ (serviceLookup 2 (word "Name"), "a.config", "[service_a]\nType=wifi\nName=a\n[global]\nName=g\n[service_b]\nType=wifi\nName=b", (0, 8, word "b"))
     ∷ (serviceLookup 1 (word "Domain"), "a.config", "[service_a]\nDomain=d\n", (14, 1, []))
+    ∷ (globalLookup (word "Name"), "a.config", "[global]\nName=\\sa\\n\\s \t", (0, 2, word "\\sa\\n\\s"))
+    ∷ (globalLookup (word "Name"), "a.config", "[global]\nName=a\\ ", (11, 2, []))
     ∷ (iwdLookup (word "IPv4") (word "DomainName"), "Desk.open", "[IPv4]\nDomainName= \\sab \n", (0, 2, word "\\sab "))
     ∷ (iwdLookup (word "Security") (word "Passphrase"), "Desk.psk", "[Security]\nPassphrase=1234567 ", (0, 2, word "1234567 "))
     ∷ (iwdLookup (word "Security") (word "Passphrase"), "Desk.psk", "[Security]\nPassphrase=1234567", (12, 2, []))

@@ -7,7 +7,6 @@ use mathlib.Core.Option.{Option, none, some}
 use lib.ListN.{length}
 use Rattle.text.specs.Options.{orEmpty}
 use Rattle.text.specs.Words.{word}
-use Rattle.text.specs.declared.Dialect.the-variants as D
 use Rattle.addresses.specs.Addresses.{addresses}
 use Rattle.addresses.specs.declared.Separator.the-variants.{Comma}
 use Rattle.kinds.specs.Kinds as K
@@ -60,9 +59,9 @@ pub join-within : (at : List ℕ → Option Entry) → CountsWithin (laid (servi
 unfolding keysOf
 join-within at =
     record {
-      name = name-short (readAs ssid (at (word "SSID"))) (readAs (string D.ConnMan 1 32) (at (word "Name"))) (read-short ssid 32 (λ v t e. ssid-size v e .1) (at (word "SSID"))) (read-short (string D.ConnMan 1 32) 32 (λ v t e. string-size D.ConnMan 1 32 v e .1) (at (word "Name")));
-      passphrase = rw (secret-plain (readAs (K.passphrase D.ConnMan) (at (word "Passphrase")))) (read-short (K.passphrase D.ConnMan) 63 (λ v t e. string-size D.ConnMan 8 63 v e .1) (at (word "Passphrase")));
+      name = name-short (readAs ssid (at (word "SSID"))) (readAs (string 1 32) (at (word "Name"))) (read-short ssid 32 (λ v t e. ssid-size v e .1) (at (word "SSID"))) (read-short (string 1 32) 32 (λ v t e. string-size 1 32 v e .1) (at (word "Name")));
+      passphrase = rw (secret-plain (readAs K.passphrase (at (word "Passphrase")))) (read-short K.passphrase 63 (λ v t e. string-size 8 63 v e .1) (at (word "Passphrase")));
       length = numbers-short (at (word "IPv4"));
       servers = read-short (addresses Comma) 4 (λ v t e. addresses-good Comma v e .1) (at (word "Nameservers"));
-      domain = read-short (string D.ConnMan 1 253) 253 (λ v t e. string-size D.ConnMan 1 253 v e .1) (at (word "Domain"));
+      domain = read-short (string 1 253) 253 (λ v t e. string-size 1 253 v e .1) (at (word "Domain"));
     }

@@ -1,13 +1,15 @@
--- Worked cases, by computation: document 01's `shop.config`, whose service 1 becomes `Desk 4.psk`, and what a move refuses.
+-- Worked cases, by computation: document 01's `shop.config`, whose service 1 becomes `Desk 4.psk`, what a move refuses, and strings with
+-- escapes on the way.
 use mathlib.Core.Path.{_≡_, refl}
-use mathlib.Core.List.{List, [], _∷_}
+use mathlib.Core.List.{List, [], _∷_, _++_, map}
 use Prim.Native.Nat.{ℕ}
 use Prim.Native.String.{String}
 use lib.ListN.{replicate}
 use Rattle.text.specs.Bytes.{isKeyByte, isPlain}
 use Rattle.text.specs.Words.{word}
+use Rattle.text.specs.Worked.{shop, desk}
 use Rattle.utf8.specs.Utf8.{follow, utf8From, text}
-use Rattle.escapes.specs.Escapes.{escapeFrom}
+use Rattle.escapes.specs.Escapes.{unescapeFrom, escapeFrom}
 use Rattle.hex.specs.Hex.{nibble, unhex}
 use Rattle.addresses.specs.Addresses.{decimalValue, number, address, prefixLength, lengthUpTo, maskLength, netmask, addresses, decimal, dotted, maskBytes}
 use Rattle.named_words.specs.NamedWords.{flag, wordOf}
@@ -23,31 +25,54 @@ use Rattle.rules.specs.Faults.{fault}
 use Rattle.rules.specs.Sections.{withLine}
 use Rattle.rules.specs.Groups.{serviceFault}
 use Rattle.rules.specs.Reading.{lineFault, grown, sectionsOf, reading}
-use Rattle.rules.specs.declared.Refusal.the-variants.{NoPlace, NoService, ShortBuffer, FileName, Missing}
+use Rattle.rules.specs.declared.Refusal.the-variants.{FileName, ValueText, Missing, NoPlace, ShortBuffer, NoService}
 use Rattle.written.specs.Written.{nameText, fileText}
 use Rattle.writer.specs.Writing.{Writing, writes, refuses}
 use Rattle.mover.specs.Moves.{moving}
-
-abbrev shop : String
-shop = "[service_till]\nType = wifi\nName = Desk 4\nPassphrase = low\\tide 88\nIPv4 = 10.20.0.14/24/10.20.0.1\nNameservers = 10.20.0.2,10.20.0.3\nHidden = true\nIPv6 = off\n"
 
 -- a name, a file, a service and the lengths of the two buffers
 abbrev of : String → String → ℕ → ℕ → ℕ → Writing
 of name file w n f = moving (word name) (word file) w (replicate n 0) (replicate f 0)
 
-abbrev worked : List Writing
-worked =
-    of "shop.config" shop 1 10 169
-    ∷ of "shop.config" shop 1 9 169
-    ∷ of "shop.config" shop 1 10 168
-    ∷ of "shop.config" shop 2 0 0
-    ∷ of "shop.psk" shop 1 70 858
-    ∷ of "shop.config" "[service_a]\nType=wifi\n" 0 70 858
+-- a service whose passphrase stands so in its file, and the file that has it so
+abbrev service : String → Writing
+service p = moving (word "shop.config") (word "[service_a]\nType=wifi\nName=Desk\nPassphrase=" ++ word p) 1 (replicate 70 0) (replicate 858 0)
+
+abbrev written : String → Writing
+written p = writes (word "Desk.psk") (word "[Security]\nPassphrase=" ++ word p ++ word "\n")
+
+-- a move, and its answer
+abbrev Case : Type 0
+Case = Writing × Writing
+
+abbrev cases : List Case
+cases =
+    (of "shop.config" shop 1 10 167, writes (word "Desk 4.psk") (word desk))
+    ∷ (of "shop.config" shop 1 9 167, refuses ShortBuffer 0)
+    ∷ (of "shop.config" shop 1 10 166, refuses ShortBuffer 0)
+    ∷ (of "shop.config" shop 2 0 0, refuses NoService 0)
+    ∷ (of "shop.psk" shop 1 70 858, refuses FileName 0)
+    ∷ (of "shop.config" "[service_a]\nType=wifi\n" 0 70 858, refuses Missing 1)
     -- the earliest line, whatever its key
-    ∷ of "shop.config" "[service_a]\nTimeservers=t\nType=ethernet\n" 1 0 0
-    ∷ of "shop.config" "[service_a]\nType=wifi\nName=a\nIPv4=off\nMAC=00:11:22:33:44:55\n" 1 0 0
+    ∷ (of "shop.config" "[service_a]\nTimeservers=t\nType=ethernet\n" 1 0 0, refuses NoPlace 2)
+    ∷ (of "shop.config" "[service_a]\nType=wifi\nName=a\nIPv4=off\nMAC=00:11:22:33:44:55\n" 1 0 0, refuses NoPlace 4)
+    -- blanks at either end and alone, bytes 9, 10 and 13, and a backslash at the end; one that only blanks follow is a bad escape
+    ∷ (service "\\sleading", written "\\sleading")
+    ∷ (service "trailing\\s \t", written "trailing ")
+    ∷ (service "\\s\\s\\s\\s\\s\\s\\s\\s", written "\\s       ")
+    ∷ (service "\\ttab\\ttab\\t", written "\\ttab\ttab\t")
+    ∷ (service "line\\nline\\n", written "line\\nline\\n")
+    ∷ (service "return\\r\\r", written "return\\r\\r")
+    ∷ (service "backslash\\\\ ", written "backslash\\\\")
+    ∷ (service "backslash\\ ", refuses ValueText 4)
     ∷ []
 
-pub worked-moves : worked ≡ writes (word "Desk 4.psk") (word "[Settings]\nHidden=true\n[Security]\nPassphrase=low\\\\tide 88\n[IPv4]\nAddress=10.20.0.14\nNetmask=255.255.255.0\nGateway=10.20.0.1\nDNS=10.20.0.2 10.20.0.3\n[IPv6]\nEnabled=false\n") ∷ refuses ShortBuffer 0 ∷ refuses ShortBuffer 0 ∷ refuses NoService 0 ∷ refuses FileName 0 ∷ refuses Missing 1 ∷ refuses NoPlace 2 ∷ refuses NoPlace 4 ∷ []
-unfolding moving reading lineFault grown sectionsOf serviceFault fault withLine isService groupOf keysOf stem isKeyByte isPlain bracketOf settingOf lineOf valueStart typed kindJudged judged flag wordOf ipv4 entries colonPairs mac ssid string decimalValue number address prefixLength lengthUpTo maskLength netmask addresses decimal dotted maskBytes nibble unhex escapeFrom follow utf8From text nameText fileText
-worked-moves = refl
+abbrev computed : Case → Writing
+computed c = c .0
+
+abbrev answer : Case → Writing
+answer c = c .1
+
+pub table : map computed cases ≡ map answer cases
+unfolding moving reading lineFault grown sectionsOf serviceFault fault withLine isService groupOf keysOf stem isKeyByte isPlain bracketOf settingOf lineOf valueStart typed kindJudged judged flag wordOf ipv4 entries colonPairs mac ssid string decimalValue number address prefixLength lengthUpTo maskLength netmask addresses decimal dotted maskBytes nibble unhex unescapeFrom escapeFrom follow utf8From text nameText fileText
+table = refl

@@ -57,7 +57,7 @@ module _ {d : Dialect} {file x : List ℕ} {b : ℕ} (k : KeyName) {es : List En
 
 pub good-typed : (d : Dialect) (k : Kind) (v : List ℕ) {t : Typed} → judged d k v ≡ T.good t → typed d k v ≡ some t
 unfolding judged kindJudged
-good-typed d k v {t} e = go (valueText v) (stringBroken d k v) (typed d k v) e
+good-typed d k v {t} e = go (valueText v) (stringBroken k v) (typed d k v) e
   where
     go : (a b : Bool) (o : Option Typed) → cond a (cond b T.brokenText (byKind o)) T.brokenText ≡ T.good t → o ≡ some t
     go false b o e = let z : _≡_ {A = ℕ} 0 1 = cc in absurd (omega arith)

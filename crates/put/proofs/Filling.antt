@@ -20,6 +20,14 @@ pub glue-prepend : (t : List ℕ) (x : ℕ) (o : Option (List ℕ)) → glue t (
 glue-prepend t x none = refl
 glue-prepend t x (some u) = ap some (sym (append-assoc t (x ∷ []) u))
 
+pub glue-cons : (x : ℕ) (t : List ℕ) (o : Option (List ℕ)) → prepend x (glue t o) ≡ glue (x ∷ t) o
+glue-cons x t none = refl
+glue-cons x t (some u) = refl
+
+pub glue-glue : (t u : List ℕ) (o : Option (List ℕ)) → glue t (glue u o) ≡ glue (t ++ u) o
+glue-glue t u none = refl
+glue-glue t u (some v) = ap some (sym (append-assoc t u v))
+
 pub glue-nil : (o : Option (List ℕ)) → glue [] o ≡ o
 glue-nil none = refl
 glue-nil (some u) = refl

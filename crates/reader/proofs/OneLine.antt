@@ -115,8 +115,8 @@ module _ (p : Place) where
   typed-placed d K.Mac b w e = mapped-placed T.bytes (HexValues.mac b) e (λ a. refl)
   typed-placed d K.PreSharedKey b w e = mapped-placed T.bytes (HexValues.preSharedKey b) e (λ a. refl)
   typed-placed d K.Ssid b w e = mapped-placed T.bytes (HexValues.ssid b) e (λ a. refl)
-  typed-placed d K.Passphrase b w e = mapped-placed T.bytes (Kinds.passphrase d b) e (λ a. refl)
-  typed-placed d (K.Text low high) b w e = mapped-placed T.bytes (Kinds.string d low high b) e (λ a. refl)
+  typed-placed d K.Passphrase b w e = mapped-placed T.bytes (Kinds.passphrase b) e (λ a. refl)
+  typed-placed d (K.Text low high) b w e = mapped-placed T.bytes (Kinds.string low high b) e (λ a. refl)
 
   text-placed : (d : Dialect) (k : Kind) (b : List ℕ) {t : Typed} → judged d k b ≡ T.good t → isText k ≡ true → {v : Value} → valueAt p t ≡ v → textPlace v ≡ p
   text-placed d k b e w q = sym (ap textPlace q) ∙ typed-placed d k b w (good-typed d k b e)

@@ -74,12 +74,12 @@ absent = (0, replicate 253 0)
 abbrev noServers : List (List ℕ)
 noServers = rows none
 
--- document 01's worked service, which is also the record of the iwd file that it becomes
+-- document 01's worked service, which is also the record of the iwd file that it becomes; by request 2026-02 its passphrase has a tab
 abbrev pub worked : Join
 worked =
     record {
       name = word "Desk 4";
-      credential = passphrase (word "low\\tide 88");
+      credential = passphrase (word "low\tide 88");
       hidden = true;
       ipv4 = static till 24 (some router);
       servers = (10 ∷ 20 ∷ 0 ∷ 2 ∷ []) ∷ (10 ∷ 20 ∷ 0 ∷ 3 ∷ []) ∷ [];

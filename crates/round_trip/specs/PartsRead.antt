@@ -37,13 +37,18 @@ hidden-rows-read false = refl
 hidden-rows-read true = refl
 
 pub secret-rows-read : (c : Secret) → GoodSecret c →
-    secretFrom (andThen (rowValue (word "Passphrase") (secretRows c)) (K.passphrase Iwd)) (andThen (rowValue (word "PreSharedKey") (secretRows c)) HexValues.preSharedKey) ≡ c
+    secretFrom (andThen (rowValue (word "Passphrase") (secretRows c)) K.passphrase)
+    (andThen (rowValue (word "PreSharedKey") (secretRows c)) HexValues.preSharedKey)
+    ≡ c
 secret-rows-read noSecret w = refl
 secret-rows-read (passphrase p) w = rw (string-escape 8 63 p (w .low) (w .high))
 secret-rows-read (key k) w = rw (pre-shared-key-hex k (w .long) (w .bytes))
 
 pub number-rows-read : (i : IPv4) → GoodIpv4 i → hasPlace i ≡ true →
-    staticOrDhcp (andThen (rowValue (word "Address") (numberRows i)) address) (andThen (rowValue (word "Netmask") (numberRows i)) netmask) (andThen (rowValue (word "Gateway") (numberRows i)) address) ≡ i
+    staticOrDhcp (andThen (rowValue (word "Address") (numberRows i)) address)
+    (andThen (rowValue (word "Netmask") (numberRows i)) netmask)
+    (andThen (rowValue (word "Gateway") (numberRows i)) address)
+    ≡ i
 number-rows-read dhcp w p = refl
 number-rows-read off w p = absurd (true≢false (sym p))
 number-rows-read (static a n none) w p = absurd (true≢false (sym p))
@@ -55,7 +60,7 @@ server-rows-read [] w = refl
 server-rows-read (a ∷ l) w = rw (servers-listed a l w)
 
 pub domain-rows-read : (d : List ℕ) → GoodDomain d →
-    orEmpty (andThen (rowValue (word "DomainName") (domainRows d)) (string Iwd 1 253)) ≡ d
+    orEmpty (andThen (rowValue (word "DomainName") (domainRows d)) (string 1 253)) ≡ d
 domain-rows-read [] w = refl
 domain-rows-read (c ∷ d) w = rw (string-escape 1 253 (c ∷ d) (omega arith) (w .high))
 

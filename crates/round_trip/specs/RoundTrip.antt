@@ -56,6 +56,11 @@ module _ (j : Join) (w : WellFormed j) where
       readAs f (iwdEntry (groupsOf j) n k) ≡ andThen (rowValue k (rowsIn n (blocksOf j))) f
   reads n k f = read-rows (groupsOf j) (blocksOf j) (names-apart j) blocks n k f
 
+  -- where the row's value is known
+  reads-row : (n k : List ℕ) {A : Type 0} (f : List ℕ → Option A) {o : Option (List ℕ)} →
+      rowValue k (rowsIn n (blocksOf j)) ≡ o → readAs f (iwdEntry (groupsOf j) n k) ≡ andThen o f
+  reads-row n k f e = reads n k f ∙ ap (λ (o : Option (List ℕ)). andThen o f) e
+
   holds : (n k : List ℕ) → has n k (groupsOf j) ≡ isSome (rowValue k (rowsIn n (blocksOf j)))
   holds n k = has-rows (groupsOf j) (blocksOf j) (names-apart j) blocks n k
 
@@ -63,9 +68,7 @@ module _ (j : Join) (w : WellFormed j) where
   module _ (k : List ℕ) (a : same k (word "DNS") ≡ false) (b : same k (word "DomainName") ≡ false) where
     number-reads : {A : Type 0} (f : List ℕ → Option A) →
         readAs f (iwdEntry (groupsOf j) (word "IPv4") k) ≡ andThen (rowValue k (numberRows (j .ipv4))) f
-    number-reads f =
-        reads (word "IPv4") k f
-        ∙ ap (λ (o : Option (List ℕ)). andThen o f) (number-value (j .ipv4) (j .servers) (j .domain) k a b)
+    number-reads f = reads-row (word "IPv4") k f (number-value (j .ipv4) (j .servers) (j .domain) k a b)
 
     number-holds : has (word "IPv4") k (groupsOf j) ≡ isSome (rowValue k (numberRows (j .ipv4)))
     number-holds = holds (word "IPv4") k ∙ ap isSome (number-value (j .ipv4) (j .servers) (j .domain) k a b)
@@ -74,7 +77,7 @@ module _ (j : Join) (w : WellFormed j) where
   secret-read : iwdSecret (iwdEntry (groupsOf j) (word "Security")) ≡ j .credential
   unfolding keysOf
   secret-read =
-      ap₂ secretFrom (reads (word "Security") (word "Passphrase") (K.passphrase Iwd)) (reads (word "Security") (word "PreSharedKey") HexValues.preSharedKey)
+      ap₂ secretFrom (reads (word "Security") (word "Passphrase") K.passphrase) (reads (word "Security") (word "PreSharedKey") HexValues.preSharedKey)
       ∙ secret-rows-read (j .credential) (w .credential)
 
   hidden-read : orFalse (readAs (flag Iwd) (iwdEntry (groupsOf j) (word "Settings") (word "Hidden"))) ≡ j .hidden
@@ -87,12 +90,12 @@ module _ (j : Join) (w : WellFormed j) where
 
   servers-read : orEmpty (readAs (addresses Spaces) (iwdEntry (groupsOf j) (word "IPv4") (word "DNS"))) ≡ j .servers
   servers-read =
-      ap orEmpty (reads (word "IPv4") (word "DNS") (addresses Spaces) ∙ ap (λ (o : Option (List ℕ)). andThen o (addresses Spaces)) (server-value (j .ipv4) (j .servers) (j .domain)))
+      ap orEmpty (reads-row (word "IPv4") (word "DNS") (addresses Spaces) (server-value (j .ipv4) (j .servers) (j .domain)))
       ∙ server-rows-read (j .servers) (w .servers)
 
-  domain-read : orEmpty (readAs (string Iwd 1 253) (iwdEntry (groupsOf j) (word "IPv4") (word "DomainName"))) ≡ j .domain
+  domain-read : orEmpty (readAs (string 1 253) (iwdEntry (groupsOf j) (word "IPv4") (word "DomainName"))) ≡ j .domain
   domain-read =
-      ap orEmpty (reads (word "IPv4") (word "DomainName") (string Iwd 1 253) ∙ ap (λ (o : Option (List ℕ)). andThen o (string Iwd 1 253)) (domain-value (j .ipv4) (j .servers) (j .domain)))
+      ap orEmpty (reads-row (word "IPv4") (word "DomainName") (string 1 253) (domain-value (j .ipv4) (j .servers) (j .domain)))
       ∙ domain-rows-read (j .domain) (w .domain)
 
   ipv6-read : enabledIpv6 (readAs (flag Iwd) (iwdEntry (groupsOf j) (word "IPv6") (word "Enabled"))) ≡ j .ipv6

@@ -38,7 +38,7 @@ record WritableKey (g : Group) (k : List ℕ) (x : Kind) : Type 0 where
   listed : kindOf g k ≡ some x
 
 row-good : {g : Group} {k : List ℕ} {x : Kind} {v : List ℕ} {t : Typed} → WritableKey g k x → StandsOnLine v →
-    stringBroken Iwd x v ≡ false → typed Iwd x v ≡ some t → GoodRow Iwd g (k, v)
+    stringBroken x v ≡ false → typed Iwd x v ≡ some t → GoodRow Iwd g (k, v)
 row-good {x = x} {v = v} w s b e =
     record {
       kind = x;

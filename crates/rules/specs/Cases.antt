@@ -5,6 +5,7 @@ use Prim.Native.Nat.{ℕ}
 use Prim.Native.String.{String}
 use Rattle.text.specs.Bytes.{isKeyByte, isPlain}
 use Rattle.text.specs.Words.{word}
+use Rattle.text.specs.Worked.{shop, desk}
 use Rattle.text.specs.declared.Dialect.{Dialect}
 use Rattle.text.specs.declared.Dialect.the-variants.{Iwd, ConnMan}
 use Rattle.utf8.specs.Utf8.{follow, utf8From, text}
@@ -37,8 +38,8 @@ Case = Dialect × String × String × Seen
 
 abbrev cases : List Case
 cases =
-    (ConnMan, "shop.config", "[service_till]\nType = wifi\nName = Desk 4\nPassphrase = low\\tide 88\nIPv4 = 10.20.0.14/24/10.20.0.1\nNameservers = 10.20.0.2,10.20.0.3\nHidden = true\nIPv6 = off\n", accepted 7 1)
-    ∷ (Iwd, "Desk 4.psk", "[Settings]\nHidden=true\n[Security]\nPassphrase=low\\\\tide 88\n[IPv4]\nAddress=10.20.0.14\nNetmask=255.255.255.0\nGateway=10.20.0.1\nDNS=10.20.0.2 10.20.0.3\n[IPv6]\nEnabled=false\n", accepted 7 0)
+    (ConnMan, "shop.config", shop, accepted 7 1)
+    ∷ (Iwd, "Desk 4.psk", desk, accepted 7 0)
     ∷ (Iwd, "Desk.open", "", accepted 0 0)
     ∷ (Iwd, "Desk.psk", "", refused 14 0)
     ∷ (Iwd, "Desk.conf", "x", refused 2 0)
@@ -53,6 +54,14 @@ cases =
     ∷ (Iwd, "Desk.open", "[Settings]\nName=true", refused 9 2)
     ∷ (Iwd, "Desk.open", "[Settings]\nHidden=true\nHidden=x", refused 10 3)
     ∷ (Iwd, "Desk.psk", "[Security]\nPassphrase=a\\", refused 11 2)
+    ∷ (ConnMan, "a.config", "[global]\nName=a\\", refused 11 2)
+    ∷ (ConnMan, "a.config", "[global]\nName=\\s\nDescription=\\x", refused 11 3)
+    ∷ (ConnMan, "a.config", "[service_a]\nType=wifi\nName=\\S", refused 11 3)
+    ∷ (ConnMan, "a.config", "[service_a]\nType=wifi\nName=a\nPassphrase=1234567\\", refused 11 4)
+    ∷ (ConnMan, "a.config", "[service_a]\nType=wifi\nName=a\nDomain=a\\ \t", refused 11 4)
+    ∷ (ConnMan, "a.config", "[service_a]\nType=wifi\nName=a\nPassphrase=1234567\\s \t", accepted 3 1)
+    ∷ (ConnMan, "a.config", "[service_a]\nType=wifi\nName=a\nPassphrase=123456\\s", refused 12 4)
+    ∷ (ConnMan, "a.config", "[service_a]\nType=wifi\nName=a\nSearchDomains=a\\b\nTimeservers=a\\", accepted 4 1)
     ∷ (Iwd, "Desk.psk", "[Security]\nPassphrase=1234567", refused 12 2)
     ∷ (Iwd, "Desk.psk", "[Security]\nPassphrase=12345678", accepted 1 0)
     ∷ (Iwd, "Desk.psk", "[Security]\nPassphrase=1234567 ", accepted 1 0)

@@ -26,7 +26,7 @@ pub record GoodValue (d : Dialect) (k : Kind) (v : List ℕ) : Type 0 where
 
 pub good-value : (d : Dialect) (k : Kind) (v : List ℕ) → valueFault (judged d k v) ≡ none → GoodValue d k v
 unfolding judged kindJudged
-good-value d k v = go (valueText v) refl (stringBroken d k v) (typed d k v) refl
+good-value d k v = go (valueText v) refl (stringBroken k v) (typed d k v) refl
   where
     go : (a : Bool) → valueText v ≡ a → (b : Bool) (o : Option Typed) → typed d k v ≡ o →
         valueFault (cond a (cond b brokenText (byKind o)) brokenText) ≡ none → GoodValue d k v
@@ -37,7 +37,7 @@ good-value d k v = go (valueText v) refl (stringBroken d k v) (typed d k v) refl
 
 -- and the other way
 pub value-faultless : (d : Dialect) (k : Kind) (v : List ℕ) {t : Typed} → valueText v ≡ true →
-    stringBroken d k v ≡ false → typed d k v ≡ some t → valueFault (judged d k v) ≡ none
+    stringBroken k v ≡ false → typed d k v ≡ some t → valueFault (judged d k v) ≡ none
 unfolding judged kindJudged
 value-faultless d k v h b e = rw (h, b, e)
 

@@ -94,7 +94,7 @@ pub record AllowedHeader (d : Dialect) (before : List Line) (name : List ℕ) : 
 pub record AllowedSetting (d : Dialect) (before : List Line) (key value : List ℕ) : Type 0 where
   pub place : KeyHere d before key
   pub once : ¬ Some (GivesKey key) (place .here .since)
-  pub text : WholeText d (place .kind) value
+  pub text : WholeText (place .kind) value
   pub typed : Typed
   pub good : ValueIs d (place .kind) value typed
 
@@ -130,7 +130,7 @@ RowApplies d before l R.RepeatedKey =
     SettingThat (λ key value. (x : Here d before) × Some (GivesKey key) (x .since)) l
 -- 11: "value text broken"
 RowApplies d before l R.ValueText =
-    SettingThat (λ key value. (x : KeyHere d before key) × (¬ WholeText d (x .kind) value)) l
+    SettingThat (λ key value. (x : KeyHere d before key) × (¬ WholeText (x .kind) value)) l
 -- 12: "value breaks its kind"
 RowApplies d before l R.ValueKind =
     SettingThat (λ key value. (x : KeyHere d before key) × ((t : Typed) → ¬ ValueIs d (x .kind) value t)) l

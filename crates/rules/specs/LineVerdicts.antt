@@ -94,30 +94,30 @@ module _ (d : Dialect) (g : Section) (gs : List Section) (before : List Line) (s
       new : ¬ ((y : Here d before) × Some (GivesKey k) (y .since))
       new z = since-without k here (z .0) n (z .1)
 
-      whole : WholeText d kind v → ¬ ((x : KeyHere d before k) × (¬ WholeText d (x .kind) v))
-      whole w z = z .1 (subst (λ (a : Kind). WholeText d a v) (kind-unique place (z .0)) w)
+      whole : WholeText kind v → ¬ ((x : KeyHere d before k) × (¬ WholeText (x .kind) v))
+      whole w z = z .1 (subst (λ (a : Kind). WholeText a v) (kind-unique place (z .0)) w)
 
-      value-verdict : (a : Bool) → valueText v ≡ a → (b : Bool) → stringBroken d kind v ≡ b →
+      value-verdict : (a : Bool) → valueText v ≡ a → (b : Bool) → stringBroken kind v ≡ b →
           (o : Option Typed) → typed d kind v ≡ o →
           LineVerdict d before (setting k v) (valueFault (cond a (cond b brokenText (byKind o)) brokenText))
       value-verdict false p b t o e =
-          behind R.ValueText (inr (new, inl ((place, λ w. true≢false (sym (whole-text d kind v w) ∙ p)), refl)))
+          behind R.ValueText (inr (new, inl ((place, λ w. true≢false (sym (whole-text kind v w) ∙ p)), refl)))
       value-verdict true p true t o e =
-          behind R.ValueText (inr (new, inl ((place, λ w. true≢false (sym t ∙ whole-unbroken d kind v w)), refl)))
+          behind R.ValueText (inr (new, inl ((place, λ w. true≢false (sym t ∙ whole-unbroken kind v w)), refl)))
       value-verdict true p false t none e =
           behind R.ValueKind
-          (inr (new, inr (whole (judged-whole d kind v p t), inl ((place, unread), refl))))
+          (inr (new, inr (whole (judged-whole kind v p t), inl ((place, unread), refl))))
         where
           unread : (y : Typed) → ¬ ValueIs d kind v y
           unread y w = Option·none-ne-some y (sym e ∙ value-typed d kind v w)
       value-verdict true p false t (some y) e =
-          record { place = place; once = n; text = judged-whole d kind v p t; typed = y; good = typed-value d kind v e }
+          record { place = place; once = n; text = judged-whole kind v p t; typed = y; good = typed-value d kind v e }
 
     listed-verdict : {b : Bool} → Decides (Some (GivesKey k) (s .1)) b →
         LineVerdict d before (setting k v) (cond b (some R.RepeatedKey) (valueFault (judged d kind v)))
     unfolding judged kindJudged
     listed-verdict (holds h) = behind R.RepeatedKey (inl ((here, h), refl))
-    listed-verdict (fails n) = value-verdict n (valueText v) refl (stringBroken d kind v) refl (typed d kind v) refl
+    listed-verdict (fails n) = value-verdict n (valueText v) refl (stringBroken kind v) refl (typed d kind v) refl
 
   key-verdict : (o : Option Kind) → kindOf (g .group) k ≡ o →
       LineVerdict d before (setting k v) (keyFault d k v o (g .entries))
@@ -155,8 +155,8 @@ setting-no-row d before k v a =
     once : ¬ ((y : Here d before) × Some (GivesKey k) (y .since))
     once z = since-without k (a .place .here) (z .0) (a .once) (z .1)
 
-    text : ¬ ((x : KeyHere d before k) × (¬ WholeText d (x .kind) v))
-    text z = z .1 (subst (λ (b : Kind). WholeText d b v) (kind-unique (a .place) (z .0)) (a .text))
+    text : ¬ ((x : KeyHere d before k) × (¬ WholeText (x .kind) v))
+    text z = z .1 (subst (λ (b : Kind). WholeText b v) (kind-unique (a .place) (z .0)) (a .text))
 
     value : ¬ ((x : KeyHere d before k) × ((t : Typed) → ¬ ValueIs d (x .kind) v t))
     value z = z .1 (a .typed) (subst (λ (b : Kind). ValueIs d b v (a .typed)) (kind-unique (a .place) (z .0)) (a .good))

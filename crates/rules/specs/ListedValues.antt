@@ -51,8 +51,8 @@ valued d Kind.Entries = EntryLists.entries
 valued d Kind.Mac = HexValues.mac
 valued d Kind.PreSharedKey = HexValues.preSharedKey
 valued d Kind.Ssid = HexValues.ssid
-valued d Kind.Passphrase = K.passphrase d
-valued d (Kind.Text low high) = K.string d low high
+valued d Kind.Passphrase = K.passphrase
+valued d (Kind.Text low high) = K.string low high
 
 -- "iwd groups: Settings .. Security .. IPv4 .. IPv6 ..", "ConnMan groups: `global` .. `service_` .."
 abbrev pub groupDialect : Group → Dialect

@@ -1,14 +1,14 @@
 -- Laws of scans: a run goes on byte by byte or block by block to its end, and its end bounds a part, a line or a piece.
-use mathlib.Core.Path.{_≡_, refl, ap, ap₂, _∙_, sym}
+use mathlib.Core.Path.{_≡_, refl, ap, ap₂, _∙_, sym, subst}
 use mathlib.Core.Logic.{_≢_}
-use mathlib.Core.Bool.{Bool, true, false}
+use mathlib.Core.Bool.{Bool, true, false, cond}
 use mathlib.Core.List.{List, [], _∷_}
 use Prim.Native.Nat.{ℕ, suc, _+_, _-_, _≤_, _<_}
 use native.Mathlib.Omega.{arith}
 use borrow.Author.Tests.{eqb-true, eqb-false}
 use lib.Dec.{eqb}
 use lib.ListN.{length, take, drop, getD, length-drop}
-use lib.Seq.{drop-drop}
+use lib.Seq.{drop-cons, drop-drop}
 use Rattle.text.specs.Bytes.{inLine, other}
 use Rattle.text.specs.Parts.{lead, front, after, all, part, lines, pieces}
 use Rattle.text.specs.Laws.{lead-more, lead-stop, lead-end, lead-whole, lead-part, lines-front, pieces-whole, pieces-more}
@@ -36,6 +36,15 @@ module _ {p : ℕ → Bool} {s : List ℕ} {from : ℕ} where
     pub scan-then : {e : ℕ} → Stop p s i e → Stop p s from e
     scan-then t = record { is = t .is ∙ h .rest; within = t .within }
 
+-- the byte behind a run does not pass
+after-fails : (p : ℕ → Bool) (v : List ℕ) {c : ℕ} {r : List ℕ} → after p v ≡ c ∷ r → p c ≡ false
+after-fails p [] e = absurd (omega (arith, ap length e))
+after-fails p (x ∷ v) {c} {r} e = go (p x) refl (λ f. after-fails p v f) e
+  where
+    go : (b : Bool) → p x ≡ b → (after p v ≡ c ∷ r → p c ≡ false) → drop (cond b (suc (lead p v)) 0) (x ∷ v) ≡ c ∷ r → p c ≡ false
+    go true q k f = k f
+    go false q k f = subst (λ (y : ℕ). p y ≡ false) (ap (λ (l : List ℕ). getD l 0 0) f) q
+
 -- ---- a run that has ended: its part, what comes after it, and whether it was all there is
 
 module _ {p : ℕ → Bool} {s : List ℕ} {a e : ℕ} (h : Stop p s a e) where
@@ -50,6 +59,9 @@ module _ {p : ℕ → Bool} {s : List ℕ} {a e : ℕ} (h : Stop p s a e) where
 
   pub stop-after : after p (drop a s) ≡ drop e s
   stop-after = drop-drop (lead p (drop a s)) a s ∙ ap (λ (n : ℕ). drop n s) (sym (h .is))
+
+  pub stop-byte : e < length s → p (getD s e 0) ≡ false
+  stop-byte l = after-fails p (drop a s) (stop-after ∙ drop-cons s e 0 l)
 
   pub stop-all : e ≡ length s → all p (drop a s) ≡ true
   stop-all k = lead-whole p (drop a s) (simp length-drop (omega (arith, stop-lead)))

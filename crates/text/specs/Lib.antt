@@ -6,6 +6,7 @@ pub mod Options
 pub mod Relations
 pub mod Occurrences
 pub mod Pieces
+pub mod Worked
 -- The laws
 pub mod Laws
 pub mod RunLaws

@@ -1,9 +1,10 @@
--- Worked cases: document 01's file of 169 bytes, and records whose file is empty or begins a string with a blank.
+-- Worked cases: document 01's file, of 167 bytes by request 2026-02, and records whose file is empty or begins a string with a blank.
 use mathlib.Core.Path.{_≡_, refl}
 use mathlib.Core.List.{[]}
 use lib.ListN.{length}
 use Rattle.text.specs.Bytes.{isPlain}
 use Rattle.text.specs.Words.{word}
+use Rattle.text.specs.Worked.{desk}
 use Rattle.escapes.specs.Escapes.{escapeFrom}
 use Rattle.addresses.specs.Addresses.{decimal, dotted, maskBytes}
 use Rattle.names.specs.Names.{stem}
@@ -16,11 +17,11 @@ pub worked-name : nameText worked ≡ word "Desk 4.psk"
 unfolding nameText stem isPlain
 worked-name = refl
 
-pub worked-file : fileText worked ≡ word "[Settings]\nHidden=true\n[Security]\nPassphrase=low\\\\tide 88\n[IPv4]\nAddress=10.20.0.14\nNetmask=255.255.255.0\nGateway=10.20.0.1\nDNS=10.20.0.2 10.20.0.3\n[IPv6]\nEnabled=false\n"
+pub worked-file : fileText worked ≡ word desk
 unfolding fileText escapeFrom dotted decimal maskBytes
 worked-file = refl
 
-pub worked-length : length (fileText worked) ≡ 169
+pub worked-length : length (fileText worked) ≡ 167
 unfolding fileText escapeFrom dotted decimal maskBytes
 worked-length = refl
 

@@ -1,4 +1,5 @@
-//! Outside cases: the tables of `tests/cases`, written by hand from document 01 and docs/DECISIONS.md, run over the C boundary.
+//! Outside cases: the tables of `tests/cases`, written by hand from documents 01 and 02 and docs/DECISIONS.md, run over the C
+//! boundary.
 //!
 //! `table` reads every table, and `written` says how bytes are written in one. Each other public module answers the cases of
 //! one table: `leaves`, `files`, `settings`, `records`, `writing` and `moving`. A case's answer is text, which is compared with what the

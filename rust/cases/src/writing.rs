@@ -45,7 +45,7 @@ fn reads_back(record: raw::Record) -> bool {
 
 /// The record that a word names.
 fn odd(word: &[u8]) -> Result<raw::Record, String> {
-    let worked = b"[Settings]\nHidden=true\n[Security]\nPassphrase=low\\\\tide 88\n[IPv4]\nAddress=10.20.0.14\n\
+    let worked = b"[Settings]\nHidden=true\n[Security]\nPassphrase=low\tide 88\n[IPv4]\nAddress=10.20.0.14\n\
         Netmask=255.255.255.0\nGateway=10.20.0.1\nDNS=10.20.0.2 10.20.0.3\n[IPv6]\nEnabled=false\n";
     let mut record = record_of(b"Desk 4.psk", worked)?;
     match word {

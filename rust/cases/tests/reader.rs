@@ -62,7 +62,7 @@ fn a_case_of_another_form_is_an_error() {
         (settings::answer, &["Desk.open", "shop.config one [service_a]", "shop.config -1"]),
         (records::answer, &["Desk.open", "shop.config +1", "shop.config"]),
         (writing::answer, &["Desk.open 9", "Desk.open 9 x", "!new 9 0", "Desk.psk 9 0"]),
-        (moving::answer, &["shop.config 1 10", "shop.config 1 10 x", "shop.config - 10 169"]),
+        (moving::answer, &["shop.config 1 10", "shop.config 1 10 x", "shop.config - 10 167"]),
     ];
     for (answer, rows) in forms {
         for row in rows {

@@ -24,7 +24,7 @@ mod warnings;
 use arguments::{Color, Request, Topic};
 use output::Output;
 // What tells a fault stands in the library's crate; here it goes by the same names.
-use qewaris::{catalogue, diagnosis, hex, layout, secrets, visible};
+use qewaris::{catalogue, diagnosis, escapes, hex, layout, secrets, visible};
 use std::env;
 use std::ffi::OsString;
 use std::io::{self, Write};

@@ -1,6 +1,9 @@
-//! How often each entry point gave each answer, and whether every answer that can occur did; then how large what was written was.
+//! How often each entry point gave each answer, and whether every answer that can occur did; then how large what was written was, and
+//! which escapes were met.
 
+use crate::case::Case;
 use crate::entry::{Entry, ENTRIES};
+use crate::escapes::Escapes;
 use crate::judged::Answers;
 use crate::sizes::Sizes;
 use std::fmt::Write;
@@ -13,12 +16,14 @@ const NUMBERS: usize = 20;
 pub struct Table {
     counts: [[u64; NUMBERS]; ENTRIES.len()],
     sizes: Sizes,
+    escapes: Escapes,
 }
 
 impl Table {
     /// Counts the answers to a case; a number above 19 counts for none.
-    pub fn add(&mut self, answers: &Answers) {
+    pub fn add(&mut self, case: &Case, answers: &Answers) {
         self.sizes.add(answers);
+        self.escapes.add(case, answers);
         for (entry, outcome) in answers {
             if let Some(count) = self.counts[*entry as usize].get_mut(usize::from(outcome.answer.number())) {
                 *count += 1;
@@ -29,6 +34,7 @@ impl Table {
     /// Adds another table's counts.
     pub fn merge(&mut self, other: &Table) {
         self.sizes.merge(&other.sizes);
+        self.escapes.merge(&other.escapes);
         let pairs = self.counts.iter_mut().flatten().zip(other.counts.iter().flatten());
         pairs.for_each(|(count, more)| *count += more);
     }
@@ -55,16 +61,17 @@ impl Table {
                 let _ = write!(text, "{cell:>8}");
             }
         }
-        format!("{text}\n\n{}", self.sizes.print())
+        [text, self.sizes.print(), self.escapes.print()].join("\n\n")
     }
 
-    /// The answers that can occur and did not, those that cannot and did, and the faults of the sizes.
+    /// The answers that can occur and did not, those that cannot and did, and the faults of the sizes and of the escapes.
     pub fn faults(&self) -> Vec<String> {
         let cells = ENTRIES.iter().flat_map(|&entry| (0..NUMBERS).map(move |number| (entry, number)));
         let wrong = cells.filter(|&(entry, number)| entry.can_answer(number) != (self.count(entry, number) > 0));
         wrong
             .map(|(entry, number)| format!("{} answered {number} {} times", entry.name(), self.count(entry, number)))
             .chain(self.sizes.faults())
+            .chain(self.escapes.faults())
             .collect()
     }
 }

@@ -1,24 +1,29 @@
-//! The outside judge of Qewaris: document 01 read a second time, and compared with the library over the C boundary.
+//! The outside judge of Qewaris: document 01, and what document 02 changed of it, read a second time, and compared with the library over
+//! the C boundary.
 //!
 //! `reference` is the second reading, `generate` makes cases, `compare` puts a case to both and looks for any difference, and
 //! `shrink` makes a differing case small. `one` is for fuzzers.
 //!
-//! `cargo test -p judge --test million` runs a million cases and prints how often each entry point gave each answer; the other tests
-//! try the judge itself: `papers` and `open_points` on the paper's own examples, `reach` what the generators reach, `shrinking` and
-//! `encodings` what their names say.
+//! `cargo test -p judge --test million` runs a million cases and prints how often each entry point gave each answer, and what else the
+//! cases met; the other tests try the judge itself: `papers`, `open_points` and `backslashes` on the papers' own examples, `reach` what
+//! the generators reach, `shrinking` and `encodings` what their names say.
 
 #![deny(unsafe_code)]
 
 pub mod answer;
+pub mod blamed;
 pub mod case;
 pub mod compare;
 pub mod coverage;
 pub mod encoding;
 pub mod entry;
+pub mod escapes;
 pub mod generate;
 pub mod judged;
 pub mod layout;
 pub mod library;
+pub mod met;
+pub mod own;
 pub mod properties;
 pub mod random;
 pub mod reference;

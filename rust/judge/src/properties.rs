@@ -1,8 +1,8 @@
-//! The promises of document 01 and of request 2026-01 put to the library's own answers, without the reference's.
+//! The promises of document 01 and of requests 2026-01 and 2026-02 put to the library's own answers, without the reference's.
 //!
 //! A well-formed record with a place, written with room, reads back as the same record; the files of a move are accepted and have
 //! the service's record; a service that needs a key never becomes one that needs none. Buffers for the largest name and file, and
-//! longer ones, are never too short.
+//! longer ones, are never too short. A string of a ConnMan file stands for the same bytes in an iwd file.
 
 use crate::answer::Answer;
 use crate::case::{Buffers, Case, FileCase};
@@ -10,6 +10,7 @@ use crate::compare::Difference;
 use crate::entry::Entry;
 use crate::judged::Answers;
 use crate::library::{write_iwd, Input};
+use crate::own;
 use crate::reference::writer::{FILE_MAX, NAME_MAX};
 use crate::reference::Fault;
 use qewaris::raw;
@@ -24,10 +25,11 @@ pub fn broken_promises(case: &Case, answers: &Answers) -> Vec<Difference> {
     let of_case = match case {
         Case::Record(case) => vec![record_reads_back(&case.record, &room)],
         Case::File(case) => {
-            let own = own_record(answers, Entry::IwdRecord);
+            let own = own::record(answers, Entry::IwdRecord);
             vec![
                 own.and_then(|record| iwd_record_is_written(&record, &room)),
                 service_is_moved(case, answers, &room),
+                strings_read_alike(case, answers),
             ]
         }
     };
@@ -44,14 +46,6 @@ fn broken(promise: &str, number: u8, members: Vec<(&str, String, String)>) -> Op
         place: promise.to_string(),
         numbers: (0, number),
         members,
-    })
-}
-
-/// The record that an entry point gave, none where it refused.
-fn own_record(answers: &Answers, asked: Entry) -> Option<raw::Record> {
-    answers.iter().find_map(|(entry, outcome)| match &outcome.answer {
-        Answer::Record(answer) if *entry == asked && answer.number == 0 => Some(answer.record),
-        _ => None,
     })
 }
 
@@ -117,7 +111,7 @@ fn service_is_moved(case: &FileCase, answers: &Answers, room: &Buffers) -> Optio
     if moved.number != 0 {
         return room_is_enough(moved.number);
     }
-    let record = own_record(answers, Entry::ServiceRecord)?;
+    let record = own::record(answers, Entry::ServiceRecord)?;
     move_keeps_record(&record, &name, &file).or_else(|| move_is_what_is_written(&record, &name, &file, room))
 }
 
@@ -153,4 +147,32 @@ fn move_is_what_is_written(record: &raw::Record, name: &[u8], file: &[u8], room:
         written.number,
         members,
     )
+}
+
+/// The strings of a ConnMan file, each with the bytes that the record has of it, which are none where it has none.
+fn connman_strings(answers: &Answers) -> Vec<(Entry, Vec<u8>)> {
+    let unrecorded = [Entry::GlobalName, Entry::GlobalDescription].map(|entry| (entry, Vec::new()));
+    let of_service = own::SERVICE_STRINGS
+        .into_iter()
+        .zip(own::service_strings(answers).unwrap_or_default());
+    unrecorded.into_iter().chain(of_service).collect()
+}
+
+/// "Strings know `\s`, `\t`, `\r`, `\n` and `\\`" in ConnMan as in iwd, and a lookup hands a string back still escaped: put as it stands
+/// behind iwd's DomainName, whose bounds are the widest, it is accepted and stands for the same bytes.
+fn strings_read_alike(case: &FileCase, answers: &Answers) -> Option<Difference> {
+    connman_strings(answers).into_iter().find_map(|(entry, bytes)| {
+        let value = match own::answer(answers, entry)? {
+            Answer::Text(text) if text.length > 0 => case.file.get(text.start..)?.get(..text.length)?,
+            _ => return None,
+        };
+        let file = [b"[IPv4]\nDomainName=", value, b"\n"].concat();
+        let read = Input::new(b"a.open", &file, false).iwd_record();
+        let domain = &read.record.domain[..read.record.domain_len.into()];
+        if read.number == 0 && (bytes.is_empty() || domain == bytes) {
+            return None;
+        }
+        let members = vec![(entry.name(), shown(domain), shown(&bytes))];
+        broken("a string of a ConnMan file reads alike in an iwd file", read.number, members)
+    })
 }

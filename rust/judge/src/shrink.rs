@@ -123,6 +123,21 @@ impl Shrinker<'_> {
         self.attempt_record(&bytes)
     }
 
+    /// Leaves the credential out, with room in the name's buffer for `.open`, which is longer than `.psk`.
+    fn attempt_open(&mut self) {
+        let mut bytes = self.record();
+        let [credential, ..] = RECORD_PARTS;
+        if bytes[credential.start] != 0 {
+            bytes[credential].fill(0);
+            self.attempt_with(|case| {
+                if let Case::Record(case) = case {
+                    case.record = record_of_bytes(&bytes);
+                    case.buffers.name += 1;
+                }
+            });
+        }
+    }
+
     /// Shortens the record's name, which makes room in the buffers, zeroes its parts, then its bytes, and makes what is left simple.
     fn pass_record(&mut self) {
         let mut bytes = self.record();
@@ -132,6 +147,7 @@ impl Shrinker<'_> {
         for part in RECORD_PARTS {
             self.attempt_zeros(part);
         }
+        self.attempt_open();
         for place in 0..bytes.len() {
             self.attempt_zeros(place..place + 1);
         }

@@ -3,10 +3,11 @@
 use judge::answer::Answer;
 use judge::case::{Buffers, Case, FileCase};
 use judge::encoding::{decode, encode, record_bytes, record_of_bytes, LONGEST_BUFFER};
+use judge::entry::Entry;
 use judge::layout::{lay_record, lift_record};
 use judge::random::Random;
 use judge::reference::writer::{FILE_MAX, NAME_MAX};
-use judge::{generate, judged, one};
+use judge::{generate, judged, one, own};
 use std::fs;
 
 /// Where the fuzzer's seeds are.
@@ -28,11 +29,11 @@ fn seed_files_can_be_written_by_hand() {
     let buffers = |name, file, dirt| Buffers { name, file, dirt };
     let rows: [Row; 6] = [
         (
-            b"file 2 10 169 7\nshop.config\n[global]\n",
+            b"file 2 10 167 7\nshop.config\n[global]\n",
             b"shop.config",
             b"[global]\n",
             2,
-            buffers(10, 169, 7),
+            buffers(10, 167, 7),
         ),
         (b"file\nDesk.open\n", b"Desk.open", b"", 1, buffers(NAME_MAX, FILE_MAX, 0)),
         (
@@ -94,7 +95,7 @@ fn a_lifted_record_is_laid_out_as_it_was() {
 #[test]
 fn the_library_agrees_at_seeds_and_at_any_bytes() {
     one(b"");
-    one(b"file 1 10 169 1\nshop.config\n[service_till]\nType = wifi\nName = Desk 4\n");
+    one(b"file 1 10 167 1\nshop.config\n[service_till]\nType = wifi\nName = Desk 4\n");
     one(b"record 70 858 0\n\x01a");
     let mut random = Random::new(9);
     for _ in 0..500 {
@@ -109,16 +110,77 @@ fn the_library_agrees_at_every_seed_of_the_fuzzer() {
     assert!(seeds.map(|path| one(&fs::read(path).expect("bytes"))).count() > 0);
 }
 
+/// The case of a seed of the fuzzer.
+fn seed(name: &str) -> Case {
+    decode(&fs::read(format!("{SEEDS}/{name}")).expect("a seed"))
+}
+
+/// The name and the file that the case of a seed has written.
+fn written_of(name: &str) -> (Vec<u8>, Vec<u8>) {
+    match judged::answers(&seed(name))
+        .pop()
+        .expect("the writer or the move comes last")
+        .1
+        .answer
+    {
+        Answer::Written { written, name, file } => (name[..written.name_len].to_vec(), file[..written.file_len].to_vec()),
+        _ => panic!("nothing is written"),
+    }
+}
+
 #[test]
 fn seeds_reach_the_largest_file_and_the_largest_name() {
     let lengths = |seed: &str| {
-        let case = decode(&fs::read(format!("{SEEDS}/{seed}")).expect("a seed"));
-        match judged::answers(&case).pop().expect("the writer or the move comes last").1.answer {
-            Answer::Written { written, .. } => (written.name_len, written.file_len),
-            _ => panic!("nothing is written"),
-        }
+        let (name, file) = written_of(seed);
+        (name.len(), file.len())
     };
     assert_eq!(lengths("record-largest-file"), (NAME_MAX - 1, FILE_MAX));
     assert_eq!(lengths("connman-largest-file"), (NAME_MAX - 1, FILE_MAX));
     assert_eq!(lengths("record-largest-name").0, NAME_MAX);
+}
+
+#[test]
+fn seeds_of_the_worked_move_are_one_another() {
+    let Case::File(desk) = seed("iwd-worked") else { panic!("a file") };
+    let expected = (desk.name, desk.file);
+    assert_eq!(written_of("connman-worked"), expected);
+    assert_eq!(written_of("record-worked"), expected);
+}
+
+#[test]
+fn seeds_have_the_answers_that_their_names_say() {
+    let rows = [
+        ("connman-every-key", Entry::CheckConnman, (0, 0)),
+        ("connman-every-escape", Entry::MoveService, (0, 0)),
+        ("connman-blanks-kept", Entry::MoveService, (0, 0)),
+        ("connman-bad-escape", Entry::CheckConnman, (11, 4)),
+        ("connman-lists-with-backslashes", Entry::CheckConnman, (0, 0)),
+        ("connman-short-passphrase", Entry::CheckConnman, (12, 4)),
+        ("iwd-empty", Entry::CheckIwd, (0, 0)),
+        ("iwd-every-key", Entry::CheckIwd, (0, 0)),
+        ("buffers-one-short", Entry::MoveService, (17, 0)),
+    ];
+    for (name, entry, expected) in rows {
+        let answers = judged::answers(&seed(name));
+        let answer = match own::answer(&answers, entry) {
+            Some(Answer::Reading(reading)) => (reading.number, reading.line),
+            Some(Answer::Written { written, .. }) => (written.number, written.line),
+            _ => panic!("{name} is put to a check or to the move"),
+        };
+        assert_eq!(answer, expected, "{name}");
+    }
+}
+
+#[test]
+fn a_seed_has_every_escape_in_every_string() {
+    let case = seed("connman-every-escape");
+    let answers = judged::answers(&case);
+    let Case::File(case) = case else { panic!("a file") };
+    let file = String::from_utf8(case.file).expect("plain bytes");
+    let strings = answers.iter().filter_map(|(_, outcome)| match &outcome.answer {
+        Answer::Text(text) if text.number == 0 => Some(&file[text.start..][..text.length]),
+        _ => None,
+    });
+    let has_all = |value: &&str| ["\\s", "\\t", "\\r", "\\n", "\\\\"].iter().all(|escape| value.contains(escape));
+    assert_eq!(strings.filter(has_all).count(), 5);
 }

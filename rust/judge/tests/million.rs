@@ -1,8 +1,9 @@
 //! A million cases, each put to every entry point that applies to it, against the reference.
 //!
 //! The cases depend on the seed alone, not on the threads. `QEWARIS_SEED` and `QEWARIS_CASES` choose another run, `QEWARIS_FIRST`
-//! the number of its first case. Prints how often each entry point gave each answer and wrote the largest name and file, and fails
-//! where the library differs from the paper, an answer that can occur did not, or a largest length was not met or was passed.
+//! the number of its first case. Prints how often each entry point gave each answer and wrote the largest name and file, and how often
+//! each string met each escape; fails where the library differs from the paper, an answer that can occur did not, a largest length
+//! was not met or was passed, or an escape was not met.
 
 use judge::case::Case;
 use judge::compare::{try_case, Difference};
@@ -48,7 +49,7 @@ fn main() {
     assert!(findings.count == 0, "{} cases differ", findings.count);
     assert!(
         cases < CASES || missing.is_empty(),
-        "the cases do not meet the answers and the largest lengths that can occur"
+        "the cases do not meet the answers, the largest lengths and the escapes that can occur"
     );
 }
 
@@ -81,7 +82,7 @@ fn work(seed: u64, next: &AtomicU64, end: u64) -> Findings {
         for index in batch..end.min(batch + BATCH) {
             let case = generate::case(seed, index);
             let trial = try_case(&case);
-            findings.table.add(&trial.answers);
+            findings.table.add(&case, &trial.answers);
             if !trial.differences.is_empty() {
                 findings.count += 1;
                 if is_new_sort(&findings.differing, &trial.differences) {

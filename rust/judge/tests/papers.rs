@@ -1,5 +1,5 @@
-//! The reference on document 01's own examples: the twelve cases of the one table, the worked move, and what 01 leaves to tests; and
-//! on the two largest records of request 2026-01.
+//! The reference on document 01's own examples: the twelve cases of the one table, the worked move as request 2026-02 has it, and what
+//! 01 leaves to tests; and on the two largest records of request 2026-01.
 
 use judge::reference::file_name::{write_iwd, Suffix};
 use judge::reference::kind::{Ipv4, Kind};
@@ -94,30 +94,39 @@ fn cases_11_and_12_passphrases_of_seven_and_eight_bytes() {
 const SHOP: &[u8] = b"[service_till]\nType = wifi\nName = Desk 4\nPassphrase = low\\tide 88\nIPv4 = 10.20.0.14/24/10.20.0.1\n\
     Nameservers = 10.20.0.2,10.20.0.3\nHidden = true\nIPv6 = off\n";
 
-const DESK: &[u8] = b"[Settings]\nHidden=true\n[Security]\nPassphrase=low\\\\tide 88\n[IPv4]\nAddress=10.20.0.14\nNetmask=255.255.255.0\n\
+const DESK: &[u8] = b"[Settings]\nHidden=true\n[Security]\nPassphrase=low\tide 88\n[IPv4]\nAddress=10.20.0.14\nNetmask=255.255.255.0\n\
     Gateway=10.20.0.1\nDNS=10.20.0.2 10.20.0.3\n[IPv6]\nEnabled=false\n";
 
+/// The lengths of what the worked move writes.
+const DESK_ROOM: Room = Room { name: 10, file: 167 };
+
+/// "In 01's worked move the passphrase now holds a tab, is 10 bytes long and is written with that tab raw" (request 2026-02).
 #[test]
 fn the_worked_move() {
     let reading = connman::read(b"shop.config", SHOP);
     assert_eq!(reading.as_ref().map(|file| file.counts.settings), Ok(7));
-    let written = moving::move_service(&reading, 1, Room { name: 10, file: 169 }).expect("moved");
+    let written = moving::move_service(&reading, 1, DESK_ROOM).expect("moved");
     assert_eq!(
         (&written.name[..], &written.file[..], written.file.len()),
-        (&b"Desk 4.psk"[..], DESK, 169)
+        (&b"Desk 4.psk"[..], DESK, DESK_ROOM.file)
     );
-    for room in [Room { name: 9, file: 169 }, Room { name: 10, file: 168 }, Room { name: 0, file: 0 }] {
+    for room in [
+        Room { name: 9, ..DESK_ROOM },
+        Room { file: 166, ..DESK_ROOM },
+        Room { name: 0, file: 0 },
+    ] {
         assert_eq!(answer(moving::move_service(&reading, 1, room)), (17, 0));
     }
     let record = reading.expect("accepted").services[0].record().expect("a record");
     assert_eq!(record, desk());
+    assert!(matches!(&record.credential, Credential::Passphrase(passphrase) if passphrase.len() == 10));
     assert_eq!(iwd::read(b"Desk 4.psk", DESK).expect("accepted").record(), record);
 }
 
 fn desk() -> Record {
     Record {
         ssid: b"Desk 4".to_vec(),
-        credential: Credential::Passphrase(b"low\\tide 88".to_vec()),
+        credential: Credential::Passphrase(b"low\tide 88".to_vec()),
         hidden: true,
         ipv4: Ipv4::Static {
             address: [10, 20, 0, 14],

@@ -1,11 +1,14 @@
-//! What the generators reach, by the reference alone: every answer that can occur, and every key in every way.
+//! What the generators reach, by the reference alone: every answer that can occur, every escape, and every key in every way.
 
+use judge::blamed::blamed;
 use judge::case::Case;
 use judge::coverage::Table;
 use judge::generate;
 use judge::judged;
+use judge::reference::dialect::{kind_of, GroupKind};
 use judge::reference::groups::groups;
-use judge::reference::lines::{header, lines, shape, Shape};
+use judge::reference::kind::Kind;
+use judge::reference::text::unescape;
 use judge::reference::writer::{FILE_MAX, NAME_MAX};
 use judge::reference::Dialect;
 use std::collections::BTreeMap;
@@ -14,9 +17,12 @@ const SEED: u64 = 11;
 const CASES: u64 = 150_000;
 
 #[test]
-fn every_answer_that_can_occur_does() {
+fn every_answer_and_every_escape_that_can_occur_does() {
     let mut table = Table::default();
-    (0..CASES).for_each(|index| table.add(&judged::answers(&generate::case(SEED, index))));
+    for index in 0..CASES {
+        let case = generate::case(SEED, index);
+        table.add(&case, &judged::answers(&case));
+    }
     println!("{}", table.print());
     assert_eq!(table.faults(), Vec::<String>::new());
 }
@@ -108,8 +114,8 @@ fn note_keys(dialect: Dialect, file: &[u8], keys: &mut Keys) {
                 .for_each(|setting| reached(keys, &group.name, &setting.key).accepted += 1);
         }),
         Err(refusal) if (10..=12).contains(&refusal.number()) => {
-            let (group, key) = blamed(dialect, file, refusal.line);
-            let reached = reached(keys, &group, &key);
+            let setting = blamed(dialect, file, refusal.line).expect("a setting is to blame");
+            let reached = reached(keys, &setting.group, &setting.key);
             match refusal.number() {
                 10 => reached.repeated += 1,
                 11 => reached.text += 1,
@@ -120,15 +126,62 @@ fn note_keys(dialect: Dialect, file: &[u8], keys: &mut Keys) {
     }
 }
 
-/// The group and the key of the setting on a line.
-fn blamed(dialect: Dialect, file: &[u8], number: usize) -> (String, String) {
-    let mut group = String::new();
-    for line in lines(file).into_iter().take(number) {
-        match shape(dialect, &line) {
-            Shape::Bracketed(text) => group = header(text).unwrap_or_default().to_string(),
-            Shape::Setting { key, .. } if line.number == number => return (group, String::from_utf8_lossy(key).into_owned()),
-            _ => {}
+/// How often a string stood for the most bytes in a value that is longer, for a byte too many, and for a byte too few in a value that
+/// is not too short.
+#[derive(Default, Debug)]
+struct Lengths {
+    most: u64,
+    long: u64,
+    short: u64,
+}
+
+#[test]
+fn strings_are_met_where_only_unescaping_tells_their_length() {
+    let mut strings: BTreeMap<(String, String), Lengths> = BTreeMap::new();
+    for index in 0..CASES {
+        if let Case::File(case) = generate::case(SEED, index) {
+            let values = [Dialect::Iwd, Dialect::Connman].map(|dialect| judged_values(dialect, &case.file));
+            for (group, key, value) in values.concat() {
+                if let Some(Kind::Text { min, max }) = kind_of(group, &key) {
+                    let lengths = strings.entry((format!("{group:?}"), key)).or_default();
+                    note_length(lengths, value, min, max);
+                }
+            }
         }
     }
-    panic!("line {number} is no setting")
+    strings.iter().for_each(|(string, lengths)| println!("{string:?}: {lengths:?}"));
+    assert_eq!(strings.len(), 2 + 2 + 3);
+    for ((group, key), lengths) in strings {
+        let short = if key == "Passphrase" { lengths.short } else { u64::MAX };
+        let least = lengths.most.min(lengths.long).min(short);
+        assert!(least >= 15, "{group} {key} is met too seldom: {lengths:?}");
+    }
+}
+
+/// The values of an accepted file, or the one that is refused with 12; each with its group and key.
+fn judged_values(dialect: Dialect, file: &[u8]) -> Vec<(GroupKind, String, &[u8])> {
+    let value = |start: usize, length: usize| &file[start..start + length];
+    match groups(dialect, file) {
+        Ok(groups) => {
+            let settings = groups
+                .iter()
+                .flat_map(|group| group.settings.iter().map(|setting| (group.kind, setting)));
+            settings
+                .map(|(group, setting)| (group, setting.key.clone(), value(setting.start, setting.length)))
+                .collect()
+        }
+        Err(refusal) if refusal.number() == 12 => {
+            let setting = blamed(dialect, file, refusal.line).expect("a setting is to blame");
+            let group = dialect.group(&setting.group).expect("a group that is known");
+            vec![(group, setting.key, value(setting.start, setting.length))]
+        }
+        Err(_) => Vec::new(),
+    }
+}
+
+fn note_length(lengths: &mut Lengths, value: &[u8], min: usize, max: usize) {
+    let bytes = unescape(value).expect("no bad escape").len();
+    lengths.most += u64::from(bytes == max && value.len() > max);
+    lengths.long += u64::from(bytes == max + 1);
+    lengths.short += u64::from(bytes + 1 == min && value.len() >= min);
 }

@@ -21,6 +21,7 @@ pub struct Section<'a> {
     pub settings: Vec<Setting<'a>>,
 }
 
+/// A setting with its value as it stands: a string is still escaped.
 pub struct Setting<'a> {
     pub key: &'a [u8],
     pub value: &'a [u8],

@@ -25,6 +25,7 @@
 
 pub mod catalogue;
 pub mod diagnosis;
+pub mod escapes;
 mod files;
 pub mod hex;
 pub mod layout;

@@ -75,7 +75,7 @@ table! {
     TextEncoding, 11, "{key} has bytes that are not UTF-8; only UTF-8 is allowed";
     TextZero, 11, "{key} has byte 0 in it; a value has no such byte";
     TextReturn, 11, "{key} has byte 13 in it, as Windows ends lines; a line ends with byte 10 alone";
-    TextEscape, 11, "{key} has a \\ that begins no escape; the escapes are \\s, \\t, \\r, \\n and \\\\";
+    TextEscape, 11, "{key} has a \\ that begins no escape; write \\\\ for a backslash, or one of \\s, \\t, \\r and \\n";
 
     AnyKind, 12, "The value is not of its key's kind; each key takes one kind of value";
     TrailingBlank, 12, "{key} has a blank behind its value; the line must end with the value";

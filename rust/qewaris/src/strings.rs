@@ -1,19 +1,37 @@
-//! String lookups: the value of a string setting as the part of the file where it stands, still escaped.
+//! String lookups: the value of a string setting as the part of the file where it stands, in both formats still escaped, and the bytes
+//! that it means.
 
+use crate::escapes;
 use crate::raw;
 use crate::refusal::{answered, Refusal};
 use crate::Hidden;
+use std::borrow::Cow;
 use std::fmt;
 
 /// The value of a string setting. `Debug` does not show it, since it may be a passphrase.
+///
+/// ```
+/// let file = b"[service_till]\nType = wifi\nName = Desk\\s4\nPassphrase = low tide 88\n";
+/// let name = qewaris::service_name(b"shop.config", file, 1)?.expect("it is there");
+/// assert_eq!((name.line, name.bytes), (3, &b"Desk\\s4"[..]));
+/// assert_eq!(*name.unescaped(), *b"Desk 4");
+/// # Ok::<(), qewaris::Refusal>(())
+/// ```
 #[derive(Clone, Copy, PartialEq, Eq)]
 pub struct Text<'a> {
     /// The line of the setting, counted from 1.
     pub line: usize,
     /// Where the value starts in the file.
     pub start: usize,
-    /// The value as it stands in the file: an iwd string still has its escapes.
+    /// The value as it stands in the file, still escaped.
     pub bytes: &'a [u8],
+}
+
+impl<'a> Text<'a> {
+    /// The bytes that the value means: those of the join record, where it has this string. Borrowed where the value has no escape.
+    pub fn unescaped(&self) -> Cow<'a, [u8]> {
+        escapes::unescaped(self.bytes)
+    }
 }
 
 impl fmt::Debug for Text<'_> {

@@ -1,4 +1,9 @@
 //! Bytes as text that harms no terminal: what is not plainly printable is escaped, what is hidden is a dot for each byte.
+//!
+//! A part of a file is shown as it stands. The bytes that a string means are shown as a file could have them, with its own escapes, so
+//! that no two strings look alike and no blank at an end is overlooked.
+
+use crate::escapes::escape_of;
 
 /// A stretch of shown text: where its bytes start, how it is shown, and how many columns that takes.
 pub struct Piece {
@@ -19,7 +24,32 @@ pub fn columns(text: &str) -> usize {
 
 /// Bytes as text in double quotes.
 pub fn quoted(bytes: &[u8]) -> String {
-    format!("\"{}\"", visible(bytes).replace('"', "\\\""))
+    in_quotes(&visible(bytes))
+}
+
+/// The bytes that a string means, as a file could have them. Those whose place in `hidden` is true show as dots.
+///
+/// ```
+/// assert_eq!(qewaris::visible::string(b"low\tide 88 ", &[]), "low\\tide 88\\s");
+/// assert_eq!(qewaris::visible::string(b"low\\tide 88", &[]), "low\\\\tide 88");
+/// ```
+pub fn string(bytes: &[u8], hidden: &[bool]) -> String {
+    let within = 1..bytes.len().saturating_sub(1);
+    let shown = |piece: Piece| {
+        let (start, byte) = (piece.start, bytes[piece.start]);
+        let stands = hidden.get(start) == Some(&true) || (byte == b' ' && within.contains(&start));
+        escape_of(byte).filter(|_| !stands).unwrap_or(piece.text)
+    };
+    pieces(bytes, hidden).into_iter().map(shown).collect()
+}
+
+/// The bytes that a string means, as a file could have them, in double quotes.
+pub fn quoted_string(bytes: &[u8]) -> String {
+    in_quotes(&string(bytes, &[]))
+}
+
+fn in_quotes(text: &str) -> String {
+    format!("\"{}\"", text.replace('"', "\\\""))
 }
 
 /// The pieces of a line. The bytes whose place in `hidden` is true show as dots.
@@ -132,6 +162,24 @@ mod tests {
         assert_eq!(visible(b"Caf\xc3\xa9\xff"), "Caf\u{e9}\\xff");
         assert_eq!(visible("a\u{202e}b\u{9b}c\u{feff}".as_bytes()), "a\\u{202e}b\\u{9b}c\\u{feff}");
         assert_eq!(visible("\u{30d0}\u{301}".as_bytes()), "\u{30d0}\\u{301}");
+    }
+
+    #[test]
+    fn a_string_is_shown_as_a_file_could_have_it() {
+        for (bytes, shown) in [
+            (&b"Desk 4"[..], "Desk 4"),
+            (b" Desk 4 ", "\\sDesk 4\\s"),
+            (b" ", "\\s"),
+            (b"  ", "\\s\\s"),
+            (b"", ""),
+            (b"a\tb\nc\rd", "a\\tb\\nc\\rd"),
+            (b"a\\tb\x1b", "a\\\\tb\\x1b"),
+            (b"a\\x1b\xff", "a\\\\x1b\\xff"),
+        ] {
+            assert_eq!(string(bytes, &[]), shown);
+        }
+        assert_eq!(string(b"a\t b ", &[false, true, true, true, true]), "a....");
+        assert_eq!(quoted_string(b"\"a\\ "), "\"\\\"a\\\\\\s\"");
     }
 
     #[test]

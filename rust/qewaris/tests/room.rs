@@ -22,13 +22,17 @@ fn with_largest_name() -> Network {
     }
 }
 
-/// A network of the same name with everything that has a line: addresses of 15 characters, four name servers, and a passphrase and
-/// a domain of as many backslashes as they may have, each of which is written as two.
+/// A network of the same name with everything that has a line: addresses of 15 characters, four name servers, and a passphrase of as
+/// many backslashes and a domain of as many bytes 10 as they may have, each of which is escaped and so two bytes in both files.
 fn with_largest_file() -> Network {
     let open = with_largest_name();
     let all = Ipv4Addr::BROADCAST;
-    let (passphrase, domain) = ("\\".repeat(63), "\\".repeat(253));
-    let lines = format!("Passphrase = {passphrase}\nIPv4 = {all}/32/{all}\nNameservers = {all},{all},{all},{all}\nDomain = {domain}\n");
+    let (passphrase, domain) = ("\\".repeat(63), "\n".repeat(253));
+    let lines = format!(
+        "Passphrase = {}\nDomain = {}\nIPv4 = {all}/32/{all}\nNameservers = {all},{all},{all},{all}\n",
+        "\\\\".repeat(passphrase.len()),
+        "\\n".repeat(domain.len())
+    );
     Network {
         service: open.service + &lines + "Hidden = true\nIPv6 = off\n",
         record: JoinRecord {

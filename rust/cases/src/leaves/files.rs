@@ -20,6 +20,8 @@ pub const NETMASK: Place = iwd("Desk.open", "[IPv4]\nNetmask=", "Address=10.0.0.
 pub const DNS: Place = iwd("Desk.open", "[IPv4]\nDNS=", "");
 pub const DOMAIN_NAME: Place = iwd("Desk.open", "[IPv4]\nDomainName=", "");
 
+pub const GLOBAL_NAME: Place = service("[global]\nName=", "[service_a]\nType=wifi\nName=n\n");
+pub const DESCRIPTION: Place = service("[global]\nDescription=", "[service_a]\nType=wifi\nName=n\n");
 pub const TYPE: Place = service("[service_a]\nType=", "Name=n\n");
 pub const TYPE_ALONE: Place = service("[service_a]\nType=", "");
 pub const SERVICE_IPV4: Place = service("[service_a]\nIPv4=", "Type=ethernet\n");
@@ -29,6 +31,7 @@ pub const PRIVACY: Place = service("[service_a]\nIPv6.Privacy=", "Type=ethernet\
 pub const MAC: Place = service("[service_a]\nMAC=", "Type=ethernet\n");
 pub const NAMESERVERS: Place = service("[service_a]\nNameservers=", "Type=ethernet\n");
 pub const SEARCH_DOMAINS: Place = service("[service_a]\nSearchDomains=", "Type=ethernet\n");
+pub const TIMESERVERS: Place = service("[service_a]\nTimeservers=", "Type=ethernet\n");
 pub const DOMAIN: Place = service("[service_a]\nDomain=", "Type=wifi\nName=n\n");
 pub const NAME: Place = service("[service_a]\nName=", "Type=wifi\n");
 pub const SSID: Place = service("[service_a]\nSSID=", "Type=wifi\n");
@@ -83,6 +86,13 @@ impl Place {
         };
         Told(found.number, found.line).or(found.record)
     }
+}
+
+/// The answer at several places: one where they answer alike, else that of each.
+pub fn alike(places: &[Place], answer: impl Fn(Place) -> Vec<u8>) -> Vec<u8> {
+    let mut answers: Vec<Vec<u8>> = places.iter().map(|place| answer(*place)).collect();
+    answers.dedup();
+    answers.join(&b' ')
 }
 
 /// The number and the line of an answer.

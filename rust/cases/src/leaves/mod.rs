@@ -1,4 +1,5 @@
-//! Cases of the leaves: texts, words, numbers, lists, hex, lines and file names, each tried through a whole file or a written record.
+//! Cases of the leaves: texts, strings, words, numbers, lists, hex, lines and file names, each tried through a whole file or a
+//! written record.
 //!
 //! A case is a kind, a blank and an input. The input stands as a value of a file that is otherwise good, or in a record that is
 //! otherwise good, and the answer is what the library then says of that value: what it was read or written as, or that it is
@@ -11,6 +12,7 @@ mod lines;
 mod lists;
 mod names;
 mod numbers;
+mod strings;
 mod texts;
 mod words;
 
@@ -27,8 +29,8 @@ pub fn answer(case: &[u8]) -> Result<Vec<u8>, String> {
     if let Some(leaf) = leaf(&kind) {
         return Ok(leaf(&input));
     }
-    match kind.strip_prefix("judge-").and_then(judging::place) {
-        Some(place) => Ok(judging::judged(place, &input)),
+    match kind.strip_prefix("judge-").and_then(judging::places) {
+        Some(places) => Ok(judging::judged(places, &input)),
         None => Err(format!("there is no kind {kind}")),
     }
 }
@@ -37,8 +39,9 @@ fn leaf(kind: &str) -> Option<Leaf> {
     Some(match kind {
         "value-text" => texts::value_text,
         "record-text" => texts::record_text,
-        "string-iwd" => texts::string_iwd,
-        "string-connman" => texts::string_connman,
+        "string" => strings::string,
+        "string-iwd" => strings::string_iwd,
+        "string-connman" => strings::string_connman,
         "escape" => texts::escape,
         "flag-iwd" => words::flag_iwd,
         "flag-connman" => words::flag_connman,

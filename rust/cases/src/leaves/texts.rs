@@ -1,20 +1,16 @@
-//! Value text, record text, strings, and how a string is written.
+//! Value text, record text, and how a string is written.
 
-use super::files::{Place, DOMAIN, DOMAIN_NAME};
+use super::files::{alike, DOMAIN, DOMAIN_NAME};
 use super::names::written;
-use crate::show::hex_front;
 use qewaris::raw;
 
-/// Whether a value's text is good: 11 is not given, though 12 may be.
+/// Whether a value's text is good, in a string of either format: 11 is not given, though 12 may be.
 pub fn value_text(input: &[u8]) -> Vec<u8> {
-    let told = DOMAIN_NAME.checked(input);
-    if told.is_text() {
-        return b"no".to_vec();
-    }
-    if told.is_kind() || told.0 == 0 {
-        return b"yes".to_vec();
-    }
-    told.shown()
+    alike(&[DOMAIN_NAME, DOMAIN], |place| match place.checked(input) {
+        told if told.is_text() => b"no".to_vec(),
+        told if told.is_kind() || told.0 == 0 => b"yes".to_vec(),
+        told => told.shown(),
+    })
 }
 
 /// A record of an open network with this domain, where it fits.
@@ -35,24 +31,6 @@ pub fn record_text(input: &[u8]) -> Vec<u8> {
         Some(Err(number)) => format!("refused {number}").into_bytes(),
         None => b"too long".to_vec(),
     }
-}
-
-/// A string's length and its bytes once unescaped, 11 as `broken`, and 12 where its length is.
-fn string(place: Place, input: &[u8]) -> Vec<u8> {
-    match place.record(input) {
-        Ok(record) => format!("{} {}", record.domain_len, hex_front(&record.domain, record.domain_len.into())).into_bytes(),
-        Err(told) if told.is_text() => b"broken".to_vec(),
-        Err(told) if told.is_kind() => b"12".to_vec(),
-        Err(told) => told.shown(),
-    }
-}
-
-pub fn string_iwd(input: &[u8]) -> Vec<u8> {
-    string(DOMAIN_NAME, input)
-}
-
-pub fn string_connman(input: &[u8]) -> Vec<u8> {
-    string(DOMAIN, input)
 }
 
 /// A string as it is written. One of no bytes has no line.

@@ -72,9 +72,13 @@ pub const EXPLANATIONS: [Explanation; 19] = [
     },
     Explanation {
         title: "a value is no proper text",
-        meaning: "A value is UTF-8, without byte 0 and byte 13. In iwd's strings a backslash begins one of \\s, \\t, \\r, \\n and \\\\.",
-        example: Example::File("Desk.psk", b"[Security]\nPassphrase=low\\tide\\88\n"),
-        remedy: "In an iwd file write \\\\ for a backslash. Save the file as UTF-8 and with Unix line ends.",
+        meaning: "A value is UTF-8, without byte 0 and byte 13. In a name, passphrase, domain or description a backslash begins one \
+                  of \\s, \\t, \\r, \\n and \\\\, in ConnMan's files as in iwd's.",
+        example: Example::File(
+            "shop.config",
+            b"[service_till]\nType = wifi\nName = Desk 4\nPassphrase = low\\88 tide\n",
+        ),
+        remedy: "Write \\\\ for a backslash: iwd and ConnMan read it as one. Save the file as UTF-8 and with Unix line ends.",
     },
     Explanation {
         title: "a value is not of its key's kind",

@@ -4,7 +4,7 @@ use super::rows::Row;
 use crate::catalogue::Dialect;
 use crate::report::{shown_path, HIDDEN};
 use crate::secrets::swallowed_secret;
-use crate::visible::quoted;
+use crate::visible::quoted_string;
 use crate::warnings::{Warning, Word};
 use qewaris::{Credential, Ipv4};
 use std::collections::BTreeMap;
@@ -52,7 +52,7 @@ pub fn across(rows: &[Row]) -> Vec<Across> {
 fn shown(network: &[u8]) -> String {
     match swallowed_secret(network) {
         Some(_) => HIDDEN.to_string(),
-        None => quoted(network),
+        None => quoted_string(network),
     }
 }
 

@@ -9,7 +9,7 @@ use crate::output::Style;
 use crate::report::{shown_path, Told, HIDDEN};
 use crate::secrets::swallowed_secret;
 use crate::services::Service;
-use crate::visible::visible;
+use crate::visible::string;
 use crate::warnings::{found_in, Warning, Word};
 use qewaris::{Credential, Ipv4, JoinRecord};
 use std::path::{Path, PathBuf};
@@ -122,7 +122,7 @@ impl Row {
         let name = self.network.as_deref()?;
         match swallowed_secret(name) {
             Some(_) => Some(HIDDEN.to_string()),
-            None => Some(visible(name)),
+            None => Some(string(name, &[])),
         }
     }
 
@@ -259,7 +259,7 @@ fn other_key(input: &Input, number: usize) -> &'static str {
 fn name_of(input: &Input, number: usize) -> Option<Vec<u8>> {
     let (name, file) = (input.name.as_slice(), input.bytes.as_slice());
     let ssid = qewaris::service_settings(name, file, number).ok()?.network.ssid;
-    ssid.or_else(|| Some(qewaris::service_name(name, file, number).ok()??.bytes.to_vec()))
+    ssid.or_else(|| Some(qewaris::service_name(name, file, number).ok()??.unescaped().into_owned()))
 }
 
 /// The row with its rank and what to do.

@@ -74,8 +74,9 @@ pub fn service(name: &[u8], file: &[u8], number: usize) -> Result<Group, Refusal
     Ok(Group { name: "service", rows })
 }
 
+/// A string as it is meant.
 fn text(text: Option<Text<'_>>) -> Option<Vec<u8>> {
-    text.map(|text| text.bytes.to_vec())
+    text.map(|text| text.unescaped().into_owned())
 }
 
 fn word(word: Option<&str>) -> Value {

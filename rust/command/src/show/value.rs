@@ -4,7 +4,7 @@ use crate::hex::encoded;
 use crate::json::{members, Json, Members};
 use crate::report::HIDDEN;
 use crate::secrets::{mark, swallowed_secret};
-use crate::visible::{pieces, visible};
+use crate::visible::{pieces, string};
 
 /// What is hidden: nothing, or passphrases and keys and every text that holds one of these.
 pub enum Hiding {
@@ -19,12 +19,13 @@ pub enum Value {
     Plain(Option<String>),
     /// Addresses; none where it is absent.
     List(Vec<String>),
+    /// A string as it is meant.
     Text(Option<Vec<u8>>),
     /// The name of a network, which is no secret, since it is on the air, unless it swallowed the next line.
     Name(Option<Vec<u8>>),
     /// The same in hex.
     Hex(Option<Vec<u8>>),
-    /// Texts; none where it is absent.
+    /// Texts without escapes; none where it is absent.
     Texts(Vec<Vec<u8>>),
     Secret(Option<Vec<u8>>),
 }
@@ -41,7 +42,7 @@ impl Value {
             Value::Hex(name) if name.as_deref().is_some_and(|name| hiding.hides(name)) => Some(HIDDEN.to_string()),
             Value::Hex(name) => name.as_deref().map(encoded),
             Value::Texts(texts) => {
-                let texts: Vec<String> = texts.iter().map(|text| hiding.text(text)).collect();
+                let texts: Vec<String> = texts.iter().map(|text| hiding.entry(text)).collect();
                 (!texts.is_empty()).then(|| texts.join(", "))
             }
             Value::Secret(secret) => secret.as_ref().map(|secret| hiding.secret(secret)),
@@ -67,8 +68,13 @@ impl Value {
 }
 
 impl Hiding {
-    /// A text for a terminal, with dots for the secrets that stand in it.
+    /// A string for a terminal, with dots for the secrets that stand in it.
     pub fn text(&self, text: &[u8]) -> String {
+        string(text, &self.marks(text))
+    }
+
+    /// The same of a text without escapes.
+    fn entry(&self, text: &[u8]) -> String {
         pieces(text, &self.marks(text)).into_iter().map(|piece| piece.text).collect()
     }
 
@@ -82,14 +88,14 @@ impl Hiding {
         if self.hides(name) {
             HIDDEN.to_string()
         } else {
-            visible(name)
+            string(name, &[])
         }
     }
 
     /// A secret for a terminal.
     pub fn secret(&self, secret: &[u8]) -> String {
         match self {
-            Hiding::None => visible(secret),
+            Hiding::None => string(secret, &[]),
             Hiding::Secrets(_) => format!("{} (hidden, --secrets shows it)", ".".repeat(secret.len())),
         }
     }

@@ -3,6 +3,7 @@
 use super::iwd::{of_mask, of_network};
 use super::{values, Warning, Word};
 use crate::catalogue::{Dialect, GLOBAL, SERVICE};
+use crate::escapes::unescaped;
 use crate::layout::{self, sections, trailing_blanks, Section};
 use crate::visible::visible;
 use qewaris::{Credential, Ipv4, JoinRecord};
@@ -51,8 +52,19 @@ fn about(name: &[u8], file: &[u8], number: usize, section: &Section<'_>, end: us
             found.push(Warning::new(Word::TrailingBlanks, Some(passphrase.line), &[]));
         }
     }
+    found.extend(escaped_ends(section));
     found.extend(once_moved(&record, section).into_iter().map(Warning::once_moved));
     found
+}
+
+/// The warnings about what is read of a Name and a Domain and cut off by ConnMan, once it has unescaped them.
+fn escaped_ends(section: &Section<'_>) -> Vec<Warning> {
+    let name = section.setting("Name").filter(|_| section.setting("SSID").is_none());
+    let read = [("Name", name), ("Domain", section.setting("Domain"))];
+    let cut = read.into_iter().filter_map(|(key, setting)| Some((key, setting?)));
+    cut.filter(|(_, setting)| unescaped(setting.value).last().is_some_and(u8::is_ascii_whitespace))
+        .map(|(key, setting)| Warning::new(Word::EscapedEnd, Some(setting.line), &[("key", key.to_string())]))
+        .collect()
 }
 
 /// The warnings about what iwd makes of the service.

@@ -91,8 +91,14 @@ table! {
         sentence "Passphrase has blanks at its end; ConnMan counts them, and the papers and the move do not"
         meaning "If a till joined with this line, the network's passphrase ends in a blank, and the moved file lacks it."
         source "GLib 2.74 drops blanks before a value only; connman-service.config says that values have none at either end."
-        remedy "Take the blanks away, or write the iwd file by hand if the passphrase does end in one."
+        remedy "Take the blanks away, or write the last one as \\s if the passphrase does end in it: ConnMan and the move both count that."
         example Some(("shop.config", b"[service_till]\nType = wifi\nName = Desk 4\nPassphrase = low tide 88 \n"));
+    EscapedEnd "escaped-end" "a ConnMan name or domain ends in an escaped blank"
+        sentence "{key} ends in a blank or line end that is written as an escape; ConnMan cuts it off, and the papers and the move do not"
+        meaning "If a till joined with this line, the network's name has no blank there, and the moved file is of another network."
+        source "ConnMan 1.41: __connman_config_get_string in src/config.c cuts what GLib has unescaped, but not a passphrase."
+        remedy "Take the escape away if a till joined with this line. If the network's name does end so, give it as SSID, in hex digits."
+        example Some(("shop.config", b"[service_till]\nType = wifi\nName = Desk 4\\s\nPassphrase = low tide 88\n"));
     LongMask "long-mask" "a mask has length 31 or 32"
         sentence "The mask has length {found}; iwd does not connect with one of 31 or 32"
         meaning "Such a mask leaves no room for a gateway, and iwd gives up on the network."

@@ -2,6 +2,7 @@
 
 use super::{Warning, Word};
 use crate::catalogue::{kind_in, Dialect, Keys, Kind};
+use crate::escapes::unescaped;
 use crate::layout::{self, is_blank, Form, Section, Setting};
 use crate::secrets::{swallowed, swallowed_secret};
 use crate::visible::visible;
@@ -23,13 +24,17 @@ pub fn warnings(keys: Keys, section: &Section<'_>) -> Vec<Warning> {
 fn about(setting: &Setting<'_>, kind: Kind, is_read: bool) -> Option<Warning> {
     let key = ("key", visible(setting.key));
     let warning = |word, parts: &[(&str, String)]| Some(Warning::new(word, Some(setting.line), parts));
-    if let Some(inner) = swallowed_in(setting.value, kind) {
+    let meant = match kind {
+        Kind::Entries => setting.value.into(),
+        _ => unescaped(setting.value),
+    };
+    if let Some(inner) = swallowed_in(&meant, kind) {
         return warning(Word::SwallowedLine, &[key, ("found", inner.to_string())]);
     }
     if !is_read {
         return None;
     }
-    if is_quoted(setting.value) {
+    if is_quoted(&meant) {
         return warning(Word::QuotedValue, &[key]);
     }
     let mark = comment_mark(setting.value)?;
@@ -49,7 +54,7 @@ fn is_quoted(value: &[u8]) -> bool {
         .any(|mark| value.len() > 1 && value.first() == Some(mark) && value.last() == Some(mark))
 }
 
-/// The mark that seems to begin a comment behind a value.
+/// The mark that seems to begin a comment behind a value as it stands: behind an escaped blank none does.
 fn comment_mark(value: &[u8]) -> Option<char> {
     let pair = value.windows(2).find(|pair| is_blank(pair[0]) && b"#;".contains(&pair[1]));
     pair.map(|pair| char::from(pair[1]))

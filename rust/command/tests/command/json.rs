@@ -93,7 +93,7 @@ fn every_object_has_every_member_of_its_type() {
         let all = objects(&run);
         assert!(!all.is_empty(), "{arguments:?}: {}", run.err);
         for object in &all {
-            assert_eq!(*object.at("format"), Value::Number(2));
+            assert_eq!(*object.at("format"), Value::Number(3));
             assert_eq!(*object.at("command"), text(arguments[0]));
             let of_type = SCHEMA.iter().find(|(name, _)| *object.at("type") == text(name)).unwrap();
             assert_eq!(names(object).join(" "), of_type.1, "{arguments:?}");

@@ -140,7 +140,7 @@ fn json_is_an_object_a_line() {
     let objects: Vec<Value> = run.out.lines().map(read).collect();
     let of = |name: &str| objects.iter().filter(|object| *object.at("type") == text(name)).count();
     assert_eq!((of("row"), of("finding"), of("counts")), (40, 4, 1));
-    assert!(objects.iter().all(|object| *object.at("format") == Value::Number(2)));
+    assert!(objects.iter().all(|object| *object.at("format") == Value::Number(3)));
     let first = &objects[0];
     assert_eq!(*first.at("file"), text("forty/till03.config"));
     assert_eq!(*first.at("state"), text("open-by-silence"));

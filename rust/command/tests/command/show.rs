@@ -20,12 +20,12 @@ shop.config (ConnMan, 7 settings, 1 service)
     IPv6                    off
     Nameservers             10.20.0.2, 10.20.0.3
     Name                    Desk 4
-    Passphrase              ........... (hidden, --secrets shows it)
+    Passphrase              .......... (hidden, --secrets shows it)
     Hidden                  true
 
   join record
     network name            Desk 4
-    passphrase              ........... (hidden, --secrets shows it)
+    passphrase              .......... (hidden, --secrets shows it)
     hidden                  yes
     IPv4                    10.20.0.14/24, gateway 10.20.0.1
     name servers            10.20.0.2, 10.20.0.3
@@ -34,7 +34,7 @@ shop.config (ConnMan, 7 settings, 1 service)
 ";
     folder.run(&["show", "shop.config"]).gives(0, told, "");
     folder.run(&["show", "shop.config", "1"]).gives(0, told, "");
-    let open = told.replace("........... (hidden, --secrets shows it)", "low\\tide 88");
+    let open = told.replace(".......... (hidden, --secrets shows it)", "low\\tide 88");
     folder.run(&["show", "--secrets", "shop.config"]).gives(0, &open, "");
 }
 
@@ -47,11 +47,9 @@ fn an_iwd_file_is_shown_by_its_groups() {
     assert!(run
         .out
         .starts_with("Desk 4.psk (iwd, 7 settings)\n\n  Settings\n    Hidden                  true\n"));
-    assert!(
-        run.out.contains("    Passphrase              low\\\\tide 88\n"),
-        "as it stands in the file"
-    );
-    assert!(run.out.contains("    passphrase              low\\tide 88\n"), "as it is meant");
+    for key in ["Passphrase", "passphrase"] {
+        assert!(run.out.contains(&format!("    {key}              low\\tide 88\n")), "with its tab");
+    }
     folder.write("Desk.open", "");
     let run = folder.run(&["show", "Desk.open"]);
     assert!(run.out.contains("    credential              none, the network is open\n"));
@@ -102,7 +100,7 @@ fn json_has_every_member() {
     let run = folder.run(&["show", "--json", "shop.config"]);
     assert_eq!((run.code, run.err.as_str()), (Some(0), ""));
     let value = read(&run.out);
-    assert_eq!(*value.at("format"), Value::Number(2));
+    assert_eq!(*value.at("format"), Value::Number(3));
     assert_eq!(*value.at("file"), text("shop.config"));
     assert_eq!(*value.at("kind"), text("connman"));
     assert_eq!(*value.at("refusal"), Value::Null);
@@ -124,7 +122,7 @@ fn json_has_every_member() {
     assert_eq!(*service.at("record/ipv4/prefix_length"), Value::Number(24));
     assert_eq!(*service.at("record_refusal"), Value::Null);
     let open = read(&folder.run(&["show", "--json", "--secrets", "shop.config"]).out);
-    assert_eq!(*open.at("services/0/record/passphrase"), text("low\\tide 88"));
+    assert_eq!(*open.at("services/0/record/passphrase"), text("low\tide 88"));
     assert_eq!(*open.at("services/0/settings/Passphrase_hidden"), Value::Bool(false));
 }
 
@@ -143,14 +141,65 @@ fn json_of_odd_bytes_is_valid() {
     let odd = "[IPv4]\nDomainName=\u{1}\"\\\\\\n\u{e9}\u{1f600}\u{7f}\u{2028}\n[Security]\nPreSharedKey=";
     folder.write("Desk.psk", format!("{odd}{}\n", "5A".repeat(32)));
     let value = read(&folder.run(&["show", "--json", "Desk.psk"]).out);
-    assert_eq!(*value.at("record/domain"), text("\u{1}\"\\\n\u{e9}\u{1f600}\u{7f}\u{2028}"));
-    assert_eq!(
-        *value.at("settings/IPv4/DomainName"),
-        text("\u{1}\"\\\\\\n\u{e9}\u{1f600}\u{7f}\u{2028}")
-    );
+    for place in ["record/domain", "settings/IPv4/DomainName"] {
+        assert_eq!(*value.at(place), text("\u{1}\"\\\n\u{e9}\u{1f600}\u{7f}\u{2028}"));
+    }
     assert_eq!(*value.at("record/key"), Value::Null);
     let open = read(&folder.run(&["show", "--json", "--secrets", "Desk.psk"]).out);
     assert_eq!(*open.at("record/key"), text(&"5a".repeat(32)));
+}
+
+/// Strings with a tab, a newline, a backslash and a blank at either end, as they stand in a ConnMan file.
+const ESCAPED: &str = "[global]\nName = \\sall\\\\tills\nDescription = a\\nb\n[service_a]\nType = wifi\nName = Desk\\t4\\n\\s\n\
+Passphrase = low\\\\tide\\s\nDomain = shop\\r\\n.example\\t\nSearchDomains = a\\tb\n";
+
+#[test]
+fn a_string_is_shown_as_it_is_meant_and_no_two_look_alike() {
+    let folder = Folder::new("escaped");
+    folder.write("shop.config", ESCAPED);
+    let shown = folder.run(&["show", "--secrets", "shop.config"]).out;
+    for row in [
+        "Name                    \\sall\\\\tills",
+        "Description             a\\nb",
+        "Name                    Desk\\t4\\n\\s",
+        "Passphrase              low\\\\tide\\s",
+        "Domain                  shop\\r\\n.example\\t",
+        "SearchDomains           a\\tb",
+        "network name            Desk\\t4\\n\\s",
+        "passphrase              low\\\\tide\\s",
+        "domain                  shop\\r\\n.example\\t",
+    ] {
+        assert!(shown.contains(&format!("\n    {row}\n")), "{row}: {shown}");
+    }
+    let hidden = folder.run(&["show", "shop.config"]).out;
+    assert_eq!(
+        hidden.matches("         ......... (hidden, --secrets shows it)\n").count(),
+        2,
+        "{hidden}"
+    );
+    assert!(folder.run(&["list", "shop.config"]).out.contains("  Desk\\t4\\n\\s  passphrase  "));
+}
+
+#[test]
+fn a_string_in_json_is_its_bytes() {
+    let folder = Folder::new("escaped-json");
+    folder.write("shop.config", ESCAPED);
+    let value = read(&folder.run(&["show", "--json", "--secrets", "shop.config"]).out);
+    for (place, meant) in [
+        ("global/Name", " all\\tills"),
+        ("global/Description", "a\nb"),
+        ("services/0/settings/Name", "Desk\t4\n "),
+        ("services/0/settings/Passphrase", "low\\tide "),
+        ("services/0/settings/Domain", "shop\r\n.example\t"),
+        ("services/0/settings/SearchDomains/0", "a\\tb"),
+        ("services/0/record/name", "Desk\t4\n "),
+        ("services/0/record/passphrase", "low\\tide "),
+        ("services/0/record/domain", "shop\r\n.example\t"),
+    ] {
+        assert_eq!(*value.at(place), text(meant), "{place}");
+    }
+    let row = folder.run(&["list", "--json", "shop.config"]).out;
+    assert_eq!(*read(row.lines().next().unwrap()).at("network"), text("Desk\t4\n "));
 }
 
 #[test]

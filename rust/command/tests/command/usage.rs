@@ -159,7 +159,7 @@ fn every_refusal_is_explained() {
         assert!(run.out.contains(&format!(" [{number}]\n")), "the example earns it: {}", run.out);
     }
     let run = folder.run(&["explain"]);
-    assert_eq!((run.code, run.out.lines().count()), (Some(0), 19 + 18));
+    assert_eq!((run.code, run.out.lines().count()), (Some(0), 19 + 19));
 }
 
 #[test]

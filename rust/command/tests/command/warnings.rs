@@ -66,6 +66,11 @@ fn of_lost_lines() -> Vec<Case> {
             "[service_a]\nType = wifi\nName = Desk 4 Pasphrase = lowtide8\nSecurity = none\n",
             &["3: warning: Name has a word for a passphrase and an equal sign in it, and seems to have swallowed the next line; each setting stands on a line of its own [swallowed-line]"],
         ),
+        case(
+            "a.config",
+            TILL.replace("Desk 4", "Desk\\tpin=4711"),
+            &["3: warning: Name has a word for a passphrase and an equal sign in it, and seems to have swallowed the next line; each setting stands on a line of its own [swallowed-line]"],
+        ),
         case("a.config", TILL.replace("low tide 88", "my key=tide 88"), &[]),
         case(
             "a.config",
@@ -121,7 +126,22 @@ fn of_texts() -> Vec<Case> {
             TILL.replace("88", "88 \t"),
             &["4: warning: Passphrase has blanks at its end; ConnMan counts them, and the papers and the move do not [trailing-blanks]"],
         ),
+        case(
+            "a.config",
+            TILL.replace("88", "88\\s "),
+            &["4: warning: Passphrase has blanks at its end; ConnMan counts them, and the papers and the move do not [trailing-blanks]"],
+        ),
+        case("a.config", TILL.replace("88", "88\\s"), &[]),
         case("a.config", TILL.replace("Desk 4", "Desk 4 "), &[]),
+        case(
+            "a.config",
+            TILL.replace("Desk 4", "Desk 4\\s"),
+            &["3: warning: Name ends in a blank or line end that is written as an escape; ConnMan cuts it off, and the papers and the move do not [escaped-end]"],
+        ),
+        case("a.config", TILL.replace("Desk 4", "Desk 4\\n\nSSID = 446573"), &[]),
+        case("a.config", TILL.replace("Desk 4", "\\sDesk 4\\\\"), &[]),
+        case("a.config", TILL.replace("Desk 4", "Desk 4\\s# left"), &[]),
+        case("a.config", TILL.replace("low tide", "low\\tide\\\\"), &[]),
     ]
 }
 
@@ -206,7 +226,7 @@ fn every_word_is_earned_and_explained() {
     let folder = Folder::new("words");
     let listed = folder.run(&["explain"]).out;
     let words: Vec<&str> = listed.lines().skip(19).filter_map(|line| line.split_whitespace().next()).collect();
-    assert_eq!(words.len(), 18, "{listed}");
+    assert_eq!(words.len(), 19, "{listed}");
     let page = include_str!("../../../../man/qewaris.1").replace("\\-", "-");
     let told: Vec<String> = cases().iter().flat_map(|case| case.told).map(|told| told.to_string()).collect();
     let elsewhere = ["both-suffixes", "readable-by-others", "two-keys", "one-address", "empty-folder"];

@@ -1,15 +1,14 @@
 //! Drafts of ConnMan files: legal ones, and ones with any keys at all.
 
 use super::draft::{Draft, Piece};
-use super::keys::{find, GLOBAL_KEYS, SERVICE_KEYS};
+use super::keys::{find, Key, GLOBAL_KEYS, SERVICE_KEYS};
 use super::largest;
 use super::names::good_connman;
+use super::strings::spelled;
 use super::values::{good, static_ipv4};
 use crate::random::Random;
 use crate::reference::file_name::lower_hex;
 use crate::reference::kind::mask_of;
-use crate::reference::lines::{drop_trailing_whitespace, skip_whitespace};
-use crate::reference::text::is_broken;
 use crate::reference::writer::dotted;
 use crate::reference::{Credential, Dialect, Ipv4, Ipv6, Record};
 
@@ -61,13 +60,22 @@ pub fn identifier(random: &mut Random, number: usize) -> String {
 
 fn global(random: &mut Random) -> Vec<Piece> {
     let keys = GLOBAL_KEYS.iter().filter(|_| random.percent(60)).collect::<Vec<_>>();
-    let settings = keys.into_iter().map(|key| Piece::setting(key.name, good(random, key.kind)));
+    let settings = keys.into_iter().map(|key| good_setting(random, key));
     [vec![Piece::header("global")], settings.collect()].concat()
 }
 
-/// A setting with a legal value.
+/// A setting of a service with a legal value.
 pub fn setting(random: &mut Random, name: &str) -> Piece {
-    Piece::setting(name, good(random, find(SERVICE_KEYS, name).kind))
+    good_setting(random, &find(SERVICE_KEYS, name))
+}
+
+fn good_setting(random: &mut Random, key: &Key) -> Piece {
+    Piece::setting(key.name, good(random, Dialect::Connman, key.kind))
+}
+
+/// A string setting that stands for the bytes.
+fn string(random: &mut Random, name: &str, content: &[u8]) -> Piece {
+    Piece::setting(name, spelled(random, Dialect::Connman, content))
 }
 
 fn word(name: &str, value: &str) -> Piece {
@@ -106,7 +114,7 @@ fn movable(random: &mut Random) -> Vec<Piece> {
 fn with_record(random: &mut Random, record: &Record) -> Vec<Piece> {
     let mut pieces = vec![word("Type", "wifi"), with_ssid(random, &record.ssid)];
     if let Credential::Passphrase(passphrase) = &record.credential {
-        pieces.push(Piece::setting("Passphrase", passphrase.clone()));
+        pieces.push(string(random, "Passphrase", passphrase));
     }
     if let Ipv4::Static {
         address,
@@ -123,7 +131,7 @@ fn with_record(random: &mut Random, record: &Record) -> Vec<Piece> {
     }
     let servers: Vec<Vec<u8>> = record.servers.iter().map(|&server| dotted(server)).collect();
     pieces.push(Piece::setting("Nameservers", servers.join(&b',')));
-    pieces.push(Piece::setting("Domain", record.domain.clone()));
+    pieces.push(string(random, "Domain", &record.domain));
     pieces.push(word("Hidden", if record.hidden { "true" } else { "false" }));
     pieces.push(word("IPv6", if record.ipv6 == Ipv6::Off { "off" } else { "auto" }));
     pieces
@@ -131,10 +139,9 @@ fn with_record(random: &mut Random, record: &Record) -> Vec<Piece> {
 
 /// The network's name, often as a Name where it can be one.
 fn with_ssid(random: &mut Random, ssid: &[u8]) -> Piece {
-    let trimmed = drop_trailing_whitespace(skip_whitespace(ssid));
-    let is_string = !is_broken(ssid) && !ssid.contains(&b'\n') && trimmed == ssid;
-    if is_string && random.once_in(2) {
-        return Piece::setting("Name", ssid.to_vec());
+    let can_be_string = std::str::from_utf8(ssid).is_ok() && !ssid.contains(&0);
+    if can_be_string && random.once_in(2) {
+        return string(random, "Name", ssid);
     }
     Piece::setting("SSID", lower_hex(ssid))
 }

@@ -40,7 +40,7 @@ fn draft(random: &mut Random, name: Vec<u8>, keys_of: impl Fn(&mut Random, &'sta
             pieces.extend(
                 names
                     .into_iter()
-                    .map(|name| Piece::setting(name, good(random, find(keys, name).kind))),
+                    .map(|name| Piece::setting(name, good(random, Dialect::Iwd, find(keys, name).kind))),
             );
         }
     }

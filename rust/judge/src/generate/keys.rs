@@ -4,8 +4,8 @@
 #[derive(Clone, Copy, Debug)]
 pub enum Kind {
     Words(&'static [&'static str]),
-    /// A string of so many bytes; iwd's with escapes.
-    Text(usize, usize, Escapes),
+    /// A string that stands for so many bytes.
+    Text(usize, usize),
     /// So many hex digits.
     Hex(usize, usize),
     Mac,
@@ -15,13 +15,6 @@ pub enum Kind {
     CommaServers,
     Entries,
     Ipv4,
-}
-
-/// Whether a string knows escapes.
-#[derive(Clone, Copy, Debug, PartialEq, Eq)]
-pub enum Escapes {
-    Iwd,
-    None,
 }
 
 /// A key and its kind.
@@ -51,10 +44,7 @@ pub const IWD_GROUPS: [(&str, &[Key]); 4] = [
     ),
     (
         "Security",
-        &[
-            key("Passphrase", Kind::Text(8, 63, Escapes::Iwd)),
-            key("PreSharedKey", Kind::Hex(64, 64)),
-        ],
+        &[key("Passphrase", Kind::Text(8, 63)), key("PreSharedKey", Kind::Hex(64, 64))],
     ),
     (
         "IPv4",
@@ -64,7 +54,7 @@ pub const IWD_GROUPS: [(&str, &[Key]); 4] = [
             key("Broadcast", Kind::Address),
             key("Netmask", Kind::Mask),
             key("DNS", Kind::SpacedServers),
-            key("DomainName", Kind::Text(1, 253, Escapes::Iwd)),
+            key("DomainName", Kind::Text(1, 253)),
             key("SendHostname", IWD_BOOL),
         ],
     ),
@@ -72,10 +62,7 @@ pub const IWD_GROUPS: [(&str, &[Key]); 4] = [
 ];
 
 /// The keys of ConnMan's `global`.
-pub const GLOBAL_KEYS: &[Key] = &[
-    key("Name", Kind::Text(1, 253, Escapes::None)),
-    key("Description", Kind::Text(1, 253, Escapes::None)),
-];
+pub const GLOBAL_KEYS: &[Key] = &[key("Name", Kind::Text(1, 253)), key("Description", Kind::Text(1, 253))];
 
 /// The keys of a ConnMan service.
 pub const SERVICE_KEYS: &[Key] = &[
@@ -87,10 +74,10 @@ pub const SERVICE_KEYS: &[Key] = &[
     key("Nameservers", Kind::CommaServers),
     key("SearchDomains", Kind::Entries),
     key("Timeservers", Kind::Entries),
-    key("Domain", Kind::Text(1, 253, Escapes::None)),
-    key("Name", Kind::Text(1, 32, Escapes::None)),
+    key("Domain", Kind::Text(1, 253)),
+    key("Name", Kind::Text(1, 32)),
     key("SSID", Kind::Hex(2, 64)),
-    key("Passphrase", Kind::Text(8, 63, Escapes::None)),
+    key("Passphrase", Kind::Text(8, 63)),
     key("Security", Kind::Words(&["psk", "ieee8021x", "none", "wep"])),
     key("Hidden", CONNMAN_BOOL),
 ];
@@ -99,6 +86,12 @@ pub const SERVICE_KEYS: &[Key] = &[
 pub fn all_keys() -> Vec<Key> {
     let iwd = IWD_GROUPS.iter().flat_map(|(_, keys)| keys.iter());
     iwd.chain(GLOBAL_KEYS).chain(SERVICE_KEYS).copied().collect()
+}
+
+/// Whether the keys of that name, in whatever group, are strings.
+pub fn is_string(name: &[u8]) -> bool {
+    let is_text = |key: &Key| key.name.as_bytes() == name && matches!(key.kind, Kind::Text(..));
+    all_keys().iter().any(is_text)
 }
 
 /// The key of a name in a list that has it.

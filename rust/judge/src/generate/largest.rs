@@ -17,7 +17,7 @@ const WIDE_MASKS: RangeInclusive<usize> = 25..=32;
 
 /// A record that a file of the dialect can have: one of a largest file, one of a largest name, or one near the first.
 pub fn record(random: &mut Random, dialect: Dialect) -> Record {
-    let mut record = largest_file(random, dialect);
+    let mut record = largest_file(random);
     match random.weighted(&[2, 1, 2]) {
         0 => {}
         1 => record.credential = Credential::None,
@@ -27,10 +27,10 @@ pub fn record(random: &mut Random, dialect: Dialect) -> Record {
 }
 
 /// A record whose file has as many bytes as any.
-fn largest_file(random: &mut Random, dialect: Dialect) -> Record {
+fn largest_file(random: &mut Random) -> Record {
     Record {
         ssid: odd_ssid(random, SSID),
-        credential: Credential::Passphrase(escaped(random, dialect, PASSPHRASE)),
+        credential: Credential::Passphrase(escaped(random, PASSPHRASE)),
         hidden: true,
         ipv4: Ipv4::Static {
             address: wide(random),
@@ -38,16 +38,16 @@ fn largest_file(random: &mut Random, dialect: Dialect) -> Record {
             gateway: Some(wide(random)),
         },
         servers: (0..SERVERS).map(|_| wide(random)).collect(),
-        domain: escaped(random, dialect, DOMAIN),
+        domain: escaped(random, DOMAIN),
         ipv6: Ipv6::Off,
     }
 }
 
-/// Makes one part of a record of a largest file one step smaller.
+/// Makes one part of a record of a largest file one step smaller. Only a file of iwd can have a 32-byte key.
 fn step_down(random: &mut Random, dialect: Dialect, record: &mut Record) {
     match random.below(10) {
-        0 => record.credential = Credential::Passphrase(one_less(random, dialect, PASSPHRASE)),
-        1 => record.domain = one_less(random, dialect, DOMAIN),
+        0 => record.credential = Credential::Passphrase(one_less(random, PASSPHRASE)),
+        1 => record.domain = one_less(random, DOMAIN),
         2 => step_down_ipv4(random, &mut record.ipv4),
         3 => record.servers[random.below(SERVERS)] = less_wide(random),
         4 => record.servers.truncate(SERVERS - 1),
@@ -74,22 +74,25 @@ fn step_down_ipv4(random: &mut Random, ipv4: &mut Ipv4) {
     }
 }
 
-/// A string of which every byte is escaped when it is written. In a ConnMan file byte 10 ends a line, byte 13 is broken text, and
-/// blanks in first place are dropped.
-fn escaped(random: &mut Random, dialect: Dialect, length: usize) -> Vec<u8> {
-    let (first, any): (&[u8], &[u8]) = match dialect {
-        Dialect::Iwd => (b"\\\n\r \t", b"\\\n\r"),
-        Dialect::Connman => (b"\\", b"\\"),
-    };
-    (0..length).map(|place| random.pick(if place == 0 { first } else { any })).collect()
+/// The bytes that are escaped when they are written, wherever they stand, and those that are so in first place only.
+const ALWAYS_ESCAPED: &[u8] = b"\\\n\r";
+const ESCAPED_FIRST: &[u8] = b" \t";
+
+/// A string of which every byte is escaped when it is written.
+fn escaped(random: &mut Random, length: usize) -> Vec<u8> {
+    let mut text: Vec<u8> = (0..length).map(|_| random.pick(ALWAYS_ESCAPED)).collect();
+    if random.once_in(3) {
+        text[0] = random.pick(ESCAPED_FIRST);
+    }
+    text
 }
 
 /// Such a string with one byte that is not escaped, or with one byte fewer.
-fn one_less(random: &mut Random, dialect: Dialect, length: usize) -> Vec<u8> {
+fn one_less(random: &mut Random, length: usize) -> Vec<u8> {
     if random.once_in(2) {
-        return escaped(random, dialect, length - 1);
+        return escaped(random, length - 1);
     }
-    let mut text = escaped(random, dialect, length);
+    let mut text = escaped(random, length);
     text[random.below(length)] = letter(random);
     text
 }

@@ -1,16 +1,18 @@
-//! Faults put into drafts: lines repeated, left out, moved and changed, keys and headers misspelt, values outside their kind.
+//! Faults put into drafts: lines repeated, left out, moved and changed, keys and headers misspelt, values outside their kind, strings
+//! with bad escapes.
 
 use super::bad_values::bad;
 use super::connman_files::{identifier, setting};
 use super::draft::{Draft, Piece};
-use super::keys::{all_keys, Key};
+use super::keys::{all_keys, is_string, Key};
+use super::strings::escape_badly;
 use super::values::good;
 use crate::random::Random;
 use crate::reference::Dialect;
 
 /// Puts one fault into a draft.
 pub fn mutate(random: &mut Random, draft: &mut Draft) {
-    match random.weighted(&[34, 11, 5, 4, 6, 9, 10, 8, 8, 6]) {
+    match random.weighted(&[34, 11, 5, 4, 6, 9, 10, 8, 8, 6, 7]) {
         0 => spoil_value(random, draft),
         1 => repeat_line(random, draft),
         2 => remove_line(random, draft),
@@ -20,7 +22,8 @@ pub fn mutate(random: &mut Random, draft: &mut Draft) {
         6 => spoil_header(random, draft),
         7 => insert_junk(random, draft),
         8 => add_services(random, draft),
-        _ => add_setting(random, draft),
+        9 => add_setting(random, draft),
+        _ => spoil_escape(random, draft),
     }
 }
 
@@ -28,29 +31,44 @@ fn place_of(random: &mut Random, places: Vec<usize>) -> Option<usize> {
     (!places.is_empty()).then(|| random.pick(&places))
 }
 
-/// The key of that name, whatever its group.
-fn known_key(name: &[u8]) -> Option<Key> {
-    all_keys().into_iter().find(|key| key.name.as_bytes() == name)
+/// A key of that name, whatever its group.
+fn known_key(random: &mut Random, name: &[u8]) -> Option<Key> {
+    let keys: Vec<Key> = all_keys().into_iter().filter(|key| key.name.as_bytes() == name).collect();
+    (!keys.is_empty()).then(|| random.pick(&keys))
 }
 
 fn spoil_value(random: &mut Random, draft: &mut Draft) {
     let Some(place) = place_of(random, draft.settings()) else { return };
-    spoil(random, &mut draft.pieces[place]);
+    spoil(random, draft.dialect, &mut draft.pieces[place]);
 }
 
 /// Gives a setting a value that is most likely not legal.
-fn spoil(random: &mut Random, piece: &mut Piece) {
+fn spoil(random: &mut Random, dialect: Dialect, piece: &mut Piece) {
     if let Piece::Setting { key, value } = piece {
-        if let Some(key) = known_key(key) {
-            *value = bad(random, key.kind);
+        if let Some(key) = known_key(random, key) {
+            *value = bad(random, dialect, key.kind);
         }
     }
 }
 
 /// Spoils a setting once in three times, so that a line has several faults.
-fn spoil_perhaps(random: &mut Random, piece: &mut Piece) {
+fn spoil_perhaps(random: &mut Random, dialect: Dialect, piece: &mut Piece) {
     if random.once_in(3) {
-        spoil(random, piece);
+        spoil(random, dialect, piece);
+    }
+}
+
+/// Puts a backslash that begins no escape into a string.
+fn spoil_escape(random: &mut Random, draft: &mut Draft) {
+    let is_text = |piece: &Piece| matches!(piece, Piece::Setting { key, .. } if is_string(key));
+    let strings = draft
+        .settings()
+        .into_iter()
+        .filter(|&place| is_text(&draft.pieces[place]))
+        .collect();
+    let Some(place) = place_of(random, strings) else { return };
+    if let Piece::Setting { value, .. } = &mut draft.pieces[place] {
+        escape_badly(random, value);
     }
 }
 
@@ -59,7 +77,7 @@ fn repeat_line(random: &mut Random, draft: &mut Draft) {
     let places = if random.percent(60) { draft.settings() } else { draft.headers() };
     let Some(place) = place_of(random, places) else { return };
     let mut piece = draft.pieces[place].clone();
-    spoil_perhaps(random, &mut piece);
+    spoil_perhaps(random, draft.dialect, &mut piece);
     let target = if random.once_in(2) {
         place + 1
     } else {
@@ -86,7 +104,7 @@ fn swap_lines(random: &mut Random, draft: &mut Draft) {
 fn move_line(random: &mut Random, draft: &mut Draft) {
     let Some(place) = place_of(random, draft.settings()) else { return };
     let mut piece = draft.pieces.remove(place);
-    spoil_perhaps(random, &mut piece);
+    spoil_perhaps(random, draft.dialect, &mut piece);
     let target = if random.once_in(3) {
         0
     } else {
@@ -99,7 +117,7 @@ fn move_line(random: &mut Random, draft: &mut Draft) {
 fn spoil_key(random: &mut Random, draft: &mut Draft) {
     let Some(place) = place_of(random, draft.settings()) else { return };
     let other = random.pick(&all_keys());
-    spoil_perhaps(random, &mut draft.pieces[place]);
+    spoil_perhaps(random, draft.dialect, &mut draft.pieces[place]);
     let Piece::Setting { key, value } = &mut draft.pieces[place] else {
         return;
     };
@@ -110,7 +128,7 @@ fn spoil_key(random: &mut Random, draft: &mut Draft) {
         3 => drop(key.pop()),
         4 => key.clear(),
         5 => {
-            (*key, *value) = (other.name.as_bytes().to_vec(), good(random, other.kind));
+            (*key, *value) = (other.name.as_bytes().to_vec(), good(random, draft.dialect, other.kind));
         }
         6 => {
             *key = random
@@ -205,8 +223,8 @@ fn add_services(random: &mut Random, draft: &mut Draft) {
 /// A setting of any key somewhere, with a legal value.
 fn add_setting(random: &mut Random, draft: &mut Draft) {
     let key = random.pick(&all_keys());
-    let mut piece = Piece::setting(key.name, good(random, key.kind));
-    spoil_perhaps(random, &mut piece);
+    let mut piece = Piece::setting(key.name, good(random, draft.dialect, key.kind));
+    spoil_perhaps(random, draft.dialect, &mut piece);
     let place = random.below(draft.pieces.len() + 1);
     draft.pieces.insert(place, piece);
 }

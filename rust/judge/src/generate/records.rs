@@ -1,12 +1,10 @@
 //! Records for the writer: well-formed ones of every shape, and each way of breaking one.
 
-use super::keys::Escapes;
 use super::largest;
-use super::strings::{text, BROKEN_UTF8};
+use super::strings::{content, BROKEN_UTF8};
 use crate::encoding::{record_bytes, record_of_bytes};
 use crate::layout::lay_record;
 use crate::random::Random;
-use crate::reference::text::unescape;
 use crate::reference::{Credential, Dialect, Ipv4, Ipv6, Record};
 use qewaris::raw;
 
@@ -104,8 +102,7 @@ fn ssid(random: &mut Random) -> Vec<u8> {
 /// UTF-8 without byte 0 of one of the lengths, the bytes that are escaped among it.
 fn string(random: &mut Random, lengths: &[usize]) -> Vec<u8> {
     let length = random.pick(lengths);
-    let value = text(random, length, Escapes::Iwd);
-    unescape(&value).expect("a legal iwd string")
+    content(random, length)
 }
 
 /// One byte of the record changed.

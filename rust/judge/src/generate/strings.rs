@@ -1,7 +1,7 @@
-//! Strings: legal ones of an exact length, with UTF-8 of all lengths and escapes, and ways to break them.
+//! Strings: the bytes that one can stand for, with UTF-8 of all lengths; values that stand for them, with escapes; and ways to break them.
 
-use super::keys::Escapes;
 use crate::random::Random;
+use crate::reference::Dialect;
 
 /// Code points at the edges of UTF-8's lengths and of the surrogates, and some that are only odd.
 const EDGES: [u32; 16] = [
@@ -36,8 +36,10 @@ pub const BROKEN_UTF8: [&[u8]; 24] = [
     b"\xFF",
 ];
 
-/// Backslashes that begin no escape, the last one for the end of a value.
-const BAD_ESCAPES: [&[u8]; 9] = [b"\\a", b"\\S", b"\\0", b"\\ ", b"\\\"", b"\\x41", b"\\\xC3\xA9", b"\\=", b"\\"];
+/// Backslashes that begin no escape, those of the last line for the end of a value: there ConnMan drops the blanks.
+const BAD_ESCAPES: &[u8] =
+    b"\\a|\\0|\\x41|\\u0041|\\011|\\S|\\T|\\R|\\N|\\\"|\\=|\\;|\\\x01|\\\x7F|\\ s|\\\tt|\\\xC3\xA9|\\\xF0\x9F\x98\x80|\
+    \\|\\|\\ |\\\t| \\";
 
 /// A letter or digit.
 pub fn letter(random: &mut Random) -> u8 {
@@ -54,38 +56,63 @@ pub fn wide(random: &mut Random) -> Vec<u8> {
     char::from_u32(code).expect("no surrogate").to_string().into_bytes()
 }
 
-/// A value of a string kind that stands for `length` bytes.
-pub fn text(random: &mut Random, length: usize, escapes: Escapes) -> Vec<u8> {
-    let mixed = random.once_in(2);
-    let mut value = Vec::new();
-    let mut left = length;
-    while left > 0 {
-        let (raw, meant) = if mixed { piece(random, escapes) } else { (vec![letter(random)], 1) };
-        let blank = raw == b" " || raw == b"\t";
-        let trimmed = blank && (value.is_empty() || (left == 1 && escapes == Escapes::None));
-        if meant <= left && !trimmed {
-            value.extend(raw);
-            left -= meant;
-        }
-    }
-    value
+/// A value that stands for so many bytes in a file of the dialect.
+pub fn text(random: &mut Random, dialect: Dialect, length: usize) -> Vec<u8> {
+    let content = content(random, length);
+    spelled(random, dialect, &content)
 }
 
-/// Some bytes of a string, and how many they stand for.
-fn piece(random: &mut Random, escapes: Escapes) -> (Vec<u8>, usize) {
-    match random.weighted(&[40, 12, 8, 6, 10, 10]) {
-        0 => (vec![letter(random)], 1),
-        1 => (vec![random.pick(b" \t  ")], 1),
-        2 => (vec![random.pick(b"#=[];,.:/-_\"'@!~")], 1),
-        3 => (vec![random.pick(b"\x01\x07\x08\x0B\x0C\x0E\x1B\x1F\x7F")], 1),
-        4 if escapes == Escapes::Iwd => (random.pick(&[b"\\s", b"\\t", b"\\r", b"\\n", b"\\\\"]).to_vec(), 1),
-        4 => (b"\\".to_vec(), 1),
-        _ => {
-            let character = wide(random);
-            let length = character.len();
-            (character, length)
+/// So many bytes that a string can stand for, UTF-8 without byte 0: letters, a mixture, or blanks.
+pub fn content(random: &mut Random, length: usize) -> Vec<u8> {
+    let piece: fn(&mut Random) -> Vec<u8> = match random.weighted(&[19, 20, 1]) {
+        0 => |random| vec![letter(random)],
+        1 => piece,
+        _ => |random| vec![blank(random)],
+    };
+    let mut content = Vec::new();
+    while content.len() < length {
+        let next = piece(random);
+        if content.len() + next.len() <= length {
+            content.extend(next);
         }
     }
+    content
+}
+
+fn blank(random: &mut Random) -> u8 {
+    random.pick(b" \t  ")
+}
+
+/// Some bytes of a mixture: one of those that are escaped and what looks like an escape, among others.
+fn piece(random: &mut Random) -> Vec<u8> {
+    match random.weighted(&[40, 12, 8, 6, 8, 2, 10]) {
+        0 => vec![letter(random)],
+        1 => vec![blank(random)],
+        2 => vec![random.pick(b"#=[];,.:/-_\"'@!~")],
+        3 => vec![random.pick(b"\x01\x07\x08\x0B\x0C\x0E\x1B\x1F\x7F")],
+        4 => vec![random.pick(b"\n\r\\")],
+        5 => vec![b'\\', random.pick(b"strn")],
+        _ => wide(random),
+    }
+}
+
+/// A value that stands for the bytes in a file of the dialect: byte 10, byte 13 and backslash escaped, and blanks where they would be
+/// dropped; other blanks escaped or not.
+pub fn spelled(random: &mut Random, dialect: Dialect, content: &[u8]) -> Vec<u8> {
+    let mut value = Vec::new();
+    for (place, byte) in content.iter().enumerate() {
+        let is_last = place + 1 == content.len();
+        let is_dropped = place == 0 || (is_last && dialect == Dialect::Connman);
+        value.extend(match byte {
+            b'\n' => b"\\n",
+            b'\r' => b"\\r",
+            b'\\' => b"\\\\",
+            b' ' if is_dropped || random.once_in(3) => b"\\s",
+            b'\t' if is_dropped || random.once_in(3) => b"\\t",
+            _ => std::slice::from_ref(byte),
+        });
+    }
+    value
 }
 
 /// A length from `low` to `high`, often at one end.
@@ -100,29 +127,40 @@ pub fn length(random: &mut Random, low: usize, high: usize) -> usize {
 }
 
 /// A string one past an end of its lengths, counted in the bytes that it stands for.
-pub fn wrong_length(random: &mut Random, low: usize, high: usize, escapes: Escapes) -> Vec<u8> {
+pub fn wrong_length(random: &mut Random, dialect: Dialect, low: usize, high: usize) -> Vec<u8> {
     let length = random.pick(&[low - 1, low - 1, high + 1, high + 1, 0, high + 2, 2 * high]);
-    text(random, length, escapes)
+    text(random, dialect, length)
 }
 
-/// A string with something in it that no value may have, often at its end.
-pub fn broken(random: &mut Random, low: usize, high: usize, escapes: Escapes) -> Vec<u8> {
+/// A string with something in it that no value may have.
+pub fn broken(random: &mut Random, dialect: Dialect, low: usize, high: usize) -> Vec<u8> {
     let length = length(random, low, high);
-    let mut value = text(random, length, escapes);
-    let fault = match random.below(4) {
-        0 => random.pick(&BAD_ESCAPES).to_vec(),
-        1 => vec![random.pick(&[0, 13])],
-        _ => random.pick(&BROKEN_UTF8).to_vec(),
-    };
-    let place = if random.once_in(2) {
-        value.len()
-    } else {
-        random.below(value.len() + 1)
-    };
+    let mut value = text(random, dialect, length);
+    match random.weighted(&[3, 2, 4]) {
+        0 => escape_badly(random, &mut value),
+        1 => {
+            let byte = random.pick(&[0, 13]);
+            put_in(random, &mut value, &[byte]);
+        }
+        _ => {
+            let bytes = random.pick(&BROKEN_UTF8);
+            put_in(random, &mut value, bytes);
+        }
+    }
+    value
+}
+
+/// Puts a backslash that begins no escape into a string.
+pub fn escape_badly(random: &mut Random, value: &mut Vec<u8>) {
+    let fault = random.pick_word(BAD_ESCAPES);
+    put_in(random, value, fault);
+}
+
+/// Puts a fault into a value, often at its end or in the place of its end.
+fn put_in(random: &mut Random, value: &mut Vec<u8>, fault: &[u8]) {
     if random.once_in(3) {
         value.truncate(value.len().saturating_sub(fault.len()));
     }
-    let place = place.min(value.len());
-    value.splice(place..place, fault);
-    value
+    let place = random.place(value.len());
+    value.splice(place..place, fault.iter().copied());
 }

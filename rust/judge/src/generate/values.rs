@@ -1,14 +1,18 @@
 //! Legal values of every kind, often at the ends of what is legal.
 
-use super::keys::{Escapes, Kind};
+use super::keys::Kind;
 use super::strings::{length, letter, text, wide};
 use crate::random::Random;
+use crate::reference::Dialect;
 
-/// A legal value of the kind.
-pub fn good(random: &mut Random, kind: Kind) -> Vec<u8> {
+/// A legal value of the kind, in a file of the dialect.
+pub fn good(random: &mut Random, dialect: Dialect, kind: Kind) -> Vec<u8> {
     match kind {
         Kind::Words(words) => random.pick(words).as_bytes().to_vec(),
-        Kind::Text(low, high, escapes) => string(random, low, high, escapes),
+        Kind::Text(low, high) => {
+            let bytes = length(random, low, high);
+            text(random, dialect, bytes)
+        }
         Kind::Hex(low, high) => {
             let bytes = length(random, low / 2, high / 2);
             hex_digits(random, 2 * bytes)
@@ -27,11 +31,6 @@ pub fn good(random: &mut Random, kind: Kind) -> Vec<u8> {
         }
         Kind::Ipv4 => ipv4(random),
     }
-}
-
-fn string(random: &mut Random, low: usize, high: usize, escapes: Escapes) -> Vec<u8> {
-    let bytes = length(random, low, high);
-    text(random, bytes, escapes)
 }
 
 /// Hex digits in one case or in both.
@@ -100,15 +99,16 @@ pub fn entry(random: &mut Random) -> Vec<u8> {
     entry_of(random, bytes)
 }
 
-/// An entry of so many bytes, or up to three more where a wide character ends it.
+/// An entry of so many bytes. In it a backslash is an ordinary byte, whatever stands behind it.
 pub fn entry_of(random: &mut Random, bytes: usize) -> Vec<u8> {
     let plain = random.percent(80);
     let mut entry = Vec::new();
     while entry.len() < bytes {
-        match random.below(8) {
+        match random.below(9) {
             0 if !plain && entry.len() + 4 <= bytes => entry.extend(wide(random)),
-            1 if !plain => entry.push(random.pick(b"\x01\x0B\x7F\\#=[]/:;")),
-            2 => entry.push(random.pick(b".-_")),
+            1 if !plain && entry.len() + 2 <= bytes => entry.extend([b'\\', random.pick(b"strn\\xS;.")]),
+            2 if !plain => entry.push(random.pick(b"\x01\x0B\x7F\\#=[]/:;")),
+            3 => entry.push(random.pick(b".-_")),
             _ => entry.push(letter(random)),
         }
     }

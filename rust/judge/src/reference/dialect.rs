@@ -27,7 +27,8 @@ impl Dialect {
         byte.is_ascii_alphanumeric() || byte == b'_' || byte == b'-' || (self == Dialect::Connman && byte == b'.')
     }
 
-    /// Where a value ends: in iwd "at line end, trailing blanks kept", in ConnMan "trailing whitespace dropped".
+    /// Where a value ends: in iwd "at line end, trailing blanks kept", in ConnMan "trailing whitespace dropped". Strings are "unescaped
+    /// after the whitespace is trimmed" (request 2026-02), so a blank that an escape stands for is kept at either end.
     pub fn value_end(self, value: &[u8]) -> &[u8] {
         match self {
             Dialect::Iwd => value,
@@ -78,8 +79,12 @@ const CONNMAN_BOOL: Kind = Kind::Flag {
     no: &["false"],
 };
 
+/// A string of `min` to `max` bytes.
+const fn string(min: usize, max: usize) -> Kind {
+    Kind::Text { min, max }
+}
+
 fn iwd_kind(group: GroupKind, key: &str) -> Option<Kind> {
-    let string = |min, max| Kind::Text { min, max, escaped: true };
     Some(match (group, key) {
         (GroupKind::Settings, "AutoConnect" | "Hidden" | "AlwaysRandomizeAddress") => IWD_BOOL,
         (GroupKind::Settings, "AddressOverride") => Kind::Mac,
@@ -96,15 +101,10 @@ fn iwd_kind(group: GroupKind, key: &str) -> Option<Kind> {
 }
 
 fn global_kind(key: &str) -> Option<Kind> {
-    matches!(key, "Name" | "Description").then_some(Kind::Text {
-        min: 1,
-        max: 253,
-        escaped: false,
-    })
+    matches!(key, "Name" | "Description").then_some(string(1, 253))
 }
 
 fn service_kind(key: &str) -> Option<Kind> {
-    let string = |min, max| Kind::Text { min, max, escaped: false };
     Some(match key {
         "Type" => Kind::Word(&[("wifi", "wifi"), ("ethernet", "ethernet")]),
         "IPv4" => Kind::Ipv4,

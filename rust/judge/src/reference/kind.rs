@@ -16,7 +16,6 @@ pub enum Kind {
     Text {
         min: usize,
         max: usize,
-        escaped: bool,
     },
     /// `min` to `max` hex digits, an even count.
     Hex {
@@ -72,10 +71,10 @@ pub enum Broken {
 }
 
 impl Kind {
-    /// What the value says; a broken text comes before a broken kind.
+    /// What the value says; a broken text comes before a broken kind. "Only strings are unescaped."
     pub fn judge(self, value: &[u8]) -> Result<Value, Broken> {
-        let escapes = matches!(self, Kind::Text { escaped: true, .. });
-        if text::is_broken(value) || (escapes && text::unescape(value).is_none()) {
+        let is_string = matches!(self, Kind::Text { .. });
+        if text::is_broken(value) || (is_string && text::unescape(value).is_none()) {
             return Err(Broken::Text);
         }
         self.read(value).ok_or(Broken::Kind)
@@ -88,7 +87,7 @@ impl Kind {
                 .iter()
                 .find(|(word, _)| word.as_bytes() == value)
                 .map(|(_, reads)| Value::Word(reads)),
-            Kind::Text { min, max, escaped } => string(value, min, max, escaped).map(Value::Text),
+            Kind::Text { min, max } => string(value, min, max).map(Value::Text),
             Kind::Hex { min, max } => hex(value).filter(|_| (min..=max).contains(&value.len())).map(Value::Hex),
             Kind::Mac => mac(value).map(Value::Mac),
             Kind::Address => address(value).map(Value::Address),
@@ -111,9 +110,8 @@ fn flag(value: &[u8], yes: &[&str], no: &[&str]) -> Option<bool> {
 }
 
 /// "Every string's length counts its bytes after unescaping."
-fn string(value: &[u8], min: usize, max: usize, escaped: bool) -> Option<Vec<u8>> {
-    let bytes = if escaped { text::unescape(value)? } else { value.to_vec() };
-    (min..=max).contains(&bytes.len()).then_some(bytes)
+fn string(value: &[u8], min: usize, max: usize) -> Option<Vec<u8>> {
+    text::unescape(value).filter(|bytes| (min..=max).contains(&bytes.len()))
 }
 
 /// The bytes of pairs of hex digits. "Hex digits may be either case."

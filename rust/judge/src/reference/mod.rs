@@ -1,5 +1,5 @@
-//! The rules of document 01, and the figures of request 2026-01, a second time: plain programs over byte strings, a function for each
-//! thing that the paper names.
+//! The rules of document 01, the figures of request 2026-01 and the escapes of request 2026-02, a second time: plain programs over byte
+//! strings, a function for each thing that the paper names.
 //!
 //! Nothing here knows the library. `iwd::read` and `connman::read` read a file under its name; the file that they give answers
 //! every question about it; `writer` and `moving` write. What the C boundary makes of these answers is `layout`'s.

@@ -1,11 +1,12 @@
-//! Value text: when it is broken (11), and the escapes of iwd strings.
+//! Value text: when it is broken (11), and the escapes of strings, alike in both dialects.
 
 /// "Value text is broken (11) if it is not UTF-8, holds byte 0 or byte 13" - asked of every kind.
 pub fn is_broken(value: &[u8]) -> bool {
     std::str::from_utf8(value).is_err() || value.contains(&0) || value.contains(&13)
 }
 
-/// The bytes that an iwd string stands for; none if it "has a backslash not beginning one of the five escapes".
+/// The bytes that a string stands for: "strings know `\s`, `\t`, `\r`, `\n` and `\\`" (request 2026-02, of ConnMan too). None if it
+/// "has a backslash not beginning one of the five escapes".
 pub fn unescape(value: &[u8]) -> Option<Vec<u8>> {
     let mut bytes = Vec::with_capacity(value.len());
     let mut rest = value.iter();

@@ -4,9 +4,9 @@ mod faults;
 
 use super::{Blamed, Diagnosis};
 use crate::catalogue::{counted, Dialect, Kind};
+use crate::escapes::unescaped;
 use crate::layout::trailing_blanks;
 use crate::messages::Message;
-use crate::secrets::unescaped;
 use faults::fault;
 
 pub fn broken_kind(blamed: &Blamed<'_>) -> Option<Diagnosis> {
@@ -22,33 +22,25 @@ pub fn broken_kind(blamed: &Blamed<'_>) -> Option<Diagnosis> {
     }
     let place = fault(blamed.dialect, kind, text).unwrap_or(0);
     let found = match kind.lengths() {
-        Some(_) => counted(string_length(blamed.dialect, text), "byte"),
+        Some(_) => counted(unescaped(text).len(), "byte"),
         None if kind == Kind::Key => counted(text.len(), "hex digit"),
         None if text.is_empty() => "empty".to_string(),
         None => blamed.quote(value.clone()).unwrap_or_else(|| "something else".to_string()),
     };
     let message = message_of(blamed.dialect, kind, text);
     Some(Diagnosis {
-        discreet: discreet(blamed.dialect, kind, text).filter(|_| blamed.is_hidden(value.clone())),
+        discreet: discreet(kind, text).filter(|_| blamed.is_hidden(value.clone())),
         ..named(message)?.with("found", found).at(value.start + place)
     })
 }
 
 /// What is wrong with the length of a text or key, without telling it.
-fn discreet(dialect: Dialect, kind: Kind, text: &[u8]) -> Option<&'static str> {
+fn discreet(kind: Kind, text: &[u8]) -> Option<&'static str> {
     match kind.lengths() {
-        Some((least, _)) if string_length(dialect, text) < least => Some("too few bytes"),
+        Some((least, _)) if unescaped(text).len() < least => Some("too few bytes"),
         Some(_) => Some("too many bytes"),
         None if kind == Kind::Key && text.len() < 64 => Some("too few hex digits"),
         None => (kind == Kind::Key).then_some("too many hex digits"),
-    }
-}
-
-/// How many bytes a string has, after unescaping.
-fn string_length(dialect: Dialect, text: &[u8]) -> usize {
-    match dialect {
-        Dialect::Iwd => unescaped(text).len(),
-        Dialect::Connman => text.len(),
     }
 }
 

@@ -1,14 +1,14 @@
 //! Refusal 11: where a value's text is broken.
 
 use super::{Blamed, Diagnosis};
-use crate::catalogue::Dialect;
+use crate::escapes::bad_escape;
 use crate::messages::Message;
 
 /// The first of the things that break the text.
 pub fn broken_text(blamed: &Blamed<'_>) -> Option<Diagnosis> {
     let (key, value) = blamed.setting()?;
     let text = blamed.line.get(value.clone())?;
-    let is_iwd_string = blamed.dialect == Dialect::Iwd && blamed.kind()?.lengths().is_some();
+    let is_string = blamed.kind()?.lengths().is_some();
     let broken = [
         (
             std::str::from_utf8(text).err().map(|error| error.valid_up_to()),
@@ -16,7 +16,7 @@ pub fn broken_text(blamed: &Blamed<'_>) -> Option<Diagnosis> {
         ),
         (text.iter().position(|byte| *byte == 0), Message::TextZero),
         (text.iter().position(|byte| *byte == b'\r'), Message::TextReturn),
-        (bad_escape(text).filter(|_| is_iwd_string), Message::TextEscape),
+        (bad_escape(text).filter(|_| is_string), Message::TextEscape),
     ];
     let (place, message) = broken
         .into_iter()
@@ -24,19 +24,4 @@ pub fn broken_text(blamed: &Blamed<'_>) -> Option<Diagnosis> {
         .min_by_key(|(place, _)| *place)?;
     let found = Diagnosis::new(message).with("key", blamed.word(key)?);
     Some(found.at(value.start + place))
-}
-
-/// The first backslash that begins none of iwd's escapes.
-fn bad_escape(text: &[u8]) -> Option<usize> {
-    let mut place = 0;
-    while let Some(byte) = text.get(place) {
-        if *byte != b'\\' {
-            place += 1;
-        } else if text.get(place + 1).is_some_and(|next| b"strn\\".contains(next)) {
-            place += 2;
-        } else {
-            return Some(place);
-        }
-    }
-    None
 }

@@ -2,6 +2,7 @@
 
 use super::words::{is_telling_key, leading_word, mentions_secret};
 use crate::catalogue::{all_keys, kind_anywhere, Kind};
+use crate::escapes::{meant, unescaped};
 use crate::hex::encoded;
 use crate::layout::{is_blank, lines, trimmed};
 
@@ -10,8 +11,9 @@ const LEAST: usize = 6;
 
 /// The texts of a file that could be a passphrase or a key, also without their escapes and in hex.
 pub fn secrets_of(file: &[u8]) -> Vec<Vec<u8>> {
-    let texts = lines(file).flat_map(|line| secret_in(line).into_iter().chain(swallowed_in(line)));
-    let mut found: Vec<Vec<u8>> = texts.flat_map(forms).collect();
+    let secrets = lines(file).filter_map(secret_in).flat_map(forms);
+    let swallowed = lines(file).filter_map(string_of).flat_map(swallowed_in);
+    let mut found: Vec<Vec<u8>> = secrets.chain(swallowed).collect();
     found.sort();
     found.dedup();
     found
@@ -31,10 +33,12 @@ fn secret_in(line: &[u8]) -> Option<&[u8]> {
     Some(trimmed(text).strip_suffix(b"\r").unwrap_or(trimmed(text)))
 }
 
-/// The texts of a line whose string seems to have swallowed a secret: all of the string, and what stands behind the key in it.
-fn swallowed_in(line: &[u8]) -> impl Iterator<Item = &[u8]> {
-    let found = string_of(line).and_then(|value| Some((value, swallowed_secret(value)?)));
-    found.into_iter().flat_map(|(value, behind)| [value, behind])
+/// The forms of a string that seems to have swallowed a secret, as it stands or as it is meant: those of all of it, and those of what
+/// stands behind the key in it.
+fn swallowed_in(value: &[u8]) -> Vec<Vec<u8>> {
+    let meant = unescaped(value);
+    let telling = [value, &meant].into_iter().filter_map(|text| Some([text, swallowed_secret(text)?]));
+    telling.flatten().flat_map(forms).collect()
 }
 
 /// The value of a line whose key takes a text.
@@ -75,53 +79,35 @@ fn equals(text: &[u8]) -> impl Iterator<Item = usize> + '_ {
     numbered.filter(|(_, byte)| **byte == b'=').map(|(place, _)| place)
 }
 
-/// A text as it may stand elsewhere: in either case, with escapes and without, and in hex.
+/// A text as it may stand elsewhere: as it stands here and as it is meant, with its blanks and without, and in hex; all in either case.
 fn forms(text: &[u8]) -> Vec<Vec<u8>> {
     let plain = unescaped(text);
-    let hex = encoded(&plain);
     let all = [
         text.to_vec(),
-        text.to_ascii_lowercase(),
-        text.to_ascii_uppercase(),
-        escaped(text),
-        plain,
-        hex.to_uppercase().into_bytes(),
-        hex.into_bytes(),
+        plain.to_vec(),
+        trimmed(&plain).to_vec(),
+        encoded(&plain).into_bytes(),
     ];
-    all.into_iter().filter(|form| form.len() >= LEAST).collect()
+    let cases = all
+        .iter()
+        .flat_map(|form| [form.clone(), form.to_ascii_lowercase(), form.to_ascii_uppercase()]);
+    cases.filter(|form| form.len() >= LEAST).collect()
 }
 
-/// A text with its backslashes escaped, as iwd has them.
-fn escaped(text: &[u8]) -> Vec<u8> {
-    let double = |byte: &u8| if *byte == b'\\' { b"\\\\".to_vec() } else { vec![*byte] };
-    text.iter().flat_map(double).collect()
-}
-
-/// A text with iwd's escapes read; a backslash that begins none stays.
-pub fn unescaped(text: &[u8]) -> Vec<u8> {
-    let mut found = Vec::with_capacity(text.len());
-    let mut rest = text;
-    while let [first, behind @ ..] = rest {
-        let escape = match (first, behind.first()) {
-            (b'\\', Some(b's')) => Some(b' '),
-            (b'\\', Some(b't')) => Some(b'\t'),
-            (b'\\', Some(b'r')) => Some(b'\r'),
-            (b'\\', Some(b'n')) => Some(b'\n'),
-            (b'\\', Some(b'\\')) => Some(b'\\'),
-            _ => None,
-        };
-        found.push(escape.unwrap_or(*first));
-        rest = if escape.is_some() { &behind[1..] } else { behind };
-    }
-    found
-}
-
-/// Marks the bytes of each secret that stands in these bytes.
+/// Marks the bytes of each secret that stands in these bytes, or that they mean with their escapes.
 pub fn mark(bytes: &[u8], secrets: &[Vec<u8>], hidden: &mut [bool]) {
+    mark_in(bytes.iter().copied().enumerate(), secrets, hidden);
+    mark_in(meant(bytes), secrets, hidden);
+}
+
+/// Marks each secret in a text whose bytes come with their places: each stands from its own up to the next one's.
+fn mark_in(placed: impl Iterator<Item = (usize, u8)>, secrets: &[Vec<u8>], hidden: &mut [bool]) {
+    let (places, text): (Vec<usize>, Vec<u8>) = placed.unzip();
     for secret in secrets {
-        for (place, window) in bytes.windows(secret.len().max(1)).enumerate() {
+        for (at, window) in text.windows(secret.len().max(1)).enumerate() {
             if window == secret.as_slice() {
-                hidden[place..place + secret.len()].fill(true);
+                let end = places.get(at + secret.len()).copied().unwrap_or(hidden.len());
+                hidden[places[at]..end].fill(true);
             }
         }
     }

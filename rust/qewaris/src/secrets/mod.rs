@@ -10,9 +10,10 @@ mod known;
 mod tests;
 mod words;
 
-pub use known::{mark, secrets_of, swallowed, swallowed_secret, unescaped};
+pub use known::{mark, secrets_of, swallowed, swallowed_secret};
 
 use crate::catalogue::{keys_of, kind_anywhere, Dialect, Kind};
+use crate::escapes::unescaped;
 use crate::layout::{blanks, is_blank, line, lines, trimmed};
 pub use words::nearest;
 use words::{is_near_group, is_near_key, is_plain_word, leading_word, mentions_secret};
@@ -119,12 +120,17 @@ fn may_be_shown(kind: Kind, value: &[u8]) -> bool {
     match kind {
         Kind::Passphrase | Kind::Key => false,
         Kind::Security => value.len() < 8 || words::is_security(value),
-        _ if mentions_secret(value) || swallowed_secret(value).is_some() => false,
+        _ if is_telling(value) || is_telling(&unescaped(value)) => false,
         _ if kind.is_free() || value.len() < 8 => true,
         Kind::Type | Kind::Ipv6 | Kind::Privacy => words::is_near(value, kind.words().iter().copied()),
         Kind::Mac => is_pairs(value),
         _ => is_numbers(value),
     }
+}
+
+/// Whether a value tells of a secret or seems to have swallowed one.
+fn is_telling(value: &[u8]) -> bool {
+    mentions_secret(value) || swallowed_secret(value).is_some()
 }
 
 /// Whether a value looks like a MAC address: pairs of hex digits with something between, or almost.

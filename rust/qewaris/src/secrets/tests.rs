@@ -104,8 +104,32 @@ fn a_secret_is_hidden_where_else_it_stands() {
     assert_eq!(shown(file, 4), "Domain = ..................0");
     let file = format!("# key: {KEY}\n[IPv4]\nDomainName={}\n", KEY.to_uppercase());
     assert_eq!(shown(file.as_bytes(), 3), format!("DomainName={}", ".".repeat(64)));
-    let file = b"[Security]\nPassphrase=low\\\\tide 88\n[IPv4]\nDomainName=low\\tide 88\n";
-    assert_eq!(shown(file, 4), "DomainName=...........");
+}
+
+/// A passphrase, a domain in the same file, and what is shown of that.
+const SPELLED: &[(&str, &str, &str)] = &[
+    ("low\\\\tide 88", "low\\\\tide 88", "............"),
+    ("low\\\\tide 88", "see low\\tide 88", "see ..........."),
+    ("low\\tide 88", "a low\tide 88 b", "a .......... b"),
+    ("low\tide 88", "a low\\tide 88 b", "a ........... b"),
+    ("low tide 88", "low\\stide\\s88\\q", ".............\\q"),
+    ("low\\n\\tide", "low\\n\tide", "........."),
+    ("\\slow tide\\s", "low tide", "........"),
+    ("\\slow tide", "\\slow tide", ".........."),
+    ("low\\tide 88", "LOW\tIDE 88", ".........."),
+    ("low\\tide 88", "6C6F770969646520383800", "....................00"),
+];
+
+#[test]
+fn a_secret_is_hidden_however_its_bytes_are_spelled() {
+    for (passphrase, domain, expected) in SPELLED {
+        let file = format!("[service_a]\nPassphrase = {passphrase}\nDomain = {domain}\n");
+        assert_eq!(
+            shown(file.as_bytes(), 3),
+            format!("Domain = {expected}"),
+            "{passphrase} and {domain}"
+        );
+    }
 }
 
 #[test]
@@ -127,6 +151,13 @@ fn a_string_that_swallowed_the_next_line_is_hidden() {
         (Some("IPv4"), Some(&b"off"[..]))
     );
     assert_eq!((swallowed(b"a = b"), swallowed(b"Desk Hidden")), (None, None));
+    assert_eq!(
+        shown(b"Name = Desk\\tpin=4711 4711", 1),
+        "Name = ...................",
+        "as it is meant"
+    );
+    let file = b"[service_a]\nName = Desk\\tpin=lowtide88\nDomain = lowtide88\n";
+    assert_eq!(shown(file, 3), "Domain = .........");
     assert_eq!(
         (swallowed(b"Pasphrase = b"), swallowed_secret(b"Pasphrase = b")),
         (None, Some(&b"b"[..]))

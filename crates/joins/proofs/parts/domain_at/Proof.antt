@@ -14,4 +14,4 @@ domain-at-spec =
     (tie.spec
     (λ c κs. search needs)
     (λ c κs. search needs)
-    (λ c. c .read-domain .ensures ∙ ap (λ (s : List ℕ). domainAnswer (string (c .before .before .before .args .d) 1 253 s)) (c .before .value-of .ensures)))
+    (λ c. c .read-domain .ensures ∙ ap (λ (s : List ℕ). domainAnswer (string 1 253 s)) (c .before .value-of .ensures)))

@@ -1,6 +1,7 @@
 -- Too short, too long, or of its kind.
-use Rattle.joins.proofs.Sizing.{size-fits, domain-under, domain-over, domain-is}
-use Rattle.escapes.specs.Strings.{stringOf}
+use Rattle.escapes.specs.Escapes.{unescape}
+use Rattle.joins.specs.Answers.{domainAnswer}
+use Rattle.joins.proofs.Sizing.{size-fits, string-under, string-over, string-inside, domain-is}
 use borrow.Author.Needs.{needs}
 use Rattle.joins.proofs.parts.domain_of.Statement.{statement}
 use Rattle.joins.proofs.parts.domain_of.Tie as tie
@@ -10,8 +11,8 @@ domain-of-spec =
     tie.close
     (tie.spec
     (λ c κs. search needs)
-    (λ c. domain-under (c .before .before .before .args .d) (c .before .before .before .args .s .now) (c .no-domain .ensures) (c .before .before .before .pre) (c .before .if1 .taken))
+    (λ c. string-under domainAnswer 1 253 (c .before .before .before .args .s .now) (c .before .before .before .pre) (c .no-domain .ensures) (c .before .if1 .taken))
     (λ c κs. search needs)
-    (λ c. domain-over (c .before .before .before .before .args .d) (c .before .before .before .before .args .s .now) (c .no-domain2 .ensures) (c .before .before .before .before .pre) (c .before .if2 .taken))
-    (λ c κs. size-fits 253 (stringOf (c .before .before .before .args .d) (c .before .before .before .args .s .now)) (c .before .before .before .pre) (c .if2 .left))
-    (λ c. domain-is (c .before .before .before .before .args .d) (c .before .before .before .before .args .s .now) (c .before .before .before .before .pre) (c .before .before .if1 .left) (c .before .if2 .left) (c .string-253 .ensures)))
+    (λ c. string-over domainAnswer 1 253 (c .before .before .before .before .args .s .now) (c .before .before .before .before .pre) (c .no-domain2 .ensures) (c .before .if2 .taken))
+    (λ c κs. size-fits 253 (unescape (c .before .before .before .args .s .now)) (c .before .before .before .pre) (c .if2 .left))
+    (λ c. string-inside domainAnswer 1 253 (c .before .before .before .before .args .s .now) (c .before .before .before .before .pre) (c .before .before .if1 .left) (c .before .if2 .left) (domain-is (unescape (c .before .before .before .before .args .s .now)) (c .before .before .before .before .pre) (c .string-253 .ensures))))

@@ -2,7 +2,6 @@
 use Prim.Native.Nat.{ℕ}
 use mathlib.Core.List.{List}
 use mathlib.Core.Path.{ap, _∙_}
-use Rattle.text.specs.declared.Dialect.the-variants.{Iwd}
 use Rattle.hex_values.specs.HexValues.{preSharedKey}
 use Rattle.kinds.specs.Kinds.{passphrase}
 use Rattle.places.specs.KeySlots.{bytesOf}
@@ -22,4 +21,4 @@ iwd-login-spec =
     (λ c κs. search needs)
     (λ c κs. key-in N.PreSharedKey (c .before .before .before .pre))
     (λ c κs. search needs)
-    (λ c. login-is (passphrase Iwd (bytesOf (c .before .before .before .before .before .args .file .now) (c .before .before .before .before .before .args .x .now) (c .before .before .before .before .before .args .row) N.IwdPassphrase)) (preSharedKey (bytesOf (c .before .before .before .before .before .args .file .now) (c .before .before .before .before .before .args .x .now) (c .before .before .before .before .before .args .row) N.PreSharedKey)) (c .before .before .read-phrase .ensures ∙ ap (λ (s : List ℕ). phraseAnswer (passphrase Iwd s)) (c .before .before .before .value-of .ensures)) (c .before .key-at .ensures) (c .login-of .ensures)))
+    (λ c. login-is (passphrase (bytesOf (c .before .before .before .before .before .args .file .now) (c .before .before .before .before .before .args .x .now) (c .before .before .before .before .before .args .row) N.IwdPassphrase)) (preSharedKey (bytesOf (c .before .before .before .before .before .args .file .now) (c .before .before .before .before .before .args .x .now) (c .before .before .before .before .before .args .row) N.PreSharedKey)) (c .before .before .read-phrase .ensures ∙ ap (λ (s : List ℕ). phraseAnswer (passphrase s)) (c .before .before .before .value-of .ensures)) (c .before .key-at .ensures) (c .login-of .ensures)))

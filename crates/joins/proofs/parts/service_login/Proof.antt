@@ -3,7 +3,6 @@ use Prim.Native.Nat.{ℕ}
 use mathlib.Core.List.{List}
 use mathlib.Core.Path.{refl, ap, _∙_}
 use mathlib.Core.Option.{none}
-use Rattle.text.specs.declared.Dialect.the-variants.{ConnMan}
 use Rattle.kinds.specs.Kinds.{passphrase}
 use Rattle.places.specs.KeySlots.{bytesOf}
 use Rattle.places.specs.declared.KeyName.the-variants as N
@@ -21,4 +20,4 @@ service-login-spec =
     (λ c κs. key-in N.Passphrase (c .before .pre))
     (λ c κs. search needs)
     (λ c κs. search needs)
-    (λ c. login-is (passphrase ConnMan (bytesOf (c .before .before .before .before .args .file .now) (c .before .before .before .before .args .x .now) (c .before .before .before .before .args .row) N.Passphrase)) none (c .before .read-phrase .ensures ∙ ap (λ (s : List ℕ). phraseAnswer (passphrase ConnMan s)) (c .before .before .value-of .ensures)) refl (c .login-of .ensures)))
+    (λ c. login-is (passphrase (bytesOf (c .before .before .before .before .args .file .now) (c .before .before .before .before .args .x .now) (c .before .before .before .before .args .row) N.Passphrase)) none (c .before .read-phrase .ensures ∙ ap (λ (s : List ℕ). phraseAnswer (passphrase s)) (c .before .before .value-of .ensures)) refl (c .login-of .ensures)))

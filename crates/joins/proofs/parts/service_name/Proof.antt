@@ -2,7 +2,6 @@
 use Prim.Native.Nat.{ℕ}
 use mathlib.Core.List.{List}
 use mathlib.Core.Path.{ap, ap₂, _∙_}
-use Rattle.text.specs.declared.Dialect.the-variants.{ConnMan}
 use Rattle.kinds.specs.Kinds.{string}
 use Rattle.hex_values.specs.Answers.{ssidAnswer}
 use Rattle.places.specs.declared.KeyName.the-variants as N
@@ -20,4 +19,4 @@ service-name-spec =
     (λ c κs. key-in N.Name (c .before .before .pre))
     (λ c κs. search needs)
     (λ c κs. search needs)
-    (λ c. c .name-of .ensures ∙ ap₂ nameRead (c .before .before .before .ssid-at .ensures) (c .before .read-name .ensures ∙ ap (λ (s : List ℕ). ssidAnswer (string ConnMan 1 32 s)) (c .before .before .value-of .ensures))))
+    (λ c. c .name-of .ensures ∙ ap₂ nameRead (c .before .before .before .ssid-at .ensures) (c .before .read-name .ensures ∙ ap (λ (s : List ℕ). ssidAnswer (string 1 32 s)) (c .before .before .value-of .ensures))))

@@ -28,7 +28,7 @@ impl Generated {
 }
 
 /// The lines that a secret is put into, the passphrase in place of `%` and the key of `$`; what is behind `|` stands on the next line.
-const PLACES: [&str; 70] = [
+const PLACES: [&str; 71] = [
     "Name = Till Passphrase = %",
     "Name = Till Passphrase=%|Security = none",
     "Domain = shop passphrase = %",
@@ -68,6 +68,7 @@ const PLACES: [&str; 70] = [
     "Passphrase = %\u{1}",
     "Passphrase=%%%%%%%%%%",
     "Passphrase=\\s%\\\\",
+    "Passphrase = %\\q",
     "Passphrase.=%",
     "Pass-phrase=%",
     "\u{feff}Passphrase=%",
@@ -194,13 +195,15 @@ fn core(random: &mut Random) -> String {
 
 /// The text with something around it, as passphrases have.
 fn wrapped(random: &mut Random, core: &str) -> String {
-    match random.below(9) {
+    match random.below(11) {
         0 => format!("{core} and more"),
         1 => format!("two words {core}"),
         2 => format!("\"{core}\""),
         3 => format!("{core}=88"),
         4 => format!("caf\u{e9} {core}"),
         5 => format!("{core}\\\\x"),
+        6 => format!("\\s{core}\\s"),
+        7 => format!("low\\t{core}\\n8"),
         _ => core.to_string(),
     }
 }
