@@ -11,6 +11,7 @@ use Rattle.text.specs.Options.{isSome, sized, orEmpty, ReadsUpTo}
 use Rattle.text.specs.Laws.{inside, under, over}
 use Rattle.escapes.specs.Escapes.{unescape}
 use Rattle.escapes.specs.Answers.{sizeOf}
+use Rattle.escapes.specs.declared.Size.{Size}
 use Rattle.escapes.specs.declared.Size.the-variants.{Long, Broken}
 use Rattle.kinds.specs.Kinds.{string}
 use Rattle.hex_values.specs.Answers.{ssidAnswer}
@@ -43,9 +44,9 @@ sized-broken : (low high : ℕ) (o : Option (List ℕ)) → sizeOf o ≡ Broken 
 sized-broken low high none e = refl
 sized-broken low high (some t) e = long-broken e
 
-pub size-fits : (high : ℕ) (o : Option (List ℕ)) {n : ℕ} → sizeOf o ≡ Long n → n ≤ high → ReadsUpTo high o
-size-fits high none e h = not-long e
-size-fits high (some t) e h = omega (arith, long-is e)
+pub size-fits : (high : ℕ) (o : Option (List ℕ)) {y : Size} {n : ℕ} → y ≡ sizeOf o → y ≡ Long n → n ≤ high → ReadsUpTo high o
+size-fits high none q k h = not-long (sym q ∙ k)
+size-fits high (some t) q k h = omega (arith, long-is (sym q ∙ k))
 
 size-plain : (o : Option (List ℕ)) {n : ℕ} → sizeOf o ≡ Long n → n ≡ length (orEmpty o)
 size-plain none e = not-long e
@@ -55,35 +56,35 @@ size-some : (o : Option (List ℕ)) {n : ℕ} → sizeOf o ≡ Long n → isSome
 size-some none e = not-long e
 size-some (some t) e = refl
 
--- ---- a string of low to high bytes, whatever is answered of it
+-- ---- a string of low to high bytes, whatever is answered of it, by the size y that was found
 
-module _ {R : Type 0} (answer : Option (List ℕ) → R) (low high : ℕ) (s : List ℕ) {r : R} where
-  pub string-broken : r ≡ answer none → sizeOf (unescape s) ≡ Broken → r ≡ answer (string low high s)
+module _ {R : Type 0} (answer : Option (List ℕ) → R) (low high : ℕ) (s : List ℕ) {r : R} {y : Size} (q : y ≡ sizeOf (unescape s)) where
+  pub string-broken : y ≡ Broken → r ≡ answer none → r ≡ answer (string low high s)
   unfolding string
-  string-broken q e = q ∙ ap answer (sym (sized-broken low high (unescape s) e))
+  string-broken k w = w ∙ ap answer (sym (sized-broken low high (unescape s) (sym q ∙ k)))
 
-  module _ {n : ℕ} (e : sizeOf (unescape s) ≡ Long n) where
-    pub string-under : r ≡ answer none → n < low → r ≡ answer (string low high s)
+  module _ {n : ℕ} (k : y ≡ Long n) where
+    pub string-under : n < low → r ≡ answer none → r ≡ answer (string low high s)
     unfolding string
-    string-under q h = q ∙ ap answer (sym (sized-under low high (unescape s) e h))
+    string-under h w = w ∙ ap answer (sym (sized-under low high (unescape s) (sym q ∙ k) h))
 
-    pub string-over : r ≡ answer none → high < n → r ≡ answer (string low high s)
+    pub string-over : high < n → r ≡ answer none → r ≡ answer (string low high s)
     unfolding string
-    string-over q h = q ∙ ap answer (sym (sized-over low high (unescape s) e h))
+    string-over h w = w ∙ ap answer (sym (sized-over low high (unescape s) (sym q ∙ k) h))
 
     pub string-inside : low ≤ n → n ≤ high → r ≡ answer (unescape s) → r ≡ answer (string low high s)
     unfolding string
-    string-inside h g q = q ∙ ap answer (sym (sized-inside low high (unescape s) e h g))
+    string-inside h g w = w ∙ ap answer (sym (sized-inside low high (unescape s) (sym q ∙ k) h g))
 
 -- ---- and what is answered of one that is inside
 
-module _ (o : Option (List ℕ)) {b : List ℕ} {n : ℕ} (e : sizeOf o ≡ Long n) where
+module _ (o : Option (List ℕ)) {b : List ℕ} {y : Size} {n : ℕ} (q : y ≡ sizeOf o) (k : y ≡ Long n) where
   pub phrase-is : b ≡ padded 63 (orEmpty o) → record { ok = true; length = n; bytes = b } ≡ phraseAnswer o
-  phrase-is q = rw (q, size-some o e, size-plain o e)
+  phrase-is w = rw (w, size-some o (sym q ∙ k), size-plain o (sym q ∙ k))
 
   pub domain-is : b ≡ padded 253 (orEmpty o) → record { length = n; bytes = b } ≡ domainAnswer o
-  domain-is q = rw (q, size-plain o e)
+  domain-is w = rw (w, size-plain o (sym q ∙ k))
 
-pub ssid-is : (o : Option (List ℕ)) {b : List ℕ} {n : ℕ} → sizeOf o ≡ Long n → b ≡ padded 32 (orEmpty o) → record { ok = true; length = n; bytes = b } ≡ ssidAnswer o
-ssid-is none e q = not-long e
-ssid-is (some t) e q = rw (q, sym (long-is e))
+pub ssid-is : (o : Option (List ℕ)) {b : List ℕ} {y : Size} {n : ℕ} → y ≡ sizeOf o → y ≡ Long n → b ≡ padded 32 (orEmpty o) → record { ok = true; length = n; bytes = b } ≡ ssidAnswer o
+ssid-is none q k w = not-long (sym q ∙ k)
+ssid-is (some t) q k w = rw (w, sym (long-is (sym q ∙ k)))

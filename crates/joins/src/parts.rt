@@ -2,8 +2,6 @@
 ghost use mathlib.Core.Path.{_≡_};
 ghost use mathlib.Core.Option.{none};
 ghost use Prim.Native.Nat.{_<_};
-ghost use Rattle.escapes.specs.Escapes.{unescape};
-ghost use Rattle.escapes.specs.Answers.{sizeOf};
 ghost use Rattle.kinds.specs.Kinds.{string, passphrase};
 ghost use Rattle.hex_values.specs.Answers.{ssidAnswer};
 ghost use Rattle.places.specs.KeySlots.{RowInTable, ValueInFile};
@@ -44,11 +42,14 @@ fn no_phrase() -> Phrase
     }
 }
 
-// The passphrase s, which has n bytes once unescaped.
-fn phrase_of(s: &[u8], n: usize) -> Phrase
-    requires { ⌜ sizeOf (unescape (now s)) ≡ Size.Long n ⌝ }
+// The passphrase that the string s gives, if it has 8 to 63 bytes once unescaped.
+fn read_phrase(s: &[u8]) -> Phrase
     ensures { λ r. ⌜ r ≡ phraseAnswer (passphrase (now (s .entry))) ⌝ }
 {
+    let size = escapes::string_len(s);
+    let Size::Long(n) = size else {
+        return no_phrase();
+    };
     if n < 8 {
         return no_phrase();
     }
@@ -63,16 +64,6 @@ fn phrase_of(s: &[u8], n: usize) -> Phrase
     }
 }
 
-fn read_phrase(s: &[u8]) -> Phrase
-    ensures { λ r. ⌜ r ≡ phraseAnswer (passphrase (now (s .entry))) ⌝ }
-{
-    let size = escapes::string_len(s);
-    match size {
-        Size::Long(n) => phrase_of(s, n),
-        Size::Broken => no_phrase(),
-    }
-}
-
 fn no_domain() -> Domain
     ensures { λ r. ⌜ r ≡ domainAnswer none ⌝ }
 {
@@ -82,11 +73,14 @@ fn no_domain() -> Domain
     }
 }
 
-// The domain s, which has n bytes once unescaped.
-fn domain_of(s: &[u8], n: usize) -> Domain
-    requires { ⌜ sizeOf (unescape (now s)) ≡ Size.Long n ⌝ }
+// The domain that the string s gives, if it has 1 to 253.
+fn read_domain(s: &[u8]) -> Domain
     ensures { λ r. ⌜ r ≡ domainAnswer (string 1 253 (now (s .entry))) ⌝ }
 {
+    let size = escapes::string_len(s);
+    let Size::Long(n) = size else {
+        return no_domain();
+    };
     if n < 1 {
         return no_domain();
     }
@@ -95,16 +89,6 @@ fn domain_of(s: &[u8], n: usize) -> Domain
     }
     let bytes = escapes::string_253(s);
     Domain { length: n, bytes }
-}
-
-fn read_domain(s: &[u8]) -> Domain
-    ensures { λ r. ⌜ r ≡ domainAnswer (string 1 253 (now (s .entry))) ⌝ }
-{
-    let size = escapes::string_len(s);
-    match size {
-        Size::Long(n) => domain_of(s, n),
-        Size::Broken => no_domain(),
-    }
 }
 
 fn no_ssid() -> Ssid
@@ -117,11 +101,14 @@ fn no_ssid() -> Ssid
     }
 }
 
-// The network name that a Name s gives, which has n bytes once unescaped.
-fn ssid_of(s: &[u8], n: usize) -> Ssid
-    requires { ⌜ sizeOf (unescape (now s)) ≡ Size.Long n ⌝ }
+// The network name that the string s gives, if it has 1 to 32.
+fn read_name(s: &[u8]) -> Ssid
     ensures { λ r. ⌜ r ≡ ssidAnswer (string 1 32 (now (s .entry))) ⌝ }
 {
+    let size = escapes::string_len(s);
+    let Size::Long(n) = size else {
+        return no_ssid();
+    };
     if n < 1 {
         return no_ssid();
     }
@@ -133,16 +120,6 @@ fn ssid_of(s: &[u8], n: usize) -> Ssid
         ok: true,
         length: n,
         bytes,
-    }
-}
-
-fn read_name(s: &[u8]) -> Ssid
-    ensures { λ r. ⌜ r ≡ ssidAnswer (string 1 32 (now (s .entry))) ⌝ }
-{
-    let size = escapes::string_len(s);
-    match size {
-        Size::Long(n) => ssid_of(s, n),
-        Size::Broken => no_ssid(),
     }
 }
 
