@@ -4,13 +4,14 @@ use Prim.Native.Nat.{ℕ, suc, _≤_}
 use mathlib.Core.Path.{_≡_}
 use mathlib.Core.Bool.{true, false}
 use mathlib.Core.List.{List, _∷_, _++_}
-use mathlib.Core.Option.{none, some}
+use mathlib.Core.Option.{some}
 use lib.ListN.{length}
 use Rattle.text.specs.Parts.{lines}
 use Rattle.text.specs.Words.{word}
+use Rattle.text.specs.Relations.{Sized}
 use Rattle.text.specs.declared.Dialect.{Dialect}
 use Rattle.utf8.specs.Utf8.{valueText}
-use Rattle.escapes.specs.Escapes.{unescape}
+use Rattle.escapes.specs.StringRules.{Unescaped}
 use Rattle.lines.specs.Lines.{setting, lineOf}
 use Rattle.kinds.specs.Kinds as K
 use Rattle.rules.specs.Sections.{Entry}
@@ -22,11 +23,11 @@ use Rattle.joins.specs.Joins.{needsKey}
 
 -- ---- a faulty Passphrase line
 
--- broken text, a bad escape, or not 8 to 63 bytes once unescaped
+-- broken text, a bad escape, or not 8 to 63 bytes once unescaped, by the rules as they are said of the bytes
 pub data NoPassphrase (v : List ℕ) : Type 0 where
   broken-text : valueText v ≡ false → NoPassphrase v
-  bad-escape : unescape v ≡ none → NoPassphrase v
-  wrong-size : K.passphrase v ≡ none → NoPassphrase v
+  bad-escape : ((t : List ℕ) → Unescaped v t → ⊥) → NoPassphrase v
+  wrong-size : {t : List ℕ} → Unescaped v t → (Sized 8 63 t → ⊥) → NoPassphrase v
 
 -- line n of a file
 pub record LineAt (file : List ℕ) (n : ℕ) (l : List ℕ) : Type 0 where

@@ -11,10 +11,14 @@ use lib.ListN.{length}
 use Rattle.text.specs.Parts.{lines}
 use Rattle.text.specs.Words.{word}
 use Rattle.text.specs.Options.{mapped}
+use Rattle.text.specs.Relations.{Sized}
+use Rattle.text.specs.OptionLaws.{sized-is}
 use Rattle.text.specs.declared.Dialect.{Dialect}
 use Rattle.text.specs.declared.Dialect.the-variants as D
 use Rattle.utf8.specs.Utf8.{valueText}
 use Rattle.escapes.specs.Escapes.{unescape}
+use Rattle.escapes.specs.StringRules.{Unescaped}
+use Rattle.escapes.specs.StringRuleLaws.{unescape-is, is-unescape}
 use Rattle.lines.specs.Lines.{setting, lineOf}
 use Rattle.hex_values.specs.HexValues as HexValues
 use Rattle.kinds.specs.Kinds as K
@@ -50,10 +54,14 @@ passphrase-kind Ipv6 {k} e = absurd (Option·none-ne-some k e)
 passphrase-kind Global {k} e = absurd (Option·none-ne-some k e)
 passphrase-kind Service {k} e = sym (Option·some-injective Kind.Passphrase k e)
 
--- nothing of 8 to 63 bytes is read, as where an escape is bad
-no-string : (v : List ℕ) → unescape v ≡ none → K.passphrase v ≡ none
+-- what the text does not stand for is not read
+no-string : (v : List ℕ) → ((t : List ℕ) → Unescaped v t → Sized 8 63 t → ⊥) → K.passphrase v ≡ none
 unfolding K.string
-no-string v q = rw q
+no-string v n = go (K.passphrase v) refl
+  where
+    go : (o : Option (List ℕ)) → K.passphrase v ≡ o → o ≡ none
+    go none q = refl
+    go (some t) q = let s = sized-is 8 63 (unescape v) q in absurd (n t (unescape-is v (s .1)) (s .0))
 
 unread-faulty : (d : Dialect) (v : List ℕ) → K.passphrase v ≡ none → valueFault (judged d Kind.Passphrase v) ≡ none → ⊥
 unfolding judged kindJudged typed
@@ -69,8 +77,9 @@ unread-faulty d v q = go (valueText v) (stringBroken Kind.Passphrase v) (K.passp
 value-faulty : (d : Dialect) (v : List ℕ) → NoPassphrase v → valueFault (judged d Kind.Passphrase v) ≡ none → ⊥
 unfolding judged
 value-faulty d v (broken-text q) = rw q (λ e. Option·none-ne-some ValueText (sym e))
-value-faulty d v (bad-escape q) = unread-faulty d v (no-string v q)
-value-faulty d v (wrong-size q) = unread-faulty d v q
+value-faulty d v (bad-escape n) = unread-faulty d v (no-string v (λ t u z. n t u))
+value-faulty d v (wrong-size {t} u n) =
+    unread-faulty d v (no-string v (λ x y z. n (subst (Sized 8 63) (Option·some-injective x t (sym (is-unescape y) ∙ is-unescape u)) z)))
 
 key-faulty : (d : Dialect) (v : List ℕ) → NoPassphrase v → (g : Group) (o : Option Kind) (es : List Entry) →
     kindOf g (word "Passphrase") ≡ o → keyFault d (word "Passphrase") v o es ≡ none → ⊥
