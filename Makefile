@@ -19,7 +19,7 @@ FISHDIR ?= $(PREFIX)/share/fish/vendor_completions.d
 
 # The archive that the command was linked with, and the shared library that is made of it.
 ARCHIVE = $(or $(QEWARIS_LIB_DIR),target/staticlib)/libqewaris.a
-SHARED = target/package/libqewaris.so.1
+SHARED = target/package/libqewaris.so.2
 COMMAND = rust/target/release/qewaris
 
 # What the file for pkg-config says: paths behind its own prefix, which is another one where the files can be put anywhere.
@@ -39,8 +39,8 @@ install: all
 	install -m 755 -s "$(COMMAND)" "$(DESTDIR)$(BINDIR)/qewaris"
 	install -m 644 "$(ARCHIVE)" "$(DESTDIR)$(LIBDIR)/libqewaris.a"
 	strip --strip-debug --enable-deterministic-archives "$(DESTDIR)$(LIBDIR)/libqewaris.a"
-	install -m 644 "$(SHARED)" "$(DESTDIR)$(LIBDIR)/libqewaris.so.1"
-	ln -sf libqewaris.so.1 "$(DESTDIR)$(LIBDIR)/libqewaris.so"
+	install -m 644 "$(SHARED)" "$(DESTDIR)$(LIBDIR)/libqewaris.so.2"
+	ln -sf libqewaris.so.2 "$(DESTDIR)$(LIBDIR)/libqewaris.so"
 	sed -e 's|@LIBDIR@|$(LIBDIR)|; s|@INCLUDEDIR@|$(INCLUDEDIR)|' -e 's|=$(PREFIX)/|=$${prefix}/|' \
 	    -e 's|@PREFIX@|$(PC_PREFIX)|; s|@VERSION@|$(VERSION)|' packaging/qewaris.pc.in >"$(DESTDIR)$(LIBDIR)/pkgconfig/qewaris.pc"
 	chmod 644 "$(DESTDIR)$(LIBDIR)/pkgconfig/qewaris.pc"
@@ -52,7 +52,7 @@ install: all
 
 uninstall:
 	rm -f "$(DESTDIR)$(BINDIR)/qewaris" "$(DESTDIR)$(INCLUDEDIR)/qewaris.h" "$(DESTDIR)$(MANDIR)/man1/qewaris.1"
-	rm -f "$(DESTDIR)$(LIBDIR)/libqewaris.a" "$(DESTDIR)$(LIBDIR)/libqewaris.so.1" "$(DESTDIR)$(LIBDIR)/libqewaris.so"
+	rm -f "$(DESTDIR)$(LIBDIR)/libqewaris.a" "$(DESTDIR)$(LIBDIR)/libqewaris.so.2" "$(DESTDIR)$(LIBDIR)/libqewaris.so"
 	rm -f "$(DESTDIR)$(LIBDIR)/pkgconfig/qewaris.pc" "$(DESTDIR)$(BASHDIR)/qewaris"
 	rm -f "$(DESTDIR)$(ZSHDIR)/_qewaris" "$(DESTDIR)$(FISHDIR)/qewaris.fish"
 

@@ -1,5 +1,6 @@
-"""Makes the files that are measured. The same bytes every time: document 01's two worked files, and larger ones of which
-each has a stated size and number of settings. `python3 inputs.py FOLDER` writes them into a folder."""
+"""Makes the files that are measured. The same bytes every time: document 01's two worked files, with and without a static IPv6,
+larger ones of which each has a stated size and number of settings, and one for each address that is read and written beside
+glibc. `python3 inputs.py FOLDER` writes them into a folder."""
 
 import os
 import sys
@@ -31,6 +32,13 @@ DNS=10.20.0.2 10.20.0.3
 [IPv6]
 Enabled=false
 """
+
+# The same with an address in place of `off`.
+SHOP_SIX = SHOP.replace("IPv6 = off", "IPv6 = 2001:db8:0:14::20/64/2001:db8:0:14::1")
+DESK_SIX = DESK.replace("Enabled=false", "Address=2001:db8:0:14::20/64\nGateway=2001:db8:0:14::1")
+
+# Addresses that are read and written beside glibc: short, in full, of one group, and with a dotted tail.
+ADDRESSES = ("2001:db8::1", "2001:db8:85a3:8d3:1319:8a2e:370:7348", "::1", "::ffff:129.144.52.38")
 
 
 class Input:
@@ -133,7 +141,7 @@ def iwd_blocks(passphrase, domain_name):
         "[IPv4]\nAddress=192.168.104.114\nGateway=192.168.104.101\nBroadcast=192.168.104.255\nNetmask=255.255.255.0\n"
         "DNS=192.168.104.102 192.168.104.103 192.168.104.104 192.168.104.105\n"
         f"DomainName={domain_name}\nSendHostname=true\n",
-        "[IPv6]\nEnabled=false\n",
+        "[IPv6]\nEnabled=true\nAddress=2001:db8:0:104::114/64\nGateway=2001:db8:0:104::101\n",
     ]
 
 
@@ -156,6 +164,8 @@ def inputs():
         Input("shop.config", "document 01's ConnMan file", SHOP),
         Input("full.config", "ConnMan, 8 services, every key, `global`", full_connman()),
         Input("Desk 4.psk", "document 01's iwd file", DESK),
+        Input("six.config", "document 01's ConnMan file, with a static IPv6", SHOP_SIX),
+        Input("Desk 6.psk", "document 01's iwd file, with a static IPv6", DESK_SIX),
         Input("comments.psk", "iwd, every key, mostly comments", iwd(LIMIT)),
         Input("strings.psk", "iwd, every key, long strings with escapes", iwd_strings()),
         Input("size1.psk", "iwd, 1 KiB", iwd(1024)),
@@ -164,6 +174,8 @@ def inputs():
         Input("size4.config", "ConnMan, 4 KiB", services(2, 4096)),
         Input("move.config", "ConnMan, 8 services that can be moved", services(8, LIMIT, MOVABLE)),
     ]
+    for n, address in enumerate(ADDRESSES):
+        made.append(Input(f"address{n}.open", f"iwd, `{address}` twice", f"[IPv6]\nAddress={address}\nGateway={address}\n"))
     for n in range(1, 9):
         made.append(Input(f"grow{n}.config", f"ConnMan, {n} times 2 KiB", services(n, 2048 * n)))
     for n in range(1, 9):

@@ -8,6 +8,22 @@ import sys
 from inputs import inputs
 
 
+def called(path, function):
+    """How often a function was called, and what was counted inside it and all that it calls, as a file of callgrind has it."""
+    calls, cost, callee, times = 0, 0, None, None
+    with open(path, encoding="utf-8") as lines:
+        for line in lines:
+            if line.startswith("cfn="):
+                callee = line[4:].strip()
+            elif line.startswith("calls="):
+                times = int(line[6:].split()[0])
+            elif times is not None:  # the line behind has the cost
+                if callee == function:
+                    calls, cost = calls + times, cost + int(line.split()[-1])
+                times = None
+    return calls, cost
+
+
 def stop(message):
     sys.exit(f"bench: {message}")
 
@@ -67,6 +83,14 @@ class Bench:
             twice = self.collected(program, file, task, 2 * n)
             self.counted[key] = (twice - once) / n
         return self.counted[key]
+
+    def inside(self, program, file, task, function):
+        """Inside a function and all that it calls, for one call of it; none where the compiler has inlined it."""
+        path = os.path.join(self.folder, "inside.out")
+        self.run("valgrind", "--tool=callgrind", "--compress-strings=no", "--compress-pos=no",
+                 f"--callgrind-out-file={path}", self.program(program), "100", self.path(file), task)
+        calls, cost = called(path, function)
+        return cost / calls if calls else None
 
     def time_all(self, works):
         """Times each work, a program with a file and perhaps a task, in several sweeps, so that one busy moment of the

@@ -6,9 +6,10 @@ import re
 import subprocess
 import sys
 
+from inputs import ADDRESSES
 from measure import Bench
 
-WHOLE = ("shop.config", "full.config", "Desk 4.psk", "comments.psk", "strings.psk")
+WHOLE = ("shop.config", "six.config", "full.config", "Desk 4.psk", "Desk 6.psk", "comments.psk", "strings.psk")
 PEERS = ("ell", "glib", "inih")
 TASKS = ("check", "record", "records")
 
@@ -38,6 +39,10 @@ ENTRY_POINTS = (
     ("qewaris_move_service", "move.config"),
 )
 
+# Our functions for an IPv6 address, each with the entry point that it is met through, and glibc's beside it.
+READS = ("ipv6::reading::read_address", "qewaris_check_iwd", "inet_pton")
+WRITES = ("ipv6::writing::put_address", "qewaris_write_iwd", "inet_ntop")
+
 SHOWN = {"ell": "ell", "glib": "GLib", "inih": "inih"}
 
 
@@ -46,7 +51,7 @@ def number(x):
 
 
 def share(ours, peer):
-    return "—" if peer is None else f"{ours / peer:.2f}"
+    return "—" if ours is None or peer is None else f"{ours / peer:.2f}"
 
 
 def is_number(cell):
@@ -191,6 +196,20 @@ def entry_points(bench):
     table(["Function", "File", "Instructions", "Nanoseconds", "Bytes of stack"], rows)
 
 
+def address_cells(bench, file, function, entry_point, peer):
+    ours, theirs = bench.inside("ours", file, entry_point, function), bench.inside("inet", file, peer, peer)
+    return [number(ours), number(theirs), share(ours, theirs)]
+
+
+def addresses(bench):
+    section("IPv6 addresses beside glibc",
+            "Instructions inside our function that reads an address, and inside the one that writes it, with all that they call, "
+            "for one call; beside them glibc's, which write a dotted tail where ours write none.")
+    table(["Address", "Read", "`inet_pton`", "Share", "Write", "`inet_ntop`", "Share"],
+          [[f"`{address}`"] + address_cells(bench, f"address{n}.open", *READS) + address_cells(bench, f"address{n}.open", *WRITES)
+           for n, address in enumerate(ADDRESSES)])
+
+
 def timed_works(bench):
     """Everything of which the time is shown."""
     for file in WHOLE:
@@ -215,6 +234,7 @@ def main():
     sizes(bench)
     services(bench)
     entry_points(bench)
+    addresses(bench)
 
 
 if __name__ == "__main__":

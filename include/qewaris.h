@@ -14,7 +14,8 @@
  * which may be read or, in a buffer, written; nothing else changes them during the call; and a buffer overlaps neither
  * another buffer nor the file nor its name. A file is given whole, under its name without a folder, as "Desk 4.psk".
  *
- * Strings have lengths and no zero byte behind them. Addresses are four bytes, the first written first.
+ * Strings have lengths and no zero byte behind them. An IPv4 address is four bytes and an IPv6 address sixteen, the first written
+ * first.
  */
 #ifndef QEWARIS_H
 #define QEWARIS_H
@@ -35,13 +36,13 @@ uint32_t qewaris_version(void);
 
 /* The layout of the structs. The library has a function whose name ends in its number, and every file that includes this header
  * refers to it, so that a program does not link with a library of another layout. The function answers the number. */
-uint32_t qewaris_layout_1(void);
+uint32_t qewaris_layout_2(void);
 #if defined(__has_attribute) && __has_attribute(retain)
 __attribute__((used, retain))
 #else
 __attribute__((used))
 #endif
-static uint32_t (*const qewaris_layout)(void) = qewaris_layout_1;
+static uint32_t (*const qewaris_layout)(void) = qewaris_layout_2;
 
 /* ---- Answers */
 
@@ -94,7 +95,7 @@ enum { QEWARIS_ABSENT = 0, QEWARIS_NO = 1, QEWARIS_YES = 2 };
 enum { QEWARIS_TYPE_WIFI = 1, QEWARIS_TYPE_ETHERNET = 2 };
 enum { QEWARIS_SECURITY_PSK = 1, QEWARIS_SECURITY_IEEE8021X = 2, QEWARIS_SECURITY_NONE = 3, QEWARIS_SECURITY_WEP = 4 };
 enum { QEWARIS_SETTING_IPV4_DHCP = 1, QEWARIS_SETTING_IPV4_OFF = 2, QEWARIS_SETTING_IPV4_STATIC = 3 };
-enum { QEWARIS_SETTING_IPV6_OFF = 1, QEWARIS_SETTING_IPV6_AUTO = 2 };
+enum { QEWARIS_SETTING_IPV6_AUTO = 1, QEWARIS_SETTING_IPV6_OFF = 2, QEWARIS_SETTING_IPV6_STATIC = 3 };
 enum { QEWARIS_PRIVACY_DISABLED = 1, QEWARIS_PRIVACY_ENABLED = 2, QEWARIS_PRIVACY_PREFERRED = 3 };
 
 /* iwd's group Settings. A yes/no is QEWARIS_ABSENT, _NO or _YES. */
@@ -130,14 +131,24 @@ typedef struct qewaris_iwd_ipv4 {
     uint8_t reserved[7];
 } qewaris_iwd_ipv4;
 
+/* iwd's group IPv6. */
+typedef struct qewaris_iwd_ipv6 {
+    uint8_t enabled;
+    uint8_t has_address;
+    uint8_t address[16];
+    uint8_t prefix_length;        /* of Address, 1 to 128: 128 where it is left off */
+    uint8_t has_gateway;
+    uint8_t gateway[16];
+} qewaris_iwd_ipv6;
+
 /* The settings of an iwd file, by its groups. What is absent is 0; of an address, a MAC or a key `has_..` says whether it is
  * there. A string gives its line, and its bytes are looked up. */
 typedef struct qewaris_iwd_settings {
     size_t line;                  /* of the refusal */
     uint8_t number;
-    uint8_t ipv6_enabled;
     qewaris_iwd_general general;
-    uint8_t reserved[4];
+    qewaris_iwd_ipv6 ipv6;
+    uint8_t reserved[1];
     qewaris_iwd_security security;
     qewaris_iwd_ipv4 ipv4;
 } qewaris_iwd_settings;
@@ -172,14 +183,18 @@ typedef struct qewaris_service_addresses {
     uint8_t nameservers[16];      /* four bytes for each server, in order */
     uint8_t ipv4;                 /* QEWARIS_SETTING_IPV4_.. */
     uint8_t address[4];           /* where it is static, as are the next three */
-    uint8_t prefix_length;
+    uint8_t prefix_length;        /* 1 to 32 */
     uint8_t has_gateway;
     uint8_t gateway[4];
     uint8_t ipv6;                 /* QEWARIS_SETTING_IPV6_.. */
+    uint8_t ipv6_address[16];     /* where it is static, as are the next three */
+    uint8_t ipv6_prefix_length;   /* 1 to 128 */
+    uint8_t has_ipv6_gateway;
+    uint8_t ipv6_gateway[16];
     uint8_t privacy;              /* QEWARIS_PRIVACY_.. */
     uint8_t has_mac;
     uint8_t mac[6];
-    uint8_t reserved[4];
+    uint8_t reserved[2];
 } qewaris_service_addresses;
 
 /* The settings of a ConnMan service; what is absent is as in iwd's. */
@@ -224,7 +239,7 @@ qewaris_text qewaris_service_domain(const uint8_t *name, size_t name_len, const 
 
 enum { QEWARIS_CREDENTIAL_NONE = 0, QEWARIS_CREDENTIAL_PASSPHRASE = 1, QEWARIS_CREDENTIAL_KEY = 2 };
 enum { QEWARIS_IPV4_DHCP = 0, QEWARIS_IPV4_OFF = 1, QEWARIS_IPV4_STATIC = 2 };
-enum { QEWARIS_IPV6_AUTO = 0, QEWARIS_IPV6_OFF = 1 };
+enum { QEWARIS_IPV6_AUTO = 0, QEWARIS_IPV6_OFF = 1, QEWARIS_IPV6_STATIC = 2 };
 
 /* What a till needs to join a network. Places not in use are 0: the bytes behind a length, the servers behind the count, the
  * places of another credential, and address, prefix length and gateway where they are not in use. The struct is bytes only,
@@ -247,13 +262,17 @@ typedef struct qewaris_record {
     uint8_t domain_len;           /* 0 to 253; 0: absent */
     uint8_t domain[253];
     uint8_t ipv6;                 /* QEWARIS_IPV6_.. */
+    uint8_t ipv6_address[16];
+    uint8_t ipv6_prefix_length;   /* 1 to 128 */
+    uint8_t has_ipv6_gateway;     /* 0 or 1 */
+    uint8_t ipv6_gateway[16];
 } qewaris_record;
 
 typedef struct qewaris_record_answer {
     size_t line;                  /* of the refusal */
     uint8_t number;
     qewaris_record record;        /* all 0 with a refusal */
-    uint8_t reserved[1];
+    uint8_t reserved[7];
 } qewaris_record_answer;
 
 /* The join record of an iwd file. */
@@ -266,7 +285,7 @@ qewaris_record_answer qewaris_service_record(const uint8_t *name, size_t name_le
 
 /* No name and no file that is written is longer, so that buffers of these sizes never meet QEWARIS_SHORT_BUFFER; some record
  * reaches each. */
-enum { QEWARIS_NAME_MAX = 70, QEWARIS_FILE_MAX = 858 };
+enum { QEWARIS_NAME_MAX = 70, QEWARIS_FILE_MAX = 944 };
 
 /* How many bytes are new at the front of each buffer; what stood behind them is still there. */
 typedef struct qewaris_written {
@@ -278,7 +297,8 @@ typedef struct qewaris_written {
 } qewaris_written;
 
 /* Writes the iwd file of a record, and its name. Refuses a malformed record, a code out of range among its members included
- * (QEWARIS_MALFORMED), one that iwd has no place for (QEWARIS_NO_PLACE), and a short buffer (QEWARIS_SHORT_BUFFER). */
+ * (QEWARIS_MALFORMED), one that iwd has no place for, which is IPv4 off or a static address without a gateway (QEWARIS_NO_PLACE), and
+ * a short buffer (QEWARIS_SHORT_BUFFER). */
 qewaris_written qewaris_write_iwd(qewaris_record record, uint8_t *name_out, size_t name_out_len, uint8_t *file_out, size_t file_out_len);
 
 /* Writes the iwd file, and its name, of service number `service` of a ConnMan file, counted from 1. Refuses what the reading
@@ -314,11 +334,15 @@ QEWARIS_PLACE_IS(qewaris_iwd_ipv4, address, 33); QEWARIS_PLACE_IS(qewaris_iwd_ip
 QEWARIS_PLACE_IS(qewaris_iwd_ipv4, gateway, 38); QEWARIS_PLACE_IS(qewaris_iwd_ipv4, has_broadcast, 42);
 QEWARIS_PLACE_IS(qewaris_iwd_ipv4, broadcast, 43); QEWARIS_PLACE_IS(qewaris_iwd_ipv4, netmask_length, 47);
 QEWARIS_PLACE_IS(qewaris_iwd_ipv4, send_hostname, 48); QEWARIS_PLACE_IS(qewaris_iwd_ipv4, reserved, 49);
-QEWARIS_SIZE_IS(qewaris_iwd_settings, 128);
+QEWARIS_SIZE_IS(qewaris_iwd_ipv6, 36);
+QEWARIS_PLACE_IS(qewaris_iwd_ipv6, enabled, 0); QEWARIS_PLACE_IS(qewaris_iwd_ipv6, has_address, 1);
+QEWARIS_PLACE_IS(qewaris_iwd_ipv6, address, 2); QEWARIS_PLACE_IS(qewaris_iwd_ipv6, prefix_length, 18);
+QEWARIS_PLACE_IS(qewaris_iwd_ipv6, has_gateway, 19); QEWARIS_PLACE_IS(qewaris_iwd_ipv6, gateway, 20);
+QEWARIS_SIZE_IS(qewaris_iwd_settings, 160);
 QEWARIS_PLACE_IS(qewaris_iwd_settings, line, 0); QEWARIS_PLACE_IS(qewaris_iwd_settings, number, 8);
-QEWARIS_PLACE_IS(qewaris_iwd_settings, ipv6_enabled, 9); QEWARIS_PLACE_IS(qewaris_iwd_settings, general, 10);
-QEWARIS_PLACE_IS(qewaris_iwd_settings, reserved, 20); QEWARIS_PLACE_IS(qewaris_iwd_settings, security, 24);
-QEWARIS_PLACE_IS(qewaris_iwd_settings, ipv4, 72);
+QEWARIS_PLACE_IS(qewaris_iwd_settings, general, 9); QEWARIS_PLACE_IS(qewaris_iwd_settings, ipv6, 19);
+QEWARIS_PLACE_IS(qewaris_iwd_settings, reserved, 55); QEWARIS_PLACE_IS(qewaris_iwd_settings, security, 56);
+QEWARIS_PLACE_IS(qewaris_iwd_settings, ipv4, 104);
 QEWARIS_SIZE_IS(qewaris_entries, 72);
 QEWARIS_PLACE_IS(qewaris_entries, count, 0); QEWARIS_PLACE_IS(qewaris_entries, start, 8);
 QEWARIS_PLACE_IS(qewaris_entries, length, 40);
@@ -327,24 +351,27 @@ QEWARIS_PLACE_IS(qewaris_service_network, name_line, 0); QEWARIS_PLACE_IS(qewari
 QEWARIS_PLACE_IS(qewaris_service_network, ssid_len, 16); QEWARIS_PLACE_IS(qewaris_service_network, ssid, 24);
 QEWARIS_PLACE_IS(qewaris_service_network, service_type, 56); QEWARIS_PLACE_IS(qewaris_service_network, security, 57);
 QEWARIS_PLACE_IS(qewaris_service_network, hidden, 58); QEWARIS_PLACE_IS(qewaris_service_network, reserved, 59);
-QEWARIS_SIZE_IS(qewaris_service_addresses, 200);
+QEWARIS_SIZE_IS(qewaris_service_addresses, 232);
 QEWARIS_PLACE_IS(qewaris_service_addresses, domain_line, 0); QEWARIS_PLACE_IS(qewaris_service_addresses, search_domains, 8);
 QEWARIS_PLACE_IS(qewaris_service_addresses, timeservers, 80);
 QEWARIS_PLACE_IS(qewaris_service_addresses, nameserver_count, 152);
 QEWARIS_PLACE_IS(qewaris_service_addresses, nameservers, 160); QEWARIS_PLACE_IS(qewaris_service_addresses, ipv4, 176);
 QEWARIS_PLACE_IS(qewaris_service_addresses, address, 177); QEWARIS_PLACE_IS(qewaris_service_addresses, prefix_length, 181);
 QEWARIS_PLACE_IS(qewaris_service_addresses, has_gateway, 182); QEWARIS_PLACE_IS(qewaris_service_addresses, gateway, 183);
-QEWARIS_PLACE_IS(qewaris_service_addresses, ipv6, 187); QEWARIS_PLACE_IS(qewaris_service_addresses, privacy, 188);
-QEWARIS_PLACE_IS(qewaris_service_addresses, has_mac, 189); QEWARIS_PLACE_IS(qewaris_service_addresses, mac, 190);
-QEWARIS_PLACE_IS(qewaris_service_addresses, reserved, 196);
-QEWARIS_SIZE_IS(qewaris_service_settings, 280);
+QEWARIS_PLACE_IS(qewaris_service_addresses, ipv6, 187); QEWARIS_PLACE_IS(qewaris_service_addresses, ipv6_address, 188);
+QEWARIS_PLACE_IS(qewaris_service_addresses, ipv6_prefix_length, 204);
+QEWARIS_PLACE_IS(qewaris_service_addresses, has_ipv6_gateway, 205);
+QEWARIS_PLACE_IS(qewaris_service_addresses, ipv6_gateway, 206); QEWARIS_PLACE_IS(qewaris_service_addresses, privacy, 222);
+QEWARIS_PLACE_IS(qewaris_service_addresses, has_mac, 223); QEWARIS_PLACE_IS(qewaris_service_addresses, mac, 224);
+QEWARIS_PLACE_IS(qewaris_service_addresses, reserved, 230);
+QEWARIS_SIZE_IS(qewaris_service_settings, 312);
 QEWARIS_PLACE_IS(qewaris_service_settings, line, 0); QEWARIS_PLACE_IS(qewaris_service_settings, number, 8);
 QEWARIS_PLACE_IS(qewaris_service_settings, reserved, 9); QEWARIS_PLACE_IS(qewaris_service_settings, network, 16);
 QEWARIS_PLACE_IS(qewaris_service_settings, addresses, 80);
 QEWARIS_SIZE_IS(qewaris_text, 32);
 QEWARIS_PLACE_IS(qewaris_text, line, 0); QEWARIS_PLACE_IS(qewaris_text, start, 8); QEWARIS_PLACE_IS(qewaris_text, length, 16);
 QEWARIS_PLACE_IS(qewaris_text, number, 24); QEWARIS_PLACE_IS(qewaris_text, reserved, 25);
-QEWARIS_SIZE_IS(qewaris_record, 414);
+QEWARIS_SIZE_IS(qewaris_record, 448);
 QEWARIS_PLACE_IS(qewaris_record, name_len, 0); QEWARIS_PLACE_IS(qewaris_record, name, 1);
 QEWARIS_PLACE_IS(qewaris_record, credential, 33); QEWARIS_PLACE_IS(qewaris_record, passphrase_len, 34);
 QEWARIS_PLACE_IS(qewaris_record, passphrase, 35); QEWARIS_PLACE_IS(qewaris_record, key, 98);
@@ -353,10 +380,12 @@ QEWARIS_PLACE_IS(qewaris_record, address, 132); QEWARIS_PLACE_IS(qewaris_record,
 QEWARIS_PLACE_IS(qewaris_record, has_gateway, 137); QEWARIS_PLACE_IS(qewaris_record, gateway, 138);
 QEWARIS_PLACE_IS(qewaris_record, server_count, 142); QEWARIS_PLACE_IS(qewaris_record, servers, 143);
 QEWARIS_PLACE_IS(qewaris_record, domain_len, 159); QEWARIS_PLACE_IS(qewaris_record, domain, 160);
-QEWARIS_PLACE_IS(qewaris_record, ipv6, 413);
-QEWARIS_SIZE_IS(qewaris_record_answer, 424);
+QEWARIS_PLACE_IS(qewaris_record, ipv6, 413); QEWARIS_PLACE_IS(qewaris_record, ipv6_address, 414);
+QEWARIS_PLACE_IS(qewaris_record, ipv6_prefix_length, 430); QEWARIS_PLACE_IS(qewaris_record, has_ipv6_gateway, 431);
+QEWARIS_PLACE_IS(qewaris_record, ipv6_gateway, 432);
+QEWARIS_SIZE_IS(qewaris_record_answer, 464);
 QEWARIS_PLACE_IS(qewaris_record_answer, line, 0); QEWARIS_PLACE_IS(qewaris_record_answer, number, 8);
-QEWARIS_PLACE_IS(qewaris_record_answer, record, 9); QEWARIS_PLACE_IS(qewaris_record_answer, reserved, 423);
+QEWARIS_PLACE_IS(qewaris_record_answer, record, 9); QEWARIS_PLACE_IS(qewaris_record_answer, reserved, 457);
 QEWARIS_SIZE_IS(qewaris_written, 32);
 QEWARIS_PLACE_IS(qewaris_written, line, 0); QEWARIS_PLACE_IS(qewaris_written, name_len, 8);
 QEWARIS_PLACE_IS(qewaris_written, file_len, 16); QEWARIS_PLACE_IS(qewaris_written, number, 24);

@@ -1,6 +1,6 @@
 """Reads iwd's and ConnMan's network files, writes iwd files, and moves ConnMan services to iwd.
 
-Over the shared library libqewaris.so.1, with nothing but Python's own ctypes. A file is given whole, as bytes, under its name
+Over the shared library libqewaris.so.2, with nothing but Python's own ctypes. A file is given whole, as bytes, under its name
 without a folder. Every function answers, or raises `Refused` with a number, the line to blame and a sentence.
 
     >>> shop = b"[service_till]\\nType = wifi\\nName = Desk 4\\nPassphrase = low tide 88\\n"
@@ -20,11 +20,11 @@ import os
 import pathlib
 import re
 from dataclasses import dataclass, field
-from ipaddress import IPv4Address
+from ipaddress import IPv4Address, IPv6Address
 from typing import Optional, Tuple, Union
 
 VERSION = "0.2.0"
-LAYOUT = 1
+LAYOUT = 2
 
 # What each refusal says, by its number from 1.
 SENTENCES = (
@@ -50,7 +50,7 @@ SENTENCES = (
 )
 MALFORMED = 19
 NAME_MAX = 70  # no file name that is written is longer, and some record reaches it
-FILE_MAX = 858  # no file that is written is longer, and some record reaches it
+FILE_MAX = 944  # no file that is written is longer, and some record reaches it
 _ESCAPES = {b"\\s": b" ", b"\\t": b"\t", b"\\r": b"\r", b"\\n": b"\n", b"\\\\": b"\\"}  # of strings, with the byte that each means
 
 Name = Union[str, bytes]
@@ -91,11 +91,19 @@ class Text:
 @dataclass(frozen=True)
 class StaticIpv4:
     address: IPv4Address
-    prefix_length: int
+    prefix_length: int  # 1 to 32
     gateway: Optional[IPv4Address] = None
 
 
+@dataclass(frozen=True)
+class StaticIpv6:
+    address: IPv6Address
+    prefix_length: int  # 1 to 128
+    gateway: Optional[IPv6Address] = None
+
+
 Ipv4 = Union[str, StaticIpv4]  # "dhcp", "off", or a static address
+Ipv6 = Union[str, StaticIpv6]  # "auto", "off", or a static address
 
 
 @dataclass(frozen=True)
@@ -108,7 +116,7 @@ class JoinRecord:
     ipv4: Ipv4 = "dhcp"
     name_servers: Tuple[IPv4Address, ...] = ()
     domain: bytes = b""
-    ipv6: str = "auto"
+    ipv6: Ipv6 = "auto"
 
 
 @dataclass(frozen=True)
@@ -128,6 +136,9 @@ class IwdSettings:
     domain_name_line: Optional[int]
     send_hostname: Optional[bool]
     ipv6_enabled: Optional[bool]
+    ipv6_address: Optional[IPv6Address]
+    ipv6_prefix_length: Optional[int]  # 128 where it is left off
+    ipv6_gateway: Optional[IPv6Address]
 
 
 @dataclass(frozen=True)
@@ -140,7 +151,7 @@ class ServiceSettings:
     security: Optional[str]
     hidden: Optional[bool]
     ipv4: Optional[Ipv4]
-    ipv6: Optional[str]
+    ipv6: Optional[Ipv6]
     privacy: Optional[str]
     mac: Optional[bytes]
     nameservers: Tuple[IPv4Address, ...]
@@ -163,17 +174,20 @@ text = line:usize start:usize length:usize number:u8 reserved:u8*7
 written = line:usize name_len:usize file_len:usize number:u8 reserved:u8*7
 record = name_len:u8 name:u8*32 credential:u8 passphrase_len:u8 passphrase:u8*63 key:u8*32 hidden:u8 ipv4:u8 address:u8*4
     prefix_length:u8 has_gateway:u8 gateway:u8*4 server_count:u8 servers:u8*16 domain_len:u8 domain:u8*253 ipv6:u8
-record_answer = line:usize number:u8 record:record reserved:u8*1
+    ipv6_address:u8*16 ipv6_prefix_length:u8 has_ipv6_gateway:u8 ipv6_gateway:u8*16
+record_answer = line:usize number:u8 record:record reserved:u8*7
 iwd_general = auto_connect:u8 hidden:u8 always_randomize_address:u8 has_address_override:u8 address_override:u8*6
 iwd_security = passphrase_line:usize has_pre_shared_key:u8 pre_shared_key:u8*32 reserved:u8*7
 iwd_ipv4 = domain_name_line:usize dns_count:usize dns:u8*16 has_address:u8 address:u8*4 has_gateway:u8 gateway:u8*4
     has_broadcast:u8 broadcast:u8*4 netmask_length:u8 send_hostname:u8 reserved:u8*7
-iwd_settings = line:usize number:u8 ipv6_enabled:u8 general:iwd_general reserved:u8*4 security:iwd_security ipv4:iwd_ipv4
+iwd_ipv6 = enabled:u8 has_address:u8 address:u8*16 prefix_length:u8 has_gateway:u8 gateway:u8*16
+iwd_settings = line:usize number:u8 general:iwd_general ipv6:iwd_ipv6 reserved:u8*1 security:iwd_security ipv4:iwd_ipv4
 entries = count:usize start:usize*4 length:usize*4
 service_network = name_line:usize passphrase_line:usize ssid_len:usize ssid:u8*32 service_type:u8 security:u8 hidden:u8
     reserved:u8*5
 service_addresses = domain_line:usize search_domains:entries timeservers:entries nameserver_count:usize nameservers:u8*16
-    ipv4:u8 address:u8*4 prefix_length:u8 has_gateway:u8 gateway:u8*4 ipv6:u8 privacy:u8 has_mac:u8 mac:u8*6 reserved:u8*4
+    ipv4:u8 address:u8*4 prefix_length:u8 has_gateway:u8 gateway:u8*4 ipv6:u8 ipv6_address:u8*16 ipv6_prefix_length:u8
+    has_ipv6_gateway:u8 ipv6_gateway:u8*16 privacy:u8 has_mac:u8 mac:u8*6 reserved:u8*2
 service_settings = line:usize number:u8 reserved:u8*7 network:service_network addresses:service_addresses
 """
 _TYPES: dict = {"u8": ctypes.c_uint8, "u32": ctypes.c_uint32, "usize": ctypes.c_size_t}
@@ -265,12 +279,18 @@ def _given(has: int, value):
     return value if has else None
 
 
-def _address(array) -> IPv4Address:
-    return IPv4Address(bytes(array))
+def _address(array) -> Union[IPv4Address, IPv6Address]:
+    """The address of four bytes, or of sixteen."""
+    return (IPv6Address if len(array) == 16 else IPv4Address)(bytes(array))
 
 
-def _fixed(found) -> StaticIpv4:
+def _static_ipv4(found) -> StaticIpv4:
     return StaticIpv4(_address(found.address), found.prefix_length, _given(found.has_gateway, _address(found.gateway)))
+
+
+def _static_ipv6(found) -> StaticIpv6:
+    gateway = _given(found.has_ipv6_gateway, _address(found.ipv6_gateway))
+    return StaticIpv6(_address(found.ipv6_address), found.ipv6_prefix_length, gateway)
 
 
 def _addresses(array, count: int) -> Tuple[IPv4Address, ...]:
@@ -280,7 +300,7 @@ def _addresses(array, count: int) -> Tuple[IPv4Address, ...]:
 def iwd_settings(name: Name, file: bytes) -> IwdSettings:
     """The settings of an iwd file."""
     found = _ask("iwd_settings_of", name, file)
-    general, security, ipv4 = found.general, found.security, found.ipv4
+    general, security, ipv4, ipv6 = found.general, found.security, found.ipv4, found.ipv6
     return IwdSettings(
         auto_connect=_CHOICES[general.auto_connect],
         hidden=_CHOICES[general.hidden],
@@ -295,7 +315,10 @@ def iwd_settings(name: Name, file: bytes) -> IwdSettings:
         dns=_addresses(ipv4.dns, ipv4.dns_count),
         domain_name_line=ipv4.domain_name_line or None,
         send_hostname=_CHOICES[ipv4.send_hostname],
-        ipv6_enabled=_CHOICES[found.ipv6_enabled],
+        ipv6_enabled=_CHOICES[ipv6.enabled],
+        ipv6_address=_given(ipv6.has_address, _address(ipv6.address)),
+        ipv6_prefix_length=ipv6.prefix_length or None,
+        ipv6_gateway=_given(ipv6.has_gateway, _address(ipv6.gateway)),
     )
 
 
@@ -314,8 +337,8 @@ def service_settings(name: Name, file: bytes, service: int) -> ServiceSettings:
         passphrase_line=network.passphrase_line or None,
         security=(None, "psk", "ieee8021x", "none", "wep")[network.security],
         hidden=_CHOICES[network.hidden],
-        ipv4=(None, "dhcp", "off", _fixed(addresses))[addresses.ipv4],
-        ipv6=(None, "off", "auto")[addresses.ipv6],
+        ipv4=(None, "dhcp", "off", _static_ipv4(addresses))[addresses.ipv4],
+        ipv6=(None, "auto", "off", _static_ipv6(addresses))[addresses.ipv6],
         privacy=(None, "disabled", "enabled", "preferred")[addresses.privacy],
         mac=_given(addresses.has_mac, bytes(addresses.mac)),
         nameservers=_addresses(addresses.nameservers, addresses.nameserver_count),
@@ -343,10 +366,10 @@ def record(name: Name, file: bytes, service: int = 1) -> JoinRecord:
         passphrase=_given(found.credential == 1, bytes(found.passphrase)[: found.passphrase_len]),
         key=_given(found.credential == 2, bytes(found.key)),
         hidden=bool(found.hidden),
-        ipv4=("dhcp", "off", _fixed(found))[found.ipv4],
+        ipv4=("dhcp", "off", _static_ipv4(found))[found.ipv4],
         name_servers=_addresses(found.servers, found.server_count),
         domain=bytes(found.domain)[: found.domain_len],
-        ipv6=("auto", "off")[found.ipv6],
+        ipv6=("auto", "off", _static_ipv6(found))[found.ipv6],
     )
 
 
@@ -377,18 +400,28 @@ def _laid(given: JoinRecord):
     if given.key is not None:
         laid.credential, _ = 2, _put(laid.key, given.key)
     if isinstance(given.ipv4, StaticIpv4):
-        fixed = given.ipv4
-        if not 0 <= fixed.prefix_length < 256:
-            raise Refused(MALFORMED)
-        laid.ipv4, laid.prefix_length, laid.has_gateway = 2, fixed.prefix_length, fixed.gateway is not None
-        _put(laid.address, fixed.address.packed)
-        _put(laid.gateway, fixed.gateway.packed if fixed.gateway else b"")
+        laid.ipv4 = 2
+        laid.prefix_length, laid.has_gateway = _put_static(laid.address, laid.gateway, given.ipv4)
     else:
         laid.ipv4 = ("dhcp", "off").index(given.ipv4)
     laid.server_count = _put(laid.servers, b"".join(server.packed for server in given.name_servers)) // 4
     laid.domain_len = _put(laid.domain, given.domain)
-    laid.ipv6 = ("auto", "off").index(given.ipv6)
+    if isinstance(given.ipv6, StaticIpv6):
+        laid.ipv6 = 2
+        laid.ipv6_prefix_length, laid.has_ipv6_gateway = _put_static(laid.ipv6_address, laid.ipv6_gateway, given.ipv6)
+    else:
+        laid.ipv6 = ("auto", "off").index(given.ipv6)
     return laid
+
+
+def _put_static(address, gateway, fixed: Union[StaticIpv4, StaticIpv6]) -> Tuple[int, bool]:
+    """Lays a static address and its gateway down in two arrays, and gives its length, and whether there is a gateway."""
+    if not 0 <= fixed.prefix_length < 256:
+        raise Refused(MALFORMED)
+    for array, given in ((address, fixed.address), (gateway, fixed.gateway)):
+        if given is not None and _put(array, given.packed) < len(array):
+            raise Refused(MALFORMED)
+    return fixed.prefix_length, fixed.gateway is not None
 
 
 def _put(array, value: bytes) -> int:

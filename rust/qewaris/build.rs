@@ -11,7 +11,7 @@ use std::process::{exit, Command};
 use std::time::SystemTime;
 
 /// The function that an archive with this crate's layout has.
-const LAYOUT: &str = "qewaris_layout_1";
+const LAYOUT: &str = "qewaris_layout_2";
 
 fn main() {
     println!("cargo:rerun-if-env-changed=QEWARIS_LIB_DIR");

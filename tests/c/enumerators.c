@@ -111,8 +111,9 @@ static const row rows[] = {
     ROW(QEWARIS_SETTING_IPV4_DHCP, 1, setting_ipv4, "shop.config", WIFI "IPv4 = dhcp\n"),
     ROW(QEWARIS_SETTING_IPV4_OFF, 2, setting_ipv4, "shop.config", WIFI "IPv4 = off\n"),
     ROW(QEWARIS_SETTING_IPV4_STATIC, 3, setting_ipv4, "shop.config", WIFI "IPv4 = 10.0.0.2/24\n"),
-    ROW(QEWARIS_SETTING_IPV6_OFF, 1, setting_ipv6, "shop.config", WIFI "IPv6 = off\n"),
-    ROW(QEWARIS_SETTING_IPV6_AUTO, 2, setting_ipv6, "shop.config", WIFI "IPv6 = auto\n"),
+    ROW(QEWARIS_SETTING_IPV6_AUTO, 1, setting_ipv6, "shop.config", WIFI "IPv6 = auto\n"),
+    ROW(QEWARIS_SETTING_IPV6_OFF, 2, setting_ipv6, "shop.config", WIFI "IPv6 = off\n"),
+    ROW(QEWARIS_SETTING_IPV6_STATIC, 3, setting_ipv6, "shop.config", WIFI "IPv6 = 2001:db8::2/64\n"),
     ROW(QEWARIS_PRIVACY_DISABLED, 1, privacy, "shop.config", WIFI "IPv6.Privacy = disabled\n"),
     ROW(QEWARIS_PRIVACY_ENABLED, 2, privacy, "shop.config", WIFI "IPv6.Privacy = enabled\n"),
     ROW(QEWARIS_PRIVACY_PREFERRED, 3, privacy, "shop.config", WIFI "IPv6.Privacy = prefered\n"),
@@ -126,9 +127,10 @@ static const row rows[] = {
     ROW(QEWARIS_IPV4_STATIC, 2, ipv4, "shop.config", WIFI "IPv4 = 10.0.0.2/24\n"),
     ROW(QEWARIS_IPV6_AUTO, 0, ipv6, "shop.config", WIFI "IPv6 = auto\n"),
     ROW(QEWARIS_IPV6_OFF, 1, ipv6, "shop.config", WIFI "IPv6 = off\n"),
+    ROW(QEWARIS_IPV6_STATIC, 2, ipv6, "shop.config", WIFI "IPv6 = 2001:db8::2/64\n"),
 
     ROW(QEWARIS_NAME_MAX, 70, name_of_largest, "", ""),
-    ROW(QEWARIS_FILE_MAX, 858, file_of_largest, "", ""),
+    ROW(QEWARIS_FILE_MAX, 944, file_of_largest, "", ""),
 };
 
 int main(void) {

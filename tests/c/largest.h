@@ -19,8 +19,9 @@ static qewaris_record largest_name(void) {
     return record;
 }
 
-/* A network of the same name with everything that has a line: addresses of 15 characters, four name servers, and a passphrase of as
- * many backslashes and a domain of as many bytes 10 as they may have, each of which is escaped and so written as two. */
+/* A network of the same name with everything that has a line: IPv4 addresses of 15 characters and IPv6 addresses of 39, four name
+ * servers, and a passphrase of as many backslashes and a domain of as many bytes 10 as they may have, each of which is escaped and so
+ * written as two. */
 static qewaris_record largest_file(void) {
     qewaris_record record = largest_name();
     record.credential = QEWARIS_CREDENTIAL_PASSPHRASE;
@@ -36,7 +37,11 @@ static qewaris_record largest_file(void) {
     memset(record.servers, 255, sizeof record.servers);
     record.domain_len = sizeof record.domain;
     memset(record.domain, '\n', sizeof record.domain);
-    record.ipv6 = QEWARIS_IPV6_OFF;
+    record.ipv6 = QEWARIS_IPV6_STATIC;
+    memset(record.ipv6_address, 255, sizeof record.ipv6_address);
+    record.ipv6_prefix_length = 128;
+    record.has_ipv6_gateway = 1;
+    memset(record.ipv6_gateway, 255, sizeof record.ipv6_gateway);
     return record;
 }
 

@@ -29,6 +29,7 @@ static network with_largest_file, with_largest_name;
 /* The longest name of a network with a key: `=`, 64 hex digits and `.psk`. */
 #define PSK_NAME_MAX 69
 #define ALL_255 "255.255.255.255"
+#define ALL_FFFF "ffff:ffff:ffff:ffff:ffff:ffff:ffff:ffff"
 #define SERVICE "[service_till]\nType = wifi\nSSID = %s\n"
 
 /* Fills a text with a pair of bytes again and again, but for the zero at its end. */
@@ -49,7 +50,8 @@ static void make_networks(void) {
     with_largest_file.needed.name_len = PSK_NAME_MAX;
     with_largest_file.needed.file_len = QEWARIS_FILE_MAX;
     snprintf(with_largest_file.service, sizeof with_largest_file.service,
-             SERVICE "Hidden = true\nPassphrase = %s\nIPv4 = " ALL_255 "/32/" ALL_255 "\nDomain = %s\nIPv6 = off\n"
+             SERVICE "Hidden = true\nPassphrase = %s\nIPv4 = " ALL_255 "/32/" ALL_255 "\nDomain = %s\n"
+                     "IPv6 = " ALL_FFFF "/128/" ALL_FFFF "\n"
                      "Nameservers = " ALL_255 "," ALL_255 "," ALL_255 "," ALL_255 "\n",
              ssid, passphrase, domain);
 

@@ -1,14 +1,14 @@
-"""Drives python/qewaris.py on the examples, on document 01's worked move, on strings and their escapes, and on the largest file and
-the largest name.
+"""Drives python/qewaris.py on the examples, on document 01's worked move, on strings and their escapes, on IPv6 addresses, and on the
+largest file and the largest name.
 
-    QEWARIS_LIB_DIR=folder of libqewaris.so.1 python3 tests/python/test_qewaris.py
+    QEWARIS_LIB_DIR=folder of libqewaris.so.2 python3 tests/python/test_qewaris.py
 """
 import doctest
 import pathlib
 import sys
 import unittest
 import unittest.mock
-from ipaddress import IPv4Address
+from ipaddress import IPv4Address, IPv6Address
 
 ROOT = pathlib.Path(__file__).resolve().parent.parent.parent
 sys.path.insert(0, str(ROOT / "python"))
@@ -28,9 +28,16 @@ RECORD = qewaris.JoinRecord(
     ipv6="off",
 )
 
-# The record with the largest name, and the one with the largest file, which has everything that has a line: addresses of 15
-# characters, four name servers, a passphrase of backslashes and a domain of bytes 10, each of which is escaped and so written as two.
+# A service with an IPv6 address and a gateway, the file that it becomes, and the address.
+SIX = b"[service_six]\nType = wifi\nName = six\nIPv6 = 2001:DB8:0:0:0::14/64/2001:db8::192.0.2.1\n"
+SIX_OPEN = b"[IPv6]\nAddress=2001:db8::14/64\nGateway=2001:db8::c000:201\n"
+SIX_ADDRESS = qewaris.StaticIpv6(IPv6Address("2001:db8::14"), 64, IPv6Address("2001:db8::c000:201"))
+
+# The record with the largest name, and the one with the largest file, which has everything that has a line: IPv4 addresses of 15
+# characters and IPv6 addresses of 39, four name servers, a passphrase of backslashes and a domain of bytes 10, each of which is
+# escaped and so written as two.
 ALL_255 = IPv4Address("255.255.255.255")
+ALL_FFFF = IPv6Address("ffff:ffff:ffff:ffff:ffff:ffff:ffff:ffff")
 LARGEST_NAME = qewaris.JoinRecord(name=b"\xff" * 32)
 LARGEST_FILE = qewaris.JoinRecord(
     name=b"\xff" * 32,
@@ -39,13 +46,14 @@ LARGEST_FILE = qewaris.JoinRecord(
     ipv4=qewaris.StaticIpv4(ALL_255, 32, ALL_255),
     name_servers=(ALL_255,) * 4,
     domain=b"\n" * 253,
-    ipv6="off",
+    ipv6=qewaris.StaticIpv6(ALL_FFFF, 128, ALL_FFFF),
 )
 # Services that have these records.
 SERVICE_OF_NAME = b"[service_till]\nType = wifi\nSSID = " + b"ff" * 32 + b"\n"
 SERVICE_OF_FILE = (
     SERVICE_OF_NAME + f"IPv4 = {ALL_255}/32/{ALL_255}\nNameservers = {','.join([str(ALL_255)] * 4)}\n".encode()
-    + b"Passphrase = " + b"\\\\" * 63 + b"\nDomain = " + b"\\n" * 253 + b"\nHidden = true\nIPv6 = off\n"
+    + f"IPv6 = {ALL_FFFF}/128/{ALL_FFFF}\n".encode()
+    + b"Passphrase = " + b"\\\\" * 63 + b"\nDomain = " + b"\\n" * 253 + b"\nHidden = true\n"
 )
 
 
@@ -115,6 +123,7 @@ class Settings(unittest.TestCase):
     def test_of_an_iwd_file(self):
         settings = qewaris.iwd_settings("Desk 4.psk", DESK)
         self.assertEqual((settings.hidden, settings.auto_connect, settings.ipv6_enabled), (True, None, False))
+        self.assertEqual((settings.ipv6_address, settings.ipv6_prefix_length, settings.ipv6_gateway), (None, None, None))
         self.assertEqual((settings.netmask_length, settings.passphrase_line, settings.pre_shared_key), (24, 4, None))
         self.assertEqual(settings.dns, (IPv4Address("10.20.0.2"), IPv4Address("10.20.0.3")))
 
@@ -124,7 +133,8 @@ class Settings(unittest.TestCase):
         self.assertEqual((settings.service_type, settings.ssid, settings.security), ("wifi", b"De", None))
         self.assertEqual((settings.timeservers, settings.search_domains), ((b"one", b"two"), ()))
         self.assertEqual((settings.privacy, settings.mac, settings.ipv4), ("preferred", b"\x02\x00\x5e\x10\x00\x01", None))
-        self.assertEqual(qewaris.service_settings("shop.config", SHOP, 1).ipv4, RECORD.ipv4)
+        settings = qewaris.service_settings("shop.config", SHOP, 1)
+        self.assertEqual((settings.ipv4, settings.ipv6), (RECORD.ipv4, RECORD.ipv6))
 
     def test_strings_are_parts_of_the_file(self):
         text = qewaris.string("shop.config", SHOP, "service_passphrase", 1)
@@ -132,6 +142,48 @@ class Settings(unittest.TestCase):
         self.assertIsNone(qewaris.string("shop.config", SHOP, "service_domain", 1))
         self.assertEqual(qewaris.string("Desk 4.psk", DESK, "iwd_passphrase").value, b"low\tide 88")
         self.assertEqual(qewaris.string("a.config", b"[global]\nName = a\n", "global_name").value, b"a")
+
+
+class Ipv6(unittest.TestCase):
+    def test_an_address_is_read_moved_and_read_back(self):
+        record = qewaris.JoinRecord(name=b"six", ipv6=SIX_ADDRESS)
+        self.assertEqual(qewaris.service_settings("six.config", SIX, 1).ipv6, SIX_ADDRESS)
+        self.assertEqual(qewaris.record("six.config", SIX, 1), record)
+        self.assertEqual(qewaris.move_service("six.config", SIX, 1), qewaris.IwdFile(b"six.open", SIX_OPEN))
+        self.assertEqual(qewaris.write_iwd(record), qewaris.IwdFile(b"six.open", SIX_OPEN))
+        self.assertEqual(qewaris.record("six.open", SIX_OPEN), record)
+
+    def test_iwd_may_leave_the_length_off(self):
+        settings = qewaris.iwd_settings("six.open", b"[IPv6]\nEnabled=true\nAddress=::1\nGateway=::\n")
+        self.assertEqual((settings.ipv6_enabled, settings.ipv6_address), (True, IPv6Address("::1")))
+        self.assertEqual((settings.ipv6_prefix_length, settings.ipv6_gateway), (128, IPv6Address(0)))
+        self.assertEqual((settings.address, settings.gateway), (None, None))
+        self.assertEqual(refusal(qewaris.check, "six.config", b"[service_six]\nType = wifi\nIPv6 = ::1\n"), (12, 3))
+
+    def test_without_a_gateway_it_has_no_place(self):
+        file = SIX.replace(b"/2001:db8::192.0.2.1", b"")
+        record = qewaris.record("six.config", file)
+        self.assertIsNone(record.ipv6.gateway)
+        self.assertEqual(refusal(qewaris.move_service, "six.config", file), (16, 4))
+        self.assertEqual(refusal(qewaris.write_iwd, record), (16, None))
+
+    def test_words_and_codes_agree(self):
+        for word in ("auto", "off"):
+            file = f"[service_six]\nType = wifi\nName = six\nIPv6 = {word}\n".encode()
+            self.assertEqual(qewaris.service_settings("six.config", file, 1).ipv6, word)
+            self.assertEqual(qewaris.record("six.config", file).ipv6, word)
+            moved = qewaris.move_service("six.config", file)
+            self.assertEqual(qewaris.record(moved.name, moved.file).ipv6, word)
+
+    def test_what_is_written_is_what_python_reads(self):
+        for zeros in range(256):
+            groups = [0 if zeros >> place & 1 else 0xA0B for place in range(8)]
+            address = IPv6Address(b"".join(group.to_bytes(2, "big") for group in groups))
+            record = qewaris.JoinRecord(name=b"six", ipv6=qewaris.StaticIpv6(address, 1, address))
+            written = qewaris.write_iwd(record)
+            lines = [line.partition("=")[2] for line in written.file.decode().splitlines()[1:]]
+            self.assertEqual((lines[0].removesuffix("/1"), IPv6Address(lines[1])), (lines[1], address))
+            self.assertEqual(qewaris.record(written.name, written.file), record)
 
 
 class Strings(unittest.TestCase):
@@ -189,6 +241,9 @@ class Refusals(unittest.TestCase):
             {"name": b""}, {"name": b"a" * 33}, {"passphrase": b"a" * 64}, {"passphrase": b"a" * 7}, {"key": b"a" * 31},
             {"passphrase": b"a" * 8, "key": b"a" * 32}, {"domain": b"a" * 254}, {"name_servers": (IPv4Address(0),) * 5},
             {"ipv4": qewaris.StaticIpv4(IPv4Address(1), 33)}, {"ipv4": qewaris.StaticIpv4(IPv4Address(1), 256)},
+            {"ipv6": qewaris.StaticIpv6(IPv6Address(1), 0)}, {"ipv6": qewaris.StaticIpv6(IPv6Address(1), 129)},
+            {"ipv6": qewaris.StaticIpv6(IPv6Address(1), 256)}, {"ipv6": qewaris.StaticIpv6(IPv4Address(1), 32)},
+            {"ipv6": qewaris.StaticIpv6(IPv6Address(1), 64, IPv4Address(1))}, {"ipv4": qewaris.StaticIpv4(IPv6Address(1), 32)},
         ):
             self.assertEqual(refusal(qewaris.write_iwd, qewaris.JoinRecord(**{**good, **wrong})), (19, None), wrong)
 

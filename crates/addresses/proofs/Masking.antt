@@ -93,19 +93,19 @@ module _ (m : ℕ) where
 
 -- ---- the returns of `read_prefix_length` and of `read_netmask`
 
-module _ (s : List ℕ) {r : Number} (v : r ≡ numberAnswer (number 32 s)) where
-  pub prefix-none : r .value ≡ 0 → Broken ≡ netmaskAnswer (prefixLength s)
+module _ (m : ℕ) (s : List ℕ) {r : Number} (v : r ≡ numberAnswer (number m s)) where
+  pub prefix-none : r .value ≡ 0 → Broken ≡ netmaskAnswer (prefixLength m s)
   unfolding prefixLength
-  prefix-none z = go (number 32 s) v
+  prefix-none z = go (number m s) v
     where
       go : (o : Option ℕ) → r ≡ numberAnswer o → Broken ≡ netmaskAnswer (andThen o positive)
       go none e = refl
       go (some zero) e = refl
       go (some (suc k)) e = absurd (omega (arith, z, ap (λ (x : Number). x .value) e))
 
-  pub prefix-some : (r .value ≡ 0 → ⊥) → Length (r .value) ≡ netmaskAnswer (prefixLength s)
+  pub prefix-some : (r .value ≡ 0 → ⊥) → Length (r .value) ≡ netmaskAnswer (prefixLength m s)
   unfolding prefixLength
-  prefix-some z = go (number 32 s) v
+  prefix-some z = go (number m s) v
     where
       go : (o : Option ℕ) → r ≡ numberAnswer o → Length (r .value) ≡ netmaskAnswer (andThen o positive)
       go none e = absurd (z (ap (λ (x : Number). x .value) e))

@@ -7,13 +7,13 @@ use mathlib.Core.List.{List, [], _∷_}
 use mathlib.Core.Option.{Option, none, some, Option·some-injective, Option·none-ne-some}
 use borrow.Author.Tests.{eqb-true, eqb-false, leb-true, le-leb}
 use lib.Dec.{eqb, leb}
-use Rattle.text.specs.Bytes.{isDigit}
+use Rattle.text.specs.Bytes.{other, isDigit}
 use Rattle.text.specs.Parts.{all, empty, pieces}
 use Rattle.text.specs.PieceLaws.{pieces-are, pieces-only}
 use Rattle.text.specs.Relations.{Each, Pairwise}
-use Rattle.text.specs.Options.{only, each}
+use Rattle.text.specs.Options.{andThen, only, sized, each}
 use Rattle.text.specs.OptionLaws.{then-some, only-some, sized-is, is-sized, each-pairwise, pairwise-each}
-use Rattle.text.specs.Laws.{all-cons}
+use Rattle.text.specs.Laws.{all-cons, pieces-last}
 use Rattle.addresses.specs.Addresses.{decimalValue, upTo, number, octet, address, positive, prefixLength, fields, addresses}
 use Rattle.addresses.specs.AddressRules.{decimalFrom, NumberIs, AddressIs, LengthIs, AddressesIs}
 use Rattle.addresses.specs.SplitLaws.{fields-split, split-fields}
@@ -80,24 +80,25 @@ is-number m (c ∷ s) {n} h = go (eqb c 48) refl
         rw t (ap some j)
     go false q = rw (is-value 0 (c ∷ s) (h .digits), h .is, le-leb n m (h .most))
 
--- "length (1 to 32, no leading zero)"
-pub prefix-is : (v : List ℕ) {n : ℕ} → prefixLength v ≡ some n → LengthIs v n
-unfolding prefixLength
-prefix-is v {n} e = let t = then-some (number 32 v) positive e in go (t .0) (number-is 32 v (t .1)) (t .2)
-  where
-    go : (m : ℕ) → NumberIs 32 v m → positive m ≡ some n → LengthIs v n
-    go zero h e = absurd (Option·none-ne-some n e)
-    go (suc m) h e =
-        let q : suc m ≡ n = Option·some-injective (suc m) n e in
-        record { number = subst (NumberIs 32 v) q h; least = omega arith }
+-- ---- prefix lengths
 
-pub is-prefix : (v : List ℕ) {n : ℕ} → LengthIs v n → prefixLength v ≡ some n
+pub prefix-is : (m : ℕ) (v : List ℕ) {n : ℕ} → prefixLength m v ≡ some n → LengthIs m v n
 unfolding prefixLength
-is-prefix v {n} h = rw (is-number 32 v (h .number)) (go n (h .least))
+prefix-is m v {n} e = let t = then-some (number m v) positive e in go (t .0) (number-is m v (t .1)) (t .2)
   where
-    go : (m : ℕ) → 1 ≤ m → positive m ≡ some m
+    go : (k : ℕ) → NumberIs m v k → positive k ≡ some n → LengthIs m v n
+    go zero h e = absurd (Option·none-ne-some n e)
+    go (suc k) h e =
+        let q : suc k ≡ n = Option·some-injective (suc k) n e in
+        record { number = subst (NumberIs m v) q h; least = omega arith }
+
+pub is-prefix : (m : ℕ) (v : List ℕ) {n : ℕ} → LengthIs m v n → prefixLength m v ≡ some n
+unfolding prefixLength
+is-prefix m v {n} h = rw (is-number m v (h .number)) (go n (h .least))
+  where
+    go : (k : ℕ) → 1 ≤ k → positive k ≡ some k
     go zero l = absurd (omega arith)
-    go (suc m) l = refl
+    go (suc k) l = refl
 
 -- ---- addresses
 
@@ -113,10 +114,19 @@ is-address v {a} h =
     is-sized 4 4 (each octet (pieces 46 v)) (h .four)
     (ap (each octet) (pieces-only 46 (h .dots)) ∙ pairwise-each octet (NumberIs 255) (λ p n k. is-number 255 p k) (h .numbers) a (h .each))
 
+-- a text without a dot is none
+pub address-undotted : (v : List ℕ) → all (other 46) v ≡ true → address v ≡ none
+unfolding address
+address-undotted v h = rw (pieces-last 46 v h) (go (octet v))
+  where
+    go : (o : Option ℕ) → sized 4 4 (andThen o (λ n. some (n ∷ []))) ≡ none
+    go none = refl
+    go (some n) = refl
+
 -- ---- lists of addresses
 
 -- an address has a byte
-some-address : (v : List ℕ) (a : List ℕ) → AddressIs v a → ¬ (v ≡ [])
+pub some-address : (v : List ℕ) (a : List ℕ) → AddressIs v a → ¬ (v ≡ [])
 unfolding address number
 some-address v a h e = absurd (Option·none-ne-some a (ap address (sym-empty e) ∙ is-address v h))
   where

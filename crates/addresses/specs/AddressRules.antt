@@ -54,9 +54,9 @@ pub record MaskIs (v : List ℕ) (n : ℕ) : Type 0 where
   pub ones-first : bits bytes ≡ replicate n 1 ++ replicate zeros 0
   pub least : 1 ≤ n
 
--- "length (1 to 32, no leading zero)"
-pub record LengthIs (v : List ℕ) (n : ℕ) : Type 0 where
-  pub number : NumberIs 32 v n
+-- "length (1 to 32, no leading zero)": a prefix length, 1 to m
+pub record LengthIs (m : ℕ) (v : List ℕ) (n : ℕ) : Type 0 where
+  pub number : NumberIs m v n
   pub least : 1 ≤ n
 
 -- ---- lists of addresses

@@ -39,9 +39,13 @@ octet = number 255
 unfoldable pub address : List ℕ → Option (List ℕ)
 address s = sized 4 4 (each octet (pieces 46 s))
 
+-- so many bytes
+abbrev pub isBytes : ℕ → List ℕ → Bool
+isBytes n a = isSome (sized n n (some a)) && all (between 0 255) a
+
 -- "inside, an IPv4 address is four bytes, the first written first"
 abbrev pub isAddress : List ℕ → Bool
-isAddress a = isSome (sized 4 4 (some a)) && all (between 0 255) a
+isAddress a = isBytes 4 a
 
 abbrev pub areAddresses : List (List ℕ) → Bool
 areAddresses [] = true
@@ -49,13 +53,13 @@ areAddresses (a ∷ l) = isAddress a && areAddresses l
 
 -- ---- masks
 
--- "length (1 to 32, no leading zero)"
 abbrev pub positive : ℕ → Option ℕ
 positive zero = none
 positive (suc k) = some (suc k)
 
-unfoldable pub prefixLength : List ℕ → Option ℕ
-prefixLength s = andThen (number 32 s) positive
+-- "length (1 to 32, no leading zero)": a prefix length, 1 to m
+unfoldable pub prefixLength : ℕ → List ℕ → Option ℕ
+prefixLength m s = andThen (number m s) positive
 
 -- an address as a number, its first byte the most significant
 abbrev pub asNumber : List ℕ → ℕ

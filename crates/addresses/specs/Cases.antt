@@ -35,7 +35,7 @@ unfolding decimalValue number address lengthUpTo maskLength netmask
 netmask-cases = refl
 
 -- "length (1 to 32, no leading zero)"
-pub length-cases : Right prefixLength
+pub length-cases : Right (prefixLength 32)
     ((word "0", none)
     ∷ (word "1", some 1)
     ∷ (word "32", some 32)

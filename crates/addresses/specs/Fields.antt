@@ -1,15 +1,36 @@
--- The fields of a list by index: what `lists` finds of them.
+-- The numbers of an address and the fields of a list by index: what `numbers` and `lists` find of them.
 use mathlib.Core.Path.{_≡_}
-use mathlib.Core.Bool.{cond}
+use mathlib.Core.Bool.{true, false, cond}
 use mathlib.Core.List.{List, [], _∷_}
-use mathlib.Core.Option.{Option}
-use Prim.Native.Nat.{ℕ, _≤_}
+use mathlib.Core.Option.{Option, some}
+use Prim.Native.Nat.{ℕ, _+_, _≤_, _<_}
 use lib.Dec.{leb}
-use lib.ListN.{length, drop}
-use Rattle.text.specs.Parts.{part}
-use Rattle.text.specs.Options.{orEmpty}
+use lib.ListN.{length, drop, getD}
+use Rattle.text.specs.Bytes.{isDigit, other}
+use Rattle.text.specs.Parts.{empty, front, part}
+use Rattle.text.specs.Options.{only, orEmpty}
+use Rattle.text.specs.Scans.{Scan}
 use Rattle.addresses.specs.declared.Separator.{Separator}
-use Rattle.addresses.specs.Addresses.{fields, rows}
+use Rattle.addresses.specs.declared.Octet.{Octet}
+use Rattle.addresses.specs.Addresses.{octet, fields, rows}
+
+-- ---- the numbers of an address
+
+-- r is the value of the digit at i, or more than 9 where there is none
+pub record DigitAt (s : List ℕ) (i r : ℕ) : Type 0 where
+  pub is : r ≤ 9 → (i < length s) × (getD s i 0 ≡ 48 + r)
+  pub is-not : 9 < r → i < length s → isDigit (getD s i 0) ≡ false
+
+-- the bytes from index i on, up to the next dot
+abbrev pub undotted : List ℕ → ℕ → List ℕ
+undotted s i = front (other 46) (drop i s)
+
+-- the digits that start at at end where r says, and are the number up to the next dot if nothing else stands before it
+pub record OctetAt (s : List ℕ) (at : ℕ) (r : Octet) : Type 0 where
+  pub scan : r .ok ≡ true → Scan (other 46) s at (r .end)
+  pub is : octet (undotted s at) ≡ only (r .ok) (only (empty (undotted s (r .end))) (some (r .value)))
+
+-- ---- the fields of a list
 
 -- the fields from index i on; a place past the end has none
 abbrev pub remaining : Separator → List ℕ → ℕ → List (List ℕ)

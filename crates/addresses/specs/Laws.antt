@@ -14,23 +14,35 @@ use Rattle.text.specs.OptionLaws.{some-is, sized-is, is-sized}
 use Rattle.text.specs.Relations.{Pairwise}
 use Rattle.text.specs.Laws.{and-true, all-cons, inside, between-high}
 use Rattle.addresses.specs.declared.Separator.{Separator}
-use Rattle.addresses.specs.Addresses.{address, isAddress, addresses, areAddresses, rows}
+use Rattle.addresses.specs.Addresses.{isBytes, address, isAddress, addresses, areAddresses, rows}
 use Rattle.addresses.specs.AddressRules.{NumberIs, AddressIs}
 use Rattle.addresses.specs.AddressRuleLaws.{address-is, is-address, addresses-is}
+
+-- ---- so many bytes
+
+module _ (n : ℕ) (a : List ℕ) where
+  pub bytes-length : isBytes n a ≡ true → length a ≡ n
+  bytes-length e =
+      let k = some-is (sized n n (some a)) (and-true (isSome (sized n n (some a))) _ e .0) in
+      let s = sized-is n n (some a) (k .1) in
+      ap length (Option·some-injective a (k .0) (s .1)) ∙ omega (arith, s .0)
+
+  pub bytes-each : isBytes n a ≡ true → all (between 0 255) a ≡ true
+  bytes-each e = and-true (isSome (sized n n (some a))) _ e .1
+
+  pub are-bytes : length a ≡ n → all (between 0 255) a ≡ true → isBytes n a ≡ true
+  are-bytes l h = rw (inside {x = length a} n n (omega arith) (omega arith)) h
 
 -- ---- addresses of four bytes
 
 pub address-length : (a : List ℕ) → isAddress a ≡ true → length a ≡ 4
-address-length a e =
-    let k = some-is (sized 4 4 (some a)) (and-true (isSome (sized 4 4 (some a))) _ e .0) in
-    let s = sized-is 4 4 (some a) (k .1) in
-    ap length (Option·some-injective a (k .0) (s .1)) ∙ omega (arith, s .0)
+address-length = bytes-length 4
 
 -- what holds of each four bytes holds of an address
 pub address-elim : (P : List ℕ → Type 0) →
     ((x y z w : ℕ) → x < 256 → y < 256 → z < 256 → w < 256 → P (x ∷ y ∷ z ∷ w ∷ [])) → (a : List ℕ) →
     isAddress a ≡ true → P a
-address-elim P f a e = go a (address-length a e) (and-true (isSome (sized 4 4 (some a))) _ e .1)
+address-elim P f a e = go a (address-length a e) (bytes-each 4 a e)
   where
     small : (x : ℕ) → between 0 255 x ≡ true → x < 256
     small x h = omega (arith, between-high {x = x} 0 255 h)

@@ -20,13 +20,20 @@ pub struct Number {
     pub value: u8,
 }
 
+// A number of an address and the end of its digits, or a refusal.
+struct Octet {
+    end: usize,
+    ok: bool,
+    value: u8,
+}
+
 // An address, or a refusal, which holds 0.0.0.0.
 pub struct Address {
     pub ok: bool,
     pub bytes: [u8; 4],
 }
 
-// The length of a mask, from 1 to 32, or a refusal.
+// The length of a mask, from 1 to 32, or a prefix length, or a refusal.
 pub enum Netmask {
     Length(u8),
     Broken,

@@ -1,4 +1,4 @@
-// Masks and their lengths.
+// Masks, and prefix lengths.
 ghost use mathlib.Core.Path.{_≡_};
 ghost use mathlib.Core.List.{[], _∷_};
 ghost use Prim.Native.Nat.{_≤_};
@@ -6,11 +6,11 @@ ghost use Rattle.addresses.specs.Addresses.{asNumber, prefixLength, mask
 use crate::Netmask;
 use crate::numbers;
 
-// A length in digits, 1 to 32.
-pub fn read_prefix_length(s: &[u8]) -> Netmask
-    ensures { λ r. ⌜ r ≡ netmaskAnswer (prefixLength (now (s .entry))) ⌝ }
+// A length in digits, 1 to most.
+pub fn read_prefix_length(s: &[u8], most: u8) -> Netmask
+    ensures { λ r. ⌜ r ≡ netmaskAnswer (prefixLength most (now (s .entry))) ⌝ }
 {
-    let n = numbers::read_number(s, 32);
+    let n = numbers::read_number(s, most);
     let k = n.value;
     if k == 0 {
         Netmask::Broken

@@ -1,11 +1,20 @@
 // Decimal numbers and addresses, read.
 ghost use mathlib.Core.Path.{_≡_};
+ghost use Prim.Native.Nat.{_≤_};
+ghost use lib.ListN.{length};
 ghost use Rattle.addresses.specs.Addresses.{number, address, numberAnswer, addressAnswer};
+ghost use Rattle.addresses.specs.Fields.{DigitAt, OctetAt};
 use crate::Address;
 use crate::Number;
-use text::scan;
+use crate::Octet;
 
 const NO_NUMBER: Number = Number {
+    ok: false,
+    value: 0,
+};
+
+const NO_OCTET: Octet = Octet {
+    end: 0,
     ok: false,
     value: 0,
 };
@@ -50,6 +59,56 @@ pub fn read_number(s: &[u8], most: u8) -> Number
     }
 }
 
+// The value of the digit at i; where no digit stands there, more than 9.
+fn digit_at(s: &[u8], i: usize) -> u8
+    requires { ⌜ i ≤ length (now s) ⌝ }
+    ensures { λ r. ⌜ DigitAt (now (s .entry)) i r ⌝ }
+{
+    if i == s.len() {
+        return 10;
+    }
+    std::num::wrapping_sub_u8(s[i], 48)
+}
+
+// The number 0 to 255 that starts at at: one to three digits. What stands behind them is left to the caller.
+fn read_octet(s: &[u8], at: usize) -> Octet
+    requires { ⌜ at ≤ length (now s) ⌝ }
+    ensures { λ r. ⌜ OctetAt (now (s .entry)) at r ⌝ }
+{
+    let a = digit_at(s, at);
+    if 9 < a {
+        return NO_OCTET;
+    }
+    let b = digit_at(s, at + 1);
+    if 9 < b {
+        return Octet {
+            end: at + 1,
+            ok: true,
+            value: a,
+        };
+    }
+    if a == 0 {
+        return NO_OCTET;
+    }
+    let c = digit_at(s, at + 2);
+    if 9 < c {
+        return Octet {
+            end: at + 2,
+            ok: true,
+            value: a * 10 + b,
+        };
+    }
+    let v = (a * 10 + b) as u16 * 10 + c as u16;
+    if 255 < v {
+        return NO_OCTET;
+    }
+    Octet {
+        end: at + 3,
+        ok: true,
+        value: v as u8,
+    }
+}
+
 // An address: four numbers 0 to 255 with dots.
 pub fn read_address(s: &[u8]) -> Address
     ensures { λ r. ⌜ r ≡ addressAnswer (address (now (s .entry))) ⌝ }
@@ -57,22 +116,29 @@ pub fn read_address(s: &[u8]) -> Address
     let mut bytes = [0u8; 4];
     let mut at = 0;
     let mut n = 0;
-    while n < 4 {
-        let e = scan::find_near(s, at, 46);
-        let v = read_number(&s[at..e], 255);
+    while n < 3 {
+        let v = read_octet(s, at);
         if !v.ok {
+            return NO_ADDRESS;
+        }
+        let e = v.end;
+        if e == s.len() {
+            return NO_ADDRESS;
+        }
+        if s[e] != 46 {
             return NO_ADDRESS;
         }
         bytes[n] = v.value;
         n += 1;
-        if e == s.len() {
-            return if n == 4 {
-                Address { ok: true, bytes }
-            } else {
-                NO_ADDRESS
-            };
-        }
         at = e + 1;
     }
-    NO_ADDRESS
+    let v = read_octet(s, at);
+    if !v.ok {
+        return NO_ADDRESS;
+    }
+    if v.end != s.len() {
+        return NO_ADDRESS;
+    }
+    bytes[3] = v.value;
+    Address { ok: true, bytes }
 }

@@ -49,7 +49,7 @@ pub fn put_address(out: &mut [u8], at: usize, a: [u8; 4]) -> usize
 }
 
 // How many digits n has.
-fn decimal_len(n: u8) -> usize
+pub fn decimal_len(n: u8) -> usize
     ensures { λ r. ⌜ r ≡ length (decimal n) ⌝ }
 {
     if n < 10 {

@@ -46,7 +46,7 @@ recordAnswerAt a s =
       line = answerLine (a .answer);
       number = answerNumber (a .answer);
       «record» = recordAt (a .«record») s;
-      reserved = replicate 1 0;
+      reserved = replicate 7 0;
     }
 
 -- what is written of a record that is brought in: 19 where a code is that of no case, and what is written of the record else

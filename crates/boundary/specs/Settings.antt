@@ -11,6 +11,7 @@ use Rattle.values.specs.declared.Chosen.the-variants as Chosen
 use Rattle.settings.specs.declared.GeneralSettings.{GeneralSettings}
 use Rattle.settings.specs.declared.SecuritySettings.{SecuritySettings}
 use Rattle.settings.specs.declared.Ipv4Settings.{Ipv4Settings}
+use Rattle.settings.specs.declared.Ipv6Settings.{Ipv6Settings}
 use Rattle.settings.specs.declared.NetworkSettings.{NetworkSettings}
 use Rattle.settings.specs.declared.AddressSettings.{AddressSettings}
 use Rattle.settings.specs.declared.IwdAnswer.{IwdAnswer}
@@ -20,6 +21,7 @@ use Rattle.record_layout.specs.Records.{sixteen}
 use Rattle.boundary.specs.declared.CGeneral.{CGeneral}
 use Rattle.boundary.specs.declared.CSecurity.{CSecurity}
 use Rattle.boundary.specs.declared.CIpv4.{CIpv4}
+use Rattle.boundary.specs.declared.CIpv6.{CIpv6}
 use Rattle.boundary.specs.declared.CIwdSettings.{CIwdSettings}
 use Rattle.boundary.specs.declared.CEntries.{CEntries}
 use Rattle.boundary.specs.declared.CNetwork.{CNetwork}
@@ -75,14 +77,25 @@ ipv4At s servers =
       reserved = replicate 7 0;
     }
 
+abbrev pub ipv6At : Ipv6Settings → CIpv6
+ipv6At s =
+    record {
+      enabled = choiceCode (s .enabled);
+      «has_address» = bitOf (s .address .ok);
+      address = s .address .address;
+      «prefix_length» = s .address .length;
+      «has_gateway» = bitOf (s .gateway .ok);
+      gateway = s .gateway .bytes;
+    }
+
 abbrev pub iwdSettingsAt : IwdAnswer → List (List ℕ) → CIwdSettings
 iwdSettingsAt a servers =
     record {
       line = answerLine (a .answer);
       number = answerNumber (a .answer);
-      «ipv6_enabled» = choiceCode (a .settings .enabled);
       general = generalAt (a .settings .general);
-      reserved = replicate 4 0;
+      ipv6 = ipv6At (a .settings .ipv6);
+      reserved = replicate 1 0;
       security = securityAt (a .settings .security);
       ipv4 = ipv4At (a .settings .ipv4) servers;
     }
@@ -123,11 +136,15 @@ addressesAt s servers =
       «prefix_length» = s .ipv4 .length;
       «has_gateway» = bitOf (s .ipv4 .«has_gateway»);
       gateway = s .ipv4 .gateway;
-      ipv6 = chosenCode (s .ipv6);
+      ipv6 = givenMethodCode (s .ipv6 .ok) (s .ipv6 .method);
+      «ipv6_address» = s .ipv6 .address;
+      «ipv6_prefix_length» = s .ipv6 .length;
+      «has_ipv6_gateway» = bitOf (s .ipv6 .«has_gateway»);
+      «ipv6_gateway» = s .ipv6 .gateway;
       privacy = chosenCode (s .privacy);
       «has_mac» = bitOf (s .mac .ok);
       mac = s .mac .bytes;
-      reserved = replicate 4 0;
+      reserved = replicate 2 0;
     }
 
 abbrev pub serviceSettingsAt : ServiceAnswer → List (List ℕ) → CServiceSettings

@@ -102,6 +102,6 @@ pub fn record_answer_at(a: RecordAnswer, servers: [[u8; 4]; 4]) -> CRecordAnswer
         line: answer_line(answer),
         number: answer_number(answer),
         record: record_at(found, servers),
-        reserved: [0; 1],
+        reserved: [0; 7],
     }
 }

@@ -46,7 +46,7 @@ pub struct CRecordAnswer {
     pub line: usize,
     pub number: u8,
     pub record: CRecord,
-    pub reserved: [u8; 1],
+    pub reserved: [u8; 7],
 }
 
 // iwd's group Settings.
@@ -85,14 +85,25 @@ pub struct CIpv4 {
     pub reserved: [u8; 7],
 }
 
+// iwd's group IPv6.
+#[repr(C)]
+pub struct CIpv6 {
+    pub enabled: u8,
+    pub has_address: u8,
+    pub address: [u8; 16],
+    pub prefix_length: u8,
+    pub has_gateway: u8,
+    pub gateway: [u8; 16],
+}
+
 // The answer to a question for the settings of an iwd file, and these.
 #[repr(C)]
 pub struct CIwdSettings {
     pub line: usize,
     pub number: u8,
-    pub ipv6_enabled: u8,
     pub general: CGeneral,
-    pub reserved: [u8; 4],
+    pub ipv6: CIpv6,
+    pub reserved: [u8; 1],
     pub security: CSecurity,
     pub ipv4: CIpv4,
 }
@@ -132,10 +143,14 @@ pub struct CAddresses {
     pub has_gateway: u8,
     pub gateway: [u8; 4],
     pub ipv6: u8,
+    pub ipv6_address: [u8; 16],
+    pub ipv6_prefix_length: u8,
+    pub has_ipv6_gateway: u8,
+    pub ipv6_gateway: [u8; 16],
     pub privacy: u8,
     pub has_mac: u8,
     pub mac: [u8; 6],
-    pub reserved: [u8; 4],
+    pub reserved: [u8; 2],
 }
 
 // The answer to a question for the settings of a ConnMan service, and these.

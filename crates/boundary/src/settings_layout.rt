@@ -1,10 +1,11 @@
 // Typed settings, handed out: those of an iwd file by its groups, and those of a ConnMan service.
 ghost use mathlib.Core.Path.{_≡_};
-ghost use Rattle.boundary.specs.Settings.{choiceCode, chosenCode, generalAt, securityAt, ipv4At, iwdSettingsAt, entriesAt, networkAt, addressesAt, serviceSettingsAt};
+ghost use Rattle.boundary.specs.Settings.{choiceCode, chosenCode, generalAt, securityAt, ipv4At, ipv6At, iwdSettingsAt, entriesAt, networkAt, addressesAt, serviceSettingsAt};
 use crate::CAddresses;
 use crate::CEntries;
 use crate::CGeneral;
 use crate::CIpv4;
+use crate::CIpv6;
 use crate::CIwdSettings;
 use crate::CNetwork;
 use crate::CSecurity;
@@ -15,6 +16,7 @@ use record_layout::sixteen;
 use settings::AddressSettings;
 use settings::GeneralSettings;
 use settings::Ipv4Settings;
+use settings::Ipv6Settings;
 use settings::IwdAnswer;
 use settings::NetworkSettings;
 use settings::SecuritySettings;
@@ -98,6 +100,24 @@ fn ipv4_at(s: Ipv4Settings, servers: [[u8; 4]; 4]) -> CIpv4
     }
 }
 
+fn ipv6_at(s: Ipv6Settings) -> CIpv6
+    ensures { λ c. ⌜ c ≡ ipv6At s ⌝ }
+{
+    let enabled = s.enabled;
+    let address = s.address;
+    let address_bytes = address.address;
+    let gateway = s.gateway;
+    let gateway_bytes = gateway.bytes;
+    CIpv6 {
+        enabled: choice_code(enabled),
+        has_address: codes::bit_of(address.ok),
+        address: address_bytes,
+        prefix_length: address.length,
+        has_gateway: codes::bit_of(gateway.ok),
+        gateway: gateway_bytes,
+    }
+}
+
 // The settings of an iwd file, or a refusal with zeros, and its name servers.
 pub fn iwd_settings_at(a: IwdAnswer, servers: [[u8; 4]; 4]) -> CIwdSettings
     ensures { λ c. ⌜ c ≡ iwdSettingsAt a servers ⌝ }
@@ -107,13 +127,13 @@ pub fn iwd_settings_at(a: IwdAnswer, servers: [[u8; 4]; 4]) -> CIwdSettings
     let general = s.general;
     let security = s.security;
     let ipv4 = s.ipv4;
-    let enabled = s.enabled;
+    let ipv6 = s.ipv6;
     CIwdSettings {
         line: answer_layout::answer_line(answer),
         number: answer_layout::answer_number(answer),
-        ipv6_enabled: choice_code(enabled),
         general: general_at(general),
-        reserved: [0; 4],
+        ipv6: ipv6_at(ipv6),
+        reserved: [0; 1],
         security: security_at(security),
         ipv4: ipv4_at(ipv4, servers),
     }
@@ -169,6 +189,9 @@ fn addresses_at(s: AddressSettings, servers: [[u8; 4]; 4]) -> CAddresses
     let address = ipv4.address;
     let gateway = ipv4.gateway;
     let ipv6 = s.ipv6;
+    let ipv6_method = ipv6.method;
+    let ipv6_address = ipv6.address;
+    let ipv6_gateway = ipv6.gateway;
     let privacy = s.privacy;
     let mac = s.mac;
     let mac_bytes = mac.bytes;
@@ -183,11 +206,15 @@ fn addresses_at(s: AddressSettings, servers: [[u8; 4]; 4]) -> CAddresses
         prefix_length: ipv4.length,
         has_gateway: codes::bit_of(ipv4.has_gateway),
         gateway,
-        ipv6: chosen_code(ipv6),
+        ipv6: codes::given_method_code(ipv6.ok, ipv6_method),
+        ipv6_address,
+        ipv6_prefix_length: ipv6.length,
+        has_ipv6_gateway: codes::bit_of(ipv6.has_gateway),
+        ipv6_gateway,
         privacy: chosen_code(privacy),
         has_mac: codes::bit_of(mac.ok),
         mac: mac_bytes,
-        reserved: [0; 4],
+        reserved: [0; 2],
     }
 }
 

@@ -2,14 +2,12 @@
 use Prim.Native.Nat.{ℕ, suc}
 use mathlib.Core.Bool.{Bool, true, false, cond}
 use lib.Dec.{eqb}
-use Rattle.connman_ipv4.specs.declared.Method.{Method}
-use Rattle.connman_ipv4.specs.declared.Method.the-variants as M
+use Rattle.addressing.specs.declared.Method.{Method}
+use Rattle.addressing.specs.declared.Method.the-variants as M
 use Rattle.named_words.specs.declared.Word.{Word}
 use Rattle.named_words.specs.declared.Word.the-variants as W
 use Rattle.records.specs.declared.Credential.{Credential}
 use Rattle.records.specs.declared.Credential.the-variants as C
-use Rattle.records.specs.declared.Ipv6.{Ipv6}
-use Rattle.records.specs.declared.Ipv6.the-variants as Ipv6
 
 -- ---- of what is handed out
 
@@ -21,8 +19,6 @@ bitOf true = 1
 abbrev pub wordCode : Word → ℕ
 wordCode W.Wifi = 1
 wordCode W.Ethernet = 2
-wordCode W.Off = 1
-wordCode W.Auto = 2
 wordCode W.Disabled = 1
 wordCode W.Enabled = 2
 wordCode W.Preferred = 3
@@ -37,17 +33,13 @@ credentialCode C.Passphrase = 1
 credentialCode C.Key = 2
 
 abbrev pub methodCode : Method → ℕ
-methodCode M.Dhcp = 0
+methodCode M.Auto = 0
 methodCode M.Off = 1
 methodCode M.Static = 2
 
 -- of a setting, which may be absent: 0 then, and from 1 on the methods
 abbrev pub givenMethodCode : Bool → Method → ℕ
 givenMethodCode b m = cond b (suc (methodCode m)) 0
-
-abbrev pub ipv6Code : Ipv6 → ℕ
-ipv6Code Ipv6.Auto = 0
-ipv6Code Ipv6.Off = 1
 
 -- ---- of what is brought in: a code that there is not stands for no case, and is refused before it is asked for one
 
@@ -58,7 +50,4 @@ abbrev pub credentialIn : ℕ → Credential
 credentialIn n = cond (eqb n 1) C.Passphrase (cond (eqb n 2) C.Key C.None)
 
 abbrev pub methodIn : ℕ → Method
-methodIn n = cond (eqb n 1) M.Off (cond (eqb n 2) M.Static M.Dhcp)
-
-abbrev pub ipv6In : ℕ → Ipv6
-ipv6In n = cond (eqb n 1) Ipv6.Off Ipv6.Auto
+methodIn n = cond (eqb n 1) M.Off (cond (eqb n 2) M.Static M.Auto)

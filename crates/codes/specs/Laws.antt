@@ -5,13 +5,11 @@ use mathlib.Core.Path.{_≡_, refl}
 use mathlib.Core.Bool.{Bool, true, false}
 use borrow.Author.Tests.{leb-true}
 use lib.Dec.{leb}
-use Rattle.connman_ipv4.specs.declared.Method.{Method}
-use Rattle.connman_ipv4.specs.declared.Method.the-variants as M
+use Rattle.addressing.specs.declared.Method.{Method}
+use Rattle.addressing.specs.declared.Method.the-variants as M
 use Rattle.records.specs.declared.Credential.{Credential}
 use Rattle.records.specs.declared.Credential.the-variants as C
-use Rattle.records.specs.declared.Ipv6.{Ipv6}
-use Rattle.records.specs.declared.Ipv6.the-variants as Ipv6
-use Rattle.codes.specs.Codes.{bitOf, credentialCode, methodCode, ipv6Code, bitIn, credentialIn, methodIn, ipv6In}
+use Rattle.codes.specs.Codes.{bitOf, credentialCode, methodCode, bitIn, credentialIn, methodIn}
 
 -- ---- the case of a case's code
 
@@ -25,13 +23,9 @@ credential-back C.Passphrase = refl
 credential-back C.Key = refl
 
 pub method-back : (m : Method) → methodIn (methodCode m) ≡ m
-method-back M.Dhcp = refl
+method-back M.Auto = refl
 method-back M.Off = refl
 method-back M.Static = refl
-
-pub ipv6-back : (i : Ipv6) → ipv6In (ipv6Code i) ≡ i
-ipv6-back Ipv6.Auto = refl
-ipv6-back Ipv6.Off = refl
 
 -- ---- the greatest code
 
@@ -45,13 +39,9 @@ credential-known C.Passphrase = refl
 credential-known C.Key = refl
 
 pub method-known : (m : Method) → leb (methodCode m) 2 ≡ true
-method-known M.Dhcp = refl
+method-known M.Auto = refl
 method-known M.Off = refl
 method-known M.Static = refl
-
-pub ipv6-known : (i : Ipv6) → leb (ipv6Code i) 1 ≡ true
-ipv6-known Ipv6.Auto = refl
-ipv6-known Ipv6.Off = refl
 
 -- ---- the code of a known code's case
 
@@ -71,8 +61,3 @@ known-method zero h = refl
 known-method (suc zero) h = refl
 known-method (suc (suc zero)) h = refl
 known-method (suc (suc (suc n))) h = absurd (omega (arith, leb-true (suc (suc (suc n))) 2 h))
-
-pub known-ipv6 : (n : ℕ) → leb n 1 ≡ true → ipv6Code (ipv6In n) ≡ n
-known-ipv6 zero h = refl
-known-ipv6 (suc zero) h = refl
-known-ipv6 (suc (suc n)) h = absurd (omega (arith, leb-true (suc (suc n)) 1 h))

@@ -4,11 +4,10 @@
 // definitions are in specs/Codes, and that each case comes back from its code in specs/Laws.
 ghost use mathlib.Core.Path.{_≡_};
 ghost use mathlib.Core.Bool.{cond};
-ghost use Rattle.codes.specs.Codes.{bitOf, wordCode, credentialCode, methodCode, givenMethodCode, ipv6Code, credentialIn, methodIn, ipv6In};
-use connman_ipv4::Method;
+ghost use Rattle.codes.specs.Codes.{bitOf, wordCode, credentialCode, methodCode, givenMethodCode, credentialIn, methodIn};
+use addressing::Method;
 use named_words::Word;
 use records::Credential;
-use records::Ipv6;
 
 pub fn bit_of(b: bool) -> u8
     ensures { λ r. ⌜ r ≡ bitOf b ⌝ }
@@ -26,8 +25,6 @@ pub fn word_code(w: Word) -> u8
     match w {
         Word::Wifi => 1,
         Word::Ethernet => 2,
-        Word::Off => 1,
-        Word::Auto => 2,
         Word::Disabled => 1,
         Word::Enabled => 2,
         Word::Preferred => 3,
@@ -52,7 +49,7 @@ pub fn method_code(m: Method) -> u8
     ensures { λ r. ⌜ r ≡ methodCode m ⌝ }
 {
     match m {
-        Method::Dhcp => 0,
+        Method::Auto => 0,
         Method::Off => 1,
         Method::Static => 2,
     }
@@ -73,18 +70,9 @@ pub fn given_method_code(given: bool, m: Method) -> u8
     ensures { λ r. ⌜ r ≡ givenMethodCode given m ⌝ }
 {
     match m {
-        Method::Dhcp => code_if(given, 1),
+        Method::Auto => code_if(given, 1),
         Method::Off => code_if(given, 2),
         Method::Static => code_if(given, 3),
-    }
-}
-
-pub fn ipv6_code(i: Ipv6) -> u8
-    ensures { λ r. ⌜ r ≡ ipv6Code i ⌝ }
-{
-    match i {
-        Ipv6::Auto => 0,
-        Ipv6::Off => 1,
     }
 }
 
@@ -109,14 +97,5 @@ pub fn method_in(n: u8) -> Method
     if n == 2 {
         return Method::Static;
     }
-    Method::Dhcp
-}
-
-pub fn ipv6_in(n: u8) -> Ipv6
-    ensures { λ r. ⌜ r ≡ ipv6In n ⌝ }
-{
-    if n == 1 {
-        return Ipv6::Off;
-    }
-    Ipv6::Auto
+    Method::Auto
 }

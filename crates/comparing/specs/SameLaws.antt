@@ -7,14 +7,12 @@ use borrow.Author.Tests.{eq-eqb, eqb-true}
 use lib.Dec.{eqb}
 use Rattle.text.specs.Words.{same}
 use Rattle.text.specs.Laws.{and-true, same-refl, same-eq}
-use Rattle.connman_ipv4.specs.declared.Method.{Method}
-use Rattle.connman_ipv4.specs.declared.Method.the-variants as M
+use Rattle.addressing.specs.declared.Method.{Method}
+use Rattle.addressing.specs.declared.Method.the-variants as M
 use Rattle.records.specs.declared.Credential.{Credential}
 use Rattle.records.specs.declared.Credential.the-variants as C
-use Rattle.records.specs.declared.Ipv6.{Ipv6}
-use Rattle.records.specs.declared.Ipv6.the-variants as Ipv6
 use Rattle.records.specs.declared.JoinRecord.{JoinRecord}
-use Rattle.comparing.specs.Same.{sameFlag, credentialCase, methodCase, ipv6Case, sameName, sameCredential, sameNumbers, sameDomain, sameChoices, sameRecord, sameServers}
+use Rattle.comparing.specs.Same.{sameFlag, credentialCase, methodCase, sameName, sameCredential, sameMethod, sameIpv4, sameIpv6, sameDomain, sameChoices, sameRecord, sameServers}
 
 flag-refl : (a : Bool) → sameFlag a a ≡ true
 flag-refl true = refl
@@ -49,47 +47,54 @@ method-eq : (x y : Method) → eqb (methodCase x) (methodCase y) ≡ true → x 
 method-eq = case-eq methodCase at back
   where
     at : ℕ → Method
-    at n = cond (eqb n 0) M.Dhcp (cond (eqb n 1) M.Off M.Static)
+    at n = cond (eqb n 0) M.Auto (cond (eqb n 1) M.Off M.Static)
 
     back : (x : Method) → at (methodCase x) ≡ x
-    back M.Dhcp = refl
+    back M.Auto = refl
     back M.Off = refl
     back M.Static = refl
 
-ipv6-eq : (x y : Ipv6) → eqb (ipv6Case x) (ipv6Case y) ≡ true → x ≡ y
-ipv6-eq = case-eq ipv6Case at back
-  where
-    at : ℕ → Ipv6
-    at n = cond (eqb n 0) Ipv6.Auto Ipv6.Off
+method-refl : (m : Method) (n : ℕ) (h : Bool) → sameMethod m n h m n h ≡ true
+method-refl m n h = rw (number-refl (methodCase m), number-refl n) (flag-refl h)
 
-    back : (x : Ipv6) → at (ipv6Case x) ≡ x
-    back Ipv6.Auto = refl
-    back Ipv6.Off = refl
+record MethodsEqual (m : Method) (n : ℕ) (h : Bool) (o : Method) (k : ℕ) (i : Bool) : Type 0 where
+  method : m ≡ o
+  size : n ≡ k
+  routed : h ≡ i
+
+methods-equal : (m : Method) (n : ℕ) (h : Bool) (o : Method) (k : ℕ) (i : Bool) → sameMethod m n h o k i ≡ true →
+    MethodsEqual m n h o k i
+methods-equal m n h o k i e =
+    let p = and-true (eqb (methodCase m) (methodCase o)) _ e in
+    let q = and-true (eqb n k) (sameFlag h i) (p .1) in
+    record { method = method-eq m o (p .0); size = eqb-true n k (q .0); routed = flag-eq h i (q .1) }
 
 pub same-record-refl : (r : JoinRecord) → sameRecord r r ≡ true
 unfolding sameRecord
 same-record-refl r =
     rw
-    (number-refl (r .«name_len»), same-refl (r .name), number-refl (credentialCase (r .credential)), number-refl (r .«passphrase_len»), same-refl (r .passphrase), same-refl (r .key), number-refl (methodCase (r .ipv4)), number-refl (r .length), flag-refl (r .«has_gateway»), same-refl (r .address), same-refl (r .gateway), number-refl (r .«domain_len»), same-refl (r .domain), number-refl (r .«server_count»), flag-refl (r .hidden), number-refl (ipv6Case (r .ipv6)))
+    (number-refl (r .«name_len»), same-refl (r .name), number-refl (credentialCase (r .credential)), number-refl (r .«passphrase_len»), same-refl (r .passphrase), same-refl (r .key), method-refl (r .ipv4) (r .length) (r .«has_gateway»), same-refl (r .address), same-refl (r .gateway), method-refl (r .ipv6) (r .«ipv6_length») (r .«has_ipv6_gateway»), same-refl (r .«ipv6_address»), same-refl (r .«ipv6_gateway»), number-refl (r .«domain_len»), same-refl (r .domain), number-refl (r .«server_count»), flag-refl (r .hidden))
 
 pub same-record-eq : (a b : JoinRecord) → sameRecord a b ≡ true → a ≡ b
 unfolding sameRecord
 same-record-eq a b e =
     let name = and-true (sameName a b) _ e in
     let credential = and-true (sameCredential a b) _ (name .1) in
-    let numbers = and-true (sameNumbers a b) _ (credential .1) in
-    let domain = and-true (sameDomain a b) (sameChoices a b) (numbers .1) in
+    let ipv4 = and-true (sameIpv4 a b) _ (credential .1) in
+    let ipv6 = and-true (sameIpv6 a b) _ (ipv4 .1) in
+    let domain = and-true (sameDomain a b) (sameChoices a b) (ipv6 .1) in
     let named = and-true (eqb (a .«name_len») (b .«name_len»)) _ (name .0) in
     let kind = and-true (eqb (credentialCase (a .credential)) (credentialCase (b .credential))) _ (credential .0) in
     let phrase = and-true (eqb (a .«passphrase_len») (b .«passphrase_len»)) _ (kind .1) in
     let key = and-true (same (a .passphrase) (b .passphrase)) _ (phrase .1) in
-    let method = and-true (eqb (methodCase (a .ipv4)) (methodCase (b .ipv4))) _ (numbers .0) in
-    let size = and-true (eqb (a .length) (b .length)) _ (method .1) in
-    let routed = and-true (sameFlag (a .«has_gateway») (b .«has_gateway»)) _ (size .1) in
-    let address = and-true (same (a .address) (b .address)) _ (routed .1) in
+    let four = and-true (sameMethod (a .ipv4) (a .length) (a .«has_gateway») (b .ipv4) (b .length) (b .«has_gateway»)) _ (ipv4 .0) in
+    let method = methods-equal (a .ipv4) (a .length) (a .«has_gateway») (b .ipv4) (b .length) (b .«has_gateway») (four .0) in
+    let address = and-true (same (a .address) (b .address)) _ (four .1) in
+    let six = and-true (sameMethod (a .ipv6) (a .«ipv6_length») (a .«has_ipv6_gateway») (b .ipv6) (b .«ipv6_length») (b .«has_ipv6_gateway»)) _ (ipv6 .0) in
+    let method6 = methods-equal (a .ipv6) (a .«ipv6_length») (a .«has_ipv6_gateway») (b .ipv6) (b .«ipv6_length») (b .«has_ipv6_gateway») (six .0) in
+    let address6 = and-true (same (a .«ipv6_address») (b .«ipv6_address»)) _ (six .1) in
     let domained = and-true (eqb (a .«domain_len») (b .«domain_len»)) _ (domain .0) in
     let count = and-true (eqb (a .«server_count») (b .«server_count»)) _ (domain .1) in
-    let hidden = and-true (sameFlag (a .hidden) (b .hidden)) _ (count .1) in
     λ i.
     record {
       «name_len» = eqb-true (a .«name_len») (b .«name_len») (named .0) i;
@@ -98,16 +103,20 @@ same-record-eq a b e =
       «passphrase_len» = eqb-true (a .«passphrase_len») (b .«passphrase_len») (phrase .0) i;
       passphrase = same-eq (a .passphrase) (b .passphrase) (key .0) i;
       key = same-eq (a .key) (b .key) (key .1) i;
-      hidden = flag-eq (a .hidden) (b .hidden) (hidden .0) i;
-      ipv4 = method-eq (a .ipv4) (b .ipv4) (method .0) i;
+      hidden = flag-eq (a .hidden) (b .hidden) (count .1) i;
+      ipv4 = method .method i;
       address = same-eq (a .address) (b .address) (address .0) i;
-      length = eqb-true (a .length) (b .length) (size .0) i;
-      «has_gateway» = flag-eq (a .«has_gateway») (b .«has_gateway») (routed .0) i;
+      length = method .size i;
+      «has_gateway» = method .routed i;
       gateway = same-eq (a .gateway) (b .gateway) (address .1) i;
       «server_count» = eqb-true (a .«server_count») (b .«server_count») (count .0) i;
       «domain_len» = eqb-true (a .«domain_len») (b .«domain_len») (domained .0) i;
       domain = same-eq (a .domain) (b .domain) (domained .1) i;
-      ipv6 = ipv6-eq (a .ipv6) (b .ipv6) (hidden .1) i;
+      ipv6 = method6 .method i;
+      «ipv6_address» = same-eq (a .«ipv6_address») (b .«ipv6_address») (address6 .0) i;
+      «ipv6_length» = method6 .size i;
+      «has_ipv6_gateway» = method6 .routed i;
+      «ipv6_gateway» = same-eq (a .«ipv6_gateway») (b .«ipv6_gateway») (address6 .1) i;
     }
 
 pub same-servers-refl : (s : List (List ℕ)) → sameServers s s ≡ true

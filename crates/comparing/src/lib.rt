@@ -4,14 +4,19 @@
 // specs/Same, and that it is equality in specs/SameLaws.
 ghost use mathlib.Core.Path.{_≡_};
 ghost use Rattle.text.specs.Words.{same};
-ghost use Rattle.comparing.specs.Same.{sameFlag, credentialCase, methodCase, ipv6Case, sameName, sameCredential, sameNumbers, sameDomain, sameChoices, sameRecord, sameServers};
-use connman_ipv4::Method;
+ghost use Rattle.comparing.specs.Same.{sameFlag, credentialCase, methodCase, sameName, sameCredential, sameMethod, sameIpv4, sameIpv6, sameDomain, sameChoices, sameRecord, sameServers};
+use addressing::Method;
 use records::Credential;
-use records::Ipv6;
 use records::JoinRecord;
 
 // Whether two arrays hold the same bytes, for each length that a record has.
 fn same_4(a: [u8; 4], b: [u8; 4]) -> bool
+    ensures { λ r. ⌜ r ≡ same a b ⌝ }
+{
+    text::words::equal(&a, &b)
+}
+
+fn same_16(a: [u8; 16], b: [u8; 16]) -> bool
     ensures { λ r. ⌜ r ≡ same a b ⌝ }
 {
     text::words::equal(&a, &b)
@@ -59,18 +64,9 @@ fn method_case(m: Method) -> u8
     ensures { λ n. ⌜ n ≡ methodCase m ⌝ }
 {
     match m {
-        Method::Dhcp => 0,
+        Method::Auto => 0,
         Method::Off => 1,
         Method::Static => 2,
-    }
-}
-
-fn ipv6_case(v: Ipv6) -> u8
-    ensures { λ n. ⌜ n ≡ ipv6Case v ⌝ }
-{
-    match v {
-        Ipv6::Auto => 0,
-        Ipv6::Off => 1,
     }
 }
 
@@ -106,19 +102,26 @@ fn same_credential(a: JoinRecord, b: JoinRecord) -> bool
     same_32(key, other_key)
 }
 
-// Whether the method is the same, and the address, its length and the gateway.
-fn same_numbers(a: JoinRecord, b: JoinRecord) -> bool
-    ensures { λ r. ⌜ r ≡ sameNumbers a b ⌝ }
+// Whether two methods are the same, the length beside each, and whether each has a gateway.
+fn same_method(m: Method, n: u8, h: bool, other: Method, k: u8, i: bool) -> bool
+    ensures { λ r. ⌜ r ≡ sameMethod m n h other k i ⌝ }
+{
+    if method_case(m) != method_case(other) {
+        return false;
+    }
+    if n != k {
+        return false;
+    }
+    same_flag(h, i)
+}
+
+// Whether the IPv4 is the same: the method, the address and the gateway.
+fn same_ipv4(a: JoinRecord, b: JoinRecord) -> bool
+    ensures { λ r. ⌜ r ≡ sameIpv4 a b ⌝ }
 {
     let own = a.ipv4;
     let other = b.ipv4;
-    if method_case(own) != method_case(other) {
-        return false;
-    }
-    if a.length != b.length {
-        return false;
-    }
-    if !same_flag(a.has_gateway, b.has_gateway) {
+    if !same_method(own, a.length, a.has_gateway, other, b.length, b.has_gateway) {
         return false;
     }
     let address = a.address;
@@ -129,6 +132,32 @@ fn same_numbers(a: JoinRecord, b: JoinRecord) -> bool
     let gateway = a.gateway;
     let other_gateway = b.gateway;
     same_4(gateway, other_gateway)
+}
+
+// The same of the IPv6.
+fn same_ipv6(a: JoinRecord, b: JoinRecord) -> bool
+    ensures { λ r. ⌜ r ≡ sameIpv6 a b ⌝ }
+{
+    let own = a.ipv6;
+    let other = b.ipv6;
+    if !same_method(
+        own,
+        a.ipv6_length,
+        a.has_ipv6_gateway,
+        other,
+        b.ipv6_length,
+        b.has_ipv6_gateway,
+    ) {
+        return false;
+    }
+    let address = a.ipv6_address;
+    let other_address = b.ipv6_address;
+    if !same_16(address, other_address) {
+        return false;
+    }
+    let gateway = a.ipv6_gateway;
+    let other_gateway = b.ipv6_gateway;
+    same_16(gateway, other_gateway)
 }
 
 fn same_domain(a: JoinRecord, b: JoinRecord) -> bool
@@ -142,19 +171,14 @@ fn same_domain(a: JoinRecord, b: JoinRecord) -> bool
     same_253(own, other)
 }
 
-// Whether what is left of two records is the same: how many servers, hidden, and IPv6.
+// Whether what is left of two records is the same: how many servers, and hidden.
 fn same_choices(a: JoinRecord, b: JoinRecord) -> bool
     ensures { λ r. ⌜ r ≡ sameChoices a b ⌝ }
 {
     if a.server_count != b.server_count {
         return false;
     }
-    if !same_flag(a.hidden, b.hidden) {
-        return false;
-    }
-    let own = a.ipv6;
-    let other = b.ipv6;
-    ipv6_case(own) == ipv6_case(other)
+    same_flag(a.hidden, b.hidden)
 }
 
 // Whether two records are the same.
@@ -167,7 +191,10 @@ pub fn same_record(a: JoinRecord, b: JoinRecord) -> bool
     if !same_credential(a, b) {
         return false;
     }
-    if !same_numbers(a, b) {
+    if !same_ipv4(a, b) {
+        return false;
+    }
+    if !same_ipv6(a, b) {
         return false;
     }
     if !same_domain(a, b) {

@@ -1,19 +1,16 @@
 -- The code's answer: the definition laid out in the code's type, zero where there is nothing.
-use mathlib.Core.Bool.{true, false}
-use mathlib.Core.Option.{Option, none, some}
-use Rattle.addresses.specs.Addresses.{noAddress}
-use Rattle.connman_ipv4.specs.ConnmanIpv4.{IPv4, dhcp, off, static}
-use Rattle.connman_ipv4.specs.declared.Method.the-variants.{Dhcp, Off, Static}
+use mathlib.Core.Option.{Option}
+use Rattle.text.specs.Options.{isSome}
+use Rattle.addressing.specs.Addressing.{Addressing, methodOf, addressOf, lengthOf, hasGateway, gatewayOf, orAuto}
 use Rattle.connman_ipv4.specs.declared.Ipv4.{Ipv4}
 
-abbrev pub ipv4Answer : Option IPv4 → Ipv4
-ipv4Answer none =
-    record { ok = false; method = Dhcp; address = noAddress; length = 0; «has_gateway» = false; gateway = noAddress }
-ipv4Answer (some dhcp) =
-    record { ok = true; method = Dhcp; address = noAddress; length = 0; «has_gateway» = false; gateway = noAddress }
-ipv4Answer (some off) =
-    record { ok = true; method = Off; address = noAddress; length = 0; «has_gateway» = false; gateway = noAddress }
-ipv4Answer (some (static a n none)) =
-    record { ok = true; method = Static; address = a; length = n; «has_gateway» = false; gateway = noAddress }
-ipv4Answer (some (static a n (some g))) =
-    record { ok = true; method = Static; address = a; length = n; «has_gateway» = true; gateway = g }
+abbrev pub ipv4Answer : Option Addressing → Ipv4
+ipv4Answer o =
+    record {
+      ok = isSome o;
+      method = methodOf (orAuto o);
+      address = addressOf 4 (orAuto o);
+      length = lengthOf (orAuto o);
+      «has_gateway» = hasGateway (orAuto o);
+      gateway = gatewayOf 4 (orAuto o);
+    }

@@ -1,24 +1,20 @@
-// ConnMan's IPv4, and the IPv4 settings of a network that it gives.
+// ConnMan's IPv4.
 //
-// This is document 01's sentence "ConnMan IPv4 is .." under "Settings and their kinds". The definitions are in
-// specs/ConnmanIpv4, their layout in the types below in specs/Answers.
+// This is document 01's sentence "ConnMan IPv4 is .." under "Settings and their kinds". The definition is in specs/ConnmanIpv4, its layout in
+// the type below in specs/Answers.
 ghost use mathlib.Core.Path.{_≡_};
 ghost use mathlib.Core.Bool.{false};
 ghost use mathlib.Core.List.{[], _∷_};
 ghost use mathlib.Core.Option.{none};
-ghost use Rattle.addresses.specs.Addresses.{noAddress, netmaskAnswer};
+ghost use Rattle.addresses.specs.Addresses.{address, noAddress, netmaskAnswer};
+ghost use Rattle.addressing.specs.Settings.{fixed};
 ghost use Rattle.text.specs.Parts.{pieces};
-ghost use Rattle.connman_ipv4.specs.ConnmanIpv4.{maskOrLength, staticOf, ipv4};
+ghost use Rattle.connman_ipv4.specs.ConnmanIpv4.{maskOrLength, ipv4};
 ghost use Rattle.connman_ipv4.specs.Answers.{ipv4Answer};
 use addresses::Netmask;
+use addressing::Method;
 use text::scan::find_near;
 use text::words::equal;
-
-pub enum Method {
-    Dhcp,
-    Off,
-    Static,
-}
 
 // ConnMan's IPv4. What the method does not use is zero.
 pub struct Ipv4 {
@@ -47,14 +43,14 @@ fn unnumbered(ok: bool, method: Method) -> Ipv4
 fn no_ipv4() -> Ipv4
     ensures { λ r. ⌜ r ≡ ipv4Answer none ⌝ }
 {
-    unnumbered(false, Method::Dhcp)
+    unnumbered(false, Method::Auto)
 }
 
 // A mask's length: a number of 1 to 32, or a mask.
 fn read_length(s: &[u8]) -> Netmask
     ensures { λ r. ⌜ r ≡ netmaskAnswer (maskOrLength (now (s .entry))) ⌝ }
 {
-    let n = addresses::masks::read_prefix_length(s);
+    let n = addresses::masks::read_prefix_length(s, 32);
     match n {
         Netmask::Length(k) => Netmask::Length(k),
         Netmask::Broken => addresses::masks::read_netmask(s),
@@ -63,7 +59,7 @@ fn read_length(s: &[u8]) -> Netmask
 
 // An address and its mask.
 fn read_static(a: &[u8], m: &[u8]) -> Ipv4
-    ensures { λ r. ⌜ r ≡ ipv4Answer (staticOf (now (a .entry) ∷ now (m .entry) ∷ [])) ⌝ }
+    ensures { λ r. ⌜ r ≡ ipv4Answer (fixed address maskOrLength (now (a .entry) ∷ now (m .entry) ∷ [])) ⌝ }
 {
     let address = addresses::numbers::read_address(a);
     if !address.ok {
@@ -86,7 +82,7 @@ fn read_static(a: &[u8], m: &[u8]) -> Ipv4
 
 // An address, its mask and a gateway.
 fn read_routed(a: &[u8], m: &[u8], g: &[u8]) -> Ipv4
-    ensures { λ r. ⌜ r ≡ ipv4Answer (staticOf (now (a .entry) ∷ now (m .entry) ∷ now (g .entry) ∷ [])) ⌝ }
+    ensures { λ r. ⌜ r ≡ ipv4Answer (fixed address maskOrLength (now (a .entry) ∷ now (m .entry) ∷ now (g .entry) ∷ [])) ⌝ }
 {
     let r = read_static(a, m);
     if !r.ok {
@@ -110,7 +106,7 @@ fn read_routed(a: &[u8], m: &[u8], g: &[u8]) -> Ipv4
 
 // The pieces between slashes.
 fn read_parts(s: &[u8]) -> Ipv4
-    ensures { λ r. ⌜ r ≡ ipv4Answer (staticOf (pieces 47 (now (s .entry)))) ⌝ }
+    ensures { λ r. ⌜ r ≡ ipv4Answer (fixed address maskOrLength (pieces 47 (now (s .entry)))) ⌝ }
 {
     let a = find_near(s, 0, 47);
     if a == s.len() {
@@ -137,7 +133,7 @@ pub fn read_ipv4(s: &[u8]) -> Ipv4
         return unnumbered(true, Method::Off);
     }
     if equal(s, b"dhcp") {
-        return unnumbered(true, Method::Dhcp);
+        return unnumbered(true, Method::Auto);
     }
     read_parts(s)
 }

@@ -15,7 +15,10 @@ use Rattle.escapes.specs.Escapes.{unescape, escape, unescapeFrom, escapeFrom}
 use Rattle.hex.specs.Hex.{nibble, unhex, hex, hexDigit}
 use Rattle.addresses.specs.Addresses.{number, address, prefixLength, lengthUpTo, maskLength, netmask, addresses, decimalValue}
 use Rattle.named_words.specs.NamedWords.{flag, wordOf}
-use Rattle.connman_ipv4.specs.ConnmanIpv4.{ipv4, dhcp, static}
+use Rattle.connman_ipv4.specs.ConnmanIpv4.{ipv4}
+use Rattle.addressing.specs.Addressing.{auto, static}
+use Rattle.ipv6.specs.Ipv6.{hexValue, group, groups, side, halves, ipv6}
+use Rattle.ipv6_values.specs.Ipv6Values.{connmanIpv6, withLength}
 use Rattle.hex_values.specs.HexValues.{colonPairs, mac, ssid, preSharedKey}
 use Rattle.entry_lists.specs.EntryLists.{entries}
 use Rattle.kinds.specs.Kinds.{string}
@@ -23,7 +26,6 @@ use Rattle.kinds.specs.Typed.{typed, kindJudged, judged}
 use Rattle.lines.specs.Lines.{bracketOf, settingOf, lineOf, valueStart}
 use Rattle.names.specs.Names.{nameOf, networkOf, stem}
 use Rattle.records.specs.Record.{Secret, noSecret, passphrase}
-use Rattle.records.specs.declared.Ipv6.the-variants.{Auto}
 use Rattle.joins.specs.Joins.{Joined, joined, iwdJoined}
 use Rattle.rules.specs.Numbers.{Seen, seenOf}
 use Rattle.rules.specs.Tables.{isService, groupOf, keysOf}
@@ -59,8 +61,8 @@ of (joins name file) = record-is (iwdJoined (word name) (word file))
 of (string-of s) = bytes (unescape (word s))
 of (written s) = bytes (some (escape s))
 of (mask s) = length-is (netmask (word s))
-of (file-of n s) = bytes (some (nameText (record { name = n; credential = s; hidden = false; ipv4 = dhcp; servers = []; domain = []; ipv6 = Auto })))
-of (moves name file w) = moved (moving (word name) (word file) w (replicate 70 0) (replicate 858 0))
+of (file-of n s) = bytes (some (nameText (record { name = n; credential = s; hidden = false; ipv4 = auto; servers = []; domain = []; ipv6 = auto })))
+of (moves name file w) = moved (moving (word name) (word file) w (replicate 70 0) (replicate 944 0))
 
 abbrev accepted : ℕ → ℕ → Answer
 accepted n m = seen (record { number = 0; line = 0; settings = n; services = m })
@@ -75,7 +77,7 @@ Case = ℕ × Question × Answer
 abbrev cases : List Case
 cases =
     (1, reads Iwd "Desk.open" "", accepted 0 0)
-    ∷ (1, joins "Desk.open" "", record-is (joined (record { name = word "Desk"; credential = noSecret; hidden = false; ipv4 = dhcp; servers = []; domain = []; ipv6 = Auto })))
+    ∷ (1, joins "Desk.open" "", record-is (joined (record { name = word "Desk"; credential = noSecret; hidden = false; ipv4 = auto; servers = []; domain = []; ipv6 = auto })))
     ∷ (2, reads Iwd "Desk.psk" "", refused 14 0)
     ∷ (3, string-of "\\sab", bytes (some (32 ∷ 97 ∷ 98 ∷ [])))
     ∷ (3, written (32 ∷ 97 ∷ 98 ∷ []), bytes (some (word "\\sab")))
@@ -85,7 +87,7 @@ cases =
     ∷ (7, reads Iwd "Desk.open" "[IPv4]\nAddress=10.0.0.2\nGateway=10.0.0.1\nNetmask=255.0.255.0\n", refused 12 4)
     ∷ (8, reads Iwd "Desk.open" "[IPv4]\nAddress=10.0.0.2\nGateway=10.0.0.1\nNetmask=255.255.254.0\n", accepted 3 0)
     ∷ (8, mask "255.255.254.0", length-is (some 23))
-    ∷ (8, joins "Desk.open" "[IPv4]\nAddress=10.0.0.2\nGateway=10.0.0.1\nNetmask=255.255.254.0\n", record-is (joined (record { name = word "Desk"; credential = noSecret; hidden = false; ipv4 = static (10 ∷ 0 ∷ 0 ∷ 2 ∷ []) 23 (some (10 ∷ 0 ∷ 0 ∷ 1 ∷ [])); servers = []; domain = []; ipv6 = Auto })))
+    ∷ (8, joins "Desk.open" "[IPv4]\nAddress=10.0.0.2\nGateway=10.0.0.1\nNetmask=255.255.254.0\n", record-is (joined (record { name = word "Desk"; credential = noSecret; hidden = false; ipv4 = static (10 ∷ 0 ∷ 0 ∷ 2 ∷ []) 23 (some (10 ∷ 0 ∷ 0 ∷ 1 ∷ [])); servers = []; domain = []; ipv6 = auto })))
     ∷ (9, reads ConnMan "a.config" "[service_a]\nType=wifi\nName=a\nIPv4=10.0.0.2/24\n", accepted 3 1)
     ∷ (9, moves "a.config" "[service_a]\nType=wifi\nName=a\nIPv4=10.0.0.2/24\n" 1, moved (refuses NoPlace 4))
     ∷ (10, reads Iwd "Desk.open" "[IPv4]\nGateway=10.0.0.1\nAddress=01.2.3.4\n", refused 12 3)
@@ -103,5 +105,5 @@ abbrev answer : Case → Answer
 answer c = c .2
 
 pub table : map computed cases ≡ map answer cases
-unfolding reading lineFault grown sectionsOf serviceFault fileFault fault withLine isService groupOf keysOf nameOf networkOf stem isKeyByte isPlain bracketOf settingOf lineOf valueStart typed kindJudged judged flag wordOf ipv4 entries colonPairs mac preSharedKey ssid string decimalValue number address prefixLength lengthUpTo maskLength netmask addresses nibble unhex hexDigit hex unescapeFrom escapeFrom follow utf8From text nameText moving
+unfolding reading lineFault grown sectionsOf serviceFault fileFault fault withLine isService groupOf keysOf nameOf networkOf stem isKeyByte isPlain bracketOf settingOf lineOf valueStart typed kindJudged judged flag wordOf ipv4 hexValue group groups side halves ipv6 connmanIpv6 withLength entries colonPairs mac preSharedKey ssid string decimalValue number address prefixLength lengthUpTo maskLength netmask addresses nibble unhex hexDigit hex unescapeFrom escapeFrom follow utf8From text nameText moving
 table = refl

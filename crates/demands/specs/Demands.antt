@@ -220,7 +220,7 @@ Demand-2-service-fields =
 pub record WritableRecord (r : JoinRecord) (s : List (List ℕ)) (n f : List ℕ) : Type 0 where
   pub arrays : Arrays r s
   pub formed-is : formed r s ≡ true
-  pub placed : hasPlace (joined r s .ipv4) ≡ true
+  pub placed : hasPlace (joined r s) ≡ true
   pub name-room : length (nameText (joined r s)) ≤ length n
   pub file-room : length (fileText (joined r s)) ≤ length f
 
@@ -277,9 +277,10 @@ Demand-3-key =
 -- ==== 2026-01. "We want it shown that no record the writer accepts ever needs more than 858 bytes for the file and 70 for
 -- the name, and that some record reaches each figure. Buffers of those sizes then never meet refusal 17."
 
--- the figures: `fileMax` is what the rows of written `GreatestLengths` come to, a row for each line; `nameMax` is names'
+-- the figures: `fileMax` is what the rows of written `GreatestLengths` come to, a row for each line, "worked out afresh" by request
+-- 2026-03 with a static IPv6; `nameMax` is names'
 abbrev pub Room-figures : Type 0
-Room-figures = (fileMax ≡ 858) × (nameMax ≡ 70)
+Room-figures = (fileMax ≡ 944) × (nameMax ≡ 70)
 
 -- no record that is written needs more
 pub record WithinRoom (r : JoinRecord) (s : List (List ℕ)) : Type 0 where

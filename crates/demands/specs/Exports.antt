@@ -179,7 +179,7 @@ Exported-table = (c : Call) → hasRow (lineCount c) (exportRows c) (exportNumbe
 pub record WritableBytes (c : CRecord) (n f : List ℕ) : Type 0 where
   pub codes : known c ≡ true
   pub formed-is : formed (recordIn c) (serversIn c) ≡ true
-  pub placed : hasPlace (joined (recordIn c) (serversIn c) .ipv4) ≡ true
+  pub placed : hasPlace (joined (recordIn c) (serversIn c)) ≡ true
   pub name-room : length (nameText (joined (recordIn c) (serversIn c))) ≤ length n
   pub file-room : length (fileText (joined (recordIn c) (serversIn c))) ≤ length f
 
@@ -292,7 +292,7 @@ pub record OldBehind (k : Left) (n f : List ℕ) : Type 0 where
 -- brought in, byte for byte; `CArrays` is what the types say of its arrays
 pub record BytesReadBack (c : CRecord) (n f : List ℕ) (k : Left) : Type 0 where
   pub back :
-      Calls.iwdRecordOf (newName k) (newFile k) ≡ record { line = 0; number = 0; «record» = c; reserved = replicate 1 0 }
+      Calls.iwdRecordOf (newName k) (newFile k) ≡ record { line = 0; number = 0; «record» = c; reserved = replicate 7 0 }
   pub behind : OldBehind k n f
 
 abbrev pub Exported-write : Type 0

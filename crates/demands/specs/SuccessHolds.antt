@@ -126,7 +126,7 @@ module _ (c : CRecord) (n f : List ℕ) where
   written-writable =
       go (known c) refl (writing (recordIn c) (serversIn c) n f) (writing-is (recordIn c) (serversIn c) n f)
     where
-      roomed : known c ≡ true → formed (recordIn c) (serversIn c) ≡ true → hasPlace (j .ipv4) ≡ true → (m : Writing) →
+      roomed : known c ≡ true → formed (recordIn c) (serversIn c) ≡ true → hasPlace j ≡ true → (m : Writing) →
           RoomIs j n f m → writtenNumber m ≡ 0 → WritableBytes c n f
       roomed k g p m (enough x y) e = record { codes = k; formed-is = g; placed = p; name-room = x; file-room = y }
       roomed k g p m short e = absurd (omega (arith, e))
@@ -209,7 +209,7 @@ exported-write c n f arrays e =
       back =
           ap₂ Calls.iwdRecordOf p t
           ∙ ap₂ recordAnswerAt (writing-record (recordIn c) (serversIn c) a n f h) (writing-servers (recordIn c) (serversIn c) a n f h lentServers)
-          ∙ ap (λ (r : CRecord). record { line = 0; number = 0; «record» = r; reserved = replicate 1 0 }) (brought-back c (w .codes) (arrays .servers));
+          ∙ ap (λ (r : CRecord). record { line = 0; number = 0; «record» = r; reserved = replicate 7 0 }) (brought-back c (w .codes) (arrays .servers));
       behind = old-behind (writingIn c n f) n f;
     }
 

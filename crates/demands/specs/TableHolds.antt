@@ -18,6 +18,8 @@ use Rattle.text.specs.declared.Dialect.{Dialect}
 use Rattle.text.specs.declared.Dialect.the-variants.{Iwd, ConnMan}
 use Rattle.named_words.specs.NamedWords.{wordOf}
 use Rattle.connman_ipv4.specs.ConnmanIpv4.{ipv4}
+use Rattle.addressing.specs.Addressing.{orAuto}
+use Rattle.ipv6_values.specs.Ipv6Values.{connmanIpv6}
 use Rattle.named_words.specs.declared.Word.the-variants as W
 use Rattle.named_words.specs.declared.WordList.the-variants as L
 use Rattle.rules.specs.Sections.{Entry, Section}
@@ -38,12 +40,12 @@ use Rattle.settings.specs.Asked.{iwdAnswerOf, serviceAnswerOf}
 use Rattle.lookups.specs.Lookups.{lookupOf}
 use Rattle.records.specs.Record.{Join, joined}
 use Rattle.records.specs.declared.JoinRecord.{JoinRecord}
-use Rattle.written.specs.Written.{hasPlace}
+use Rattle.written.specs.Written.{ipv4Placed, ipv6Placed}
 use Rattle.writer.specs.Writing.{Writing, writing, writingOf, writtenAnswer}
 use Rattle.writer.specs.Room.{RoomIs, enough, short, room-is, WritingIs, malformed, no-place, placed, writing-is}
 use Rattle.joins.specs.Joins as J
 use Rattle.rules.specs.Tables.{keysOf}
-use Rattle.joins.specs.Joins.{ipv4OrDhcp, iwdJoin, networkName, foreign, foreignSecurity, noRecord, serviceJoin, serviceSetting, recordAnswer, iwdRecord, serviceRecord, wired, orNoPlace}
+use Rattle.joins.specs.Joins.{iwdJoin, networkName, foreign, foreignSecurity, noRecord, serviceJoin, serviceSetting, recordAnswer, iwdRecord, serviceRecord, wired, orNoPlace}
 use Rattle.names.specs.Names.{networkOf}
 use Rattle.mover.specs.Moves.{lineIf, lineGiven, unplaced, least, earliest, orUnplaced, movedIfGood, moving}
 use Rattle.demands.specs.Demands as D
@@ -154,18 +156,21 @@ module _ (file : List ℕ) where
     unplaced-lines =
         let type = lineIf (wired at) (at (word "Type")) in
         let security = lineIf (foreign at) (at (word "Security")) in
-        let numbers = lineIf (not (hasPlace (serviceJoin at .ipv4))) (at (word "IPv4")) in
+        let four = lineIf (not (ipv4Placed (serviceJoin at .ipv4))) (at (word "IPv4")) in
+        let six = lineIf (not (ipv6Placed (serviceJoin at .ipv6))) (at (word "IPv6")) in
         let mac = lineGiven (at (word "MAC")) in
         let privacy = lineGiven (at (word "IPv6.Privacy")) in
         let domains = lineGiven (at (word "SearchDomains")) in
         let clocks = lineGiven (at (word "Timeservers")) in
-        each-append OnLine (type ++ security ++ numbers ++ mac ++ privacy ++ domains) clocks
-        (each-append OnLine (type ++ security ++ numbers ++ mac ++ privacy) domains
-        (each-append OnLine (type ++ security ++ numbers ++ mac) privacy
-        (each-append OnLine (type ++ security ++ numbers) mac
-        (each-append OnLine (type ++ security) numbers
+        each-append OnLine (type ++ security ++ four ++ six ++ mac ++ privacy ++ domains) clocks
+        (each-append OnLine (type ++ security ++ four ++ six ++ mac ++ privacy) domains
+        (each-append OnLine (type ++ security ++ four ++ six ++ mac) privacy
+        (each-append OnLine (type ++ security ++ four ++ six) mac
+        (each-append OnLine (type ++ security ++ four) six
+        (each-append OnLine (type ++ security) four
         (each-append OnLine type security (line-if (λ o. isWord W.Ethernet (readAs (wordOf L.ServiceType) o)) refl (at (word "Type")) (stands (word "Type"))) (line-if (λ o. foreignSecurity (readAs (wordOf L.Security) o)) refl (at (word "Security")) (stands (word "Security"))))
-        (line-if (λ o. not (hasPlace (ipv4OrDhcp (readAs ipv4 o)))) refl (at (word "IPv4")) (stands (word "IPv4"))))
+        (line-if (λ o. not (ipv4Placed (orAuto (readAs ipv4 o)))) refl (at (word "IPv4")) (stands (word "IPv4"))))
+        (line-if (λ o. not (ipv6Placed (orAuto (readAs connmanIpv6 o)))) refl (at (word "IPv6")) (stands (word "IPv6"))))
         (given (word "MAC")))
         (given (word "IPv6.Privacy")))
         (given (word "SearchDomains")))

@@ -39,17 +39,20 @@ zeroCRecord =
       «domain_len» = 0;
       domain = replicate 253 0;
       ipv6 = 0;
+      «ipv6_address» = replicate 16 0;
+      «ipv6_prefix_length» = 0;
+      «has_ipv6_gateway» = 0;
+      «ipv6_gateway» = replicate 16 0;
     }
 
 abbrev pub zeroAnswer : ℕ → ℕ → CRecordAnswer
-zeroAnswer n l = record { line = l; number = n; «record» = zeroCRecord; reserved = replicate 1 0 }
+zeroAnswer n l = record { line = l; number = n; «record» = zeroCRecord; reserved = replicate 7 0 }
 
 abbrev pub zeroIwd : ℕ → ℕ → CIwdSettings
 zeroIwd n l =
     record {
       line = l;
       number = n;
-      «ipv6_enabled» = 0;
       general =
           record {
             «auto_connect» = 0;
@@ -58,7 +61,16 @@ zeroIwd n l =
             «has_address_override» = 0;
             «address_override» = replicate 6 0;
           };
-      reserved = replicate 4 0;
+      ipv6 =
+          record {
+            enabled = 0;
+            «has_address» = 0;
+            address = replicate 16 0;
+            «prefix_length» = 0;
+            «has_gateway» = 0;
+            gateway = replicate 16 0;
+          };
+      reserved = replicate 1 0;
       security =
           record {
             «passphrase_line» = 0;
@@ -116,9 +128,13 @@ zeroService n l =
             «has_gateway» = 0;
             gateway = replicate 4 0;
             ipv6 = 0;
+            «ipv6_address» = replicate 16 0;
+            «ipv6_prefix_length» = 0;
+            «has_ipv6_gateway» = 0;
+            «ipv6_gateway» = replicate 16 0;
             privacy = 0;
             «has_mac» = 0;
             mac = replicate 6 0;
-            reserved = replicate 4 0;
+            reserved = replicate 2 0;
           };
     }

@@ -16,8 +16,9 @@ use Rattle.text.specs.Scans.{Stop}
 use Rattle.text.proofs.ScanLaws.{stop-low, stop-front, stop-after, stop-byte}
 use Rattle.put.specs.Put.{Wrote}
 use Rattle.put.specs.Laws.{then, wrote-byte}
-use Rattle.text.specs.Options.{prepend, orEmpty, ReadsUpTo}
-use Rattle.put.proofs.Filling.{glue, glue-prepend, glue-cons, glue-glue, glue-nil, Filling, filling-first, filling-none, filling-end, filling-room, filling-byte}
+use Rattle.text.specs.Options.{prepend, glue, orEmpty, ReadsUpTo}
+use Rattle.text.specs.OptionLaws.{glue-prepend, glue-cons, glue-glue, glue-nil}
+use Rattle.put.proofs.Filling.{Filling, filling-first, filling-none, filling-end, filling-room, filling-byte}
 use Rattle.escapes.specs.Escapes.{meant, unescapeFrom, unescape, shown, escapeFrom, escape}
 use Rattle.escapes.specs.Answers.{sizeOf}
 use Rattle.escapes.specs.Letters.{byLetter, Letter}

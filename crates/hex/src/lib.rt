@@ -79,7 +79,8 @@ pub fn unhexed_32(s: &[u8]) -> [u8; 32]
     a
 }
 
-fn hex_digit(n: u8) -> u8
+// The digit of n in lower case.
+pub fn hex_digit(n: u8) -> u8
     requires { ⌜ n < 16 ⌝ }
     ensures { λ r. ⌜ r ≡ hexDigit n ⌝ }
 {

@@ -11,10 +11,9 @@ use lib.Dec.{eqb, ltb}
 use lib.ListN.{length, take, drop, set, getD, replicate, drop-of-length-le, length-set}
 use lib.Seq.{drop-cons, take-suc-set, take-all}
 use Rattle.text.specs.Parts.{padded}
-use Rattle.text.specs.Options.{isSome, andThen, only, sized, prepend, orEmpty, ReadsUpTo}
+use Rattle.text.specs.Options.{isSome, andThen, only, sized, prepend, glue, orEmpty, ReadsUpTo}
 use Rattle.text.specs.Relations.{Sized}
-use Rattle.text.specs.OptionLaws.{some-is, none-is, is-sized, unsized, sized-then}
-use Rattle.put.proofs.Filling.{glue, glue-prepend}
+use Rattle.text.specs.OptionLaws.{some-is, none-is, is-sized, unsized, glue-prepend, sized-then}
 use Rattle.hex.specs.Hex.{nibble, pairByte, unhex}
 use Rattle.hex.specs.Laws.{unhex-length}
 use Rattle.hex_values.specs.HexValues.{colonPairs, pairs, mac, preSharedKey, ssid}

@@ -13,6 +13,11 @@ use Rattle.kinds.specs.declared.Kind.the-variants.{Flag}
 use Rattle.named_words.specs.declared.Word.the-variants as W
 use Rattle.named_words.specs.declared.WordList.the-variants as L
 use Rattle.hex_values.specs.Answers.{preSharedKeyAnswer}
+use Rattle.addressing.specs.Addressing.{Addressing}
+use Rattle.connman_ipv4.specs.Answers.{ipv4Answer}
+use Rattle.ipv6.specs.Answers.{ipv6Answer}
+use Rattle.ipv6_values.specs.Ipv6Values.{WithLength}
+use Rattle.ipv6_values.specs.Answers.{connmanIpv6Answer, withLengthAnswer}
 use Rattle.rules.specs.Tables.{keysOf}
 use Rattle.rules.specs.Sections.{Entry, entryOf}
 use Rattle.rules.specs.declared.Group.the-variants as G
@@ -23,8 +28,8 @@ use Rattle.places.specs.declared.KeyName.{KeyName}
 use Rattle.places.specs.declared.KeyName.the-variants as N
 use Rattle.values.specs.Values.{choice, lengthOr0}
 use Rattle.values.proofs.KeptValues.{row-word, row-flag}
-use Rattle.joins.specs.Joins.{secretFrom, lengthOr24, staticOrDhcp, foreign}
-use Rattle.joins.specs.Answers.{phraseAnswer, loginAnswer, or24, numbersAnswer, choiceIn, loginRead, numbersRead}
+use Rattle.joins.specs.Joins.{secretFrom, lengthOr24, staticOrDhcp, staticOrAuto, unlessOff, foreign}
+use Rattle.joins.specs.Answers.{phraseAnswer, loginAnswer, or24, choiceIn, loginRead, numbersRead, ipv6Read, ipv6Unless}
 use Rattle.joins.specs.Places.{yesAt, foreignAt}
 use Rattle.hex_values.specs.declared.PreSharedKey.{PreSharedKey}
 use Rattle.addresses.specs.MaskRuleLaws.{netmask-good}
@@ -52,17 +57,32 @@ pub or24-some : (n : ℕ) → (n ≡ 0 → ⊥) → n ≡ or24 n
 or24-some zero h = absurd (h refl)
 or24-some (suc n) h = refl
 
-numbers-chosen : (a : Option (List ℕ)) (m : Option ℕ) (g : Option (List ℕ)) → ((n : ℕ) → m ≡ some n → 1 ≤ n) → numbersRead (addressAnswer a) (lengthOr0 m) (addressAnswer g) ≡ numbersAnswer (staticOrDhcp a m g)
+numbers-chosen : (a : Option (List ℕ)) (m : Option ℕ) (g : Option (List ℕ)) → ((n : ℕ) → m ≡ some n → 1 ≤ n) → numbersRead (addressAnswer a) (lengthOr0 m) (addressAnswer g) ≡ ipv4Answer (some (staticOrDhcp a m g))
 numbers-chosen none m g h = refl
 numbers-chosen (some a) m none h = rw (or24-is m h)
 numbers-chosen (some a) m (some g) h = rw (or24-is m h)
 
-pub numbers-given : (a g : Option (List ℕ)) (m : Option Entry) → numbersRead (addressAnswer a) (lengthOr0 (readAs netmask m)) (addressAnswer g) ≡ numbersAnswer (staticOrDhcp a (readAs netmask m) g)
+pub numbers-given : (a g : Option (List ℕ)) (m : Option Entry) → numbersRead (addressAnswer a) (lengthOr0 (readAs netmask m)) (addressAnswer g) ≡ ipv4Answer (some (staticOrDhcp a (readAs netmask m) g))
 numbers-given a g m = numbers-chosen a (readAs netmask m) g (some-ones m)
   where
     some-ones : (m : Option Entry) (n : ℕ) → readAs netmask m ≡ some n → 1 ≤ n
     some-ones none n h = absurd (Option·none-ne-some n h)
     some-ones (some e) n h = netmask-good (e .value) h .0
+
+-- ---- IPv6
+
+ipv6-chosen : (a : Option WithLength) (g : Option (List ℕ)) → ipv6Read (withLengthAnswer a) (ipv6Answer g) ≡ connmanIpv6Answer (some (staticOrAuto a g))
+ipv6-chosen none g = refl
+ipv6-chosen (some a) none = refl
+ipv6-chosen (some a) (some g) = refl
+
+ipv6-put-off : (o : Option Bool) (i : Addressing) → ipv6Unless o (connmanIpv6Answer (some i)) ≡ connmanIpv6Answer (some (unlessOff o i))
+ipv6-put-off none i = refl
+ipv6-put-off (some true) i = refl
+ipv6-put-off (some false) i = refl
+
+pub ipv6-given : (o : Option Bool) (a : Option WithLength) (g : Option (List ℕ)) → ipv6Unless o (ipv6Read (withLengthAnswer a) (ipv6Answer g)) ≡ connmanIpv6Answer (some (unlessOff o (staticOrAuto a g)))
+ipv6-given o a g = ap (ipv6Unless o) (ipv6-chosen a g) ∙ ipv6-put-off o (staticOrAuto a g)
 
 -- ---- a yes/no
 

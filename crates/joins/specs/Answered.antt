@@ -16,8 +16,13 @@ use Rattle.addresses.specs.declared.Separator.{Separator}
 use Rattle.addresses.specs.declared.Separator.the-variants.{Spaces, Comma}
 use Rattle.hex_values.specs.HexValues as HexValues
 use Rattle.kinds.specs.Kinds as K
-use Rattle.named_words.specs.NamedWords.{wordOf}
-use Rattle.connman_ipv4.specs.ConnmanIpv4.{IPv4, dhcp, off, static, ipv4}
+use Rattle.named_words.specs.NamedWords.{flag, wordOf}
+use Rattle.connman_ipv4.specs.ConnmanIpv4.{ipv4}
+use Rattle.addressing.specs.Addressing.{Addressing, Good, orAuto}
+use Rattle.ipv6.specs.Ipv6.{ipv6, isIpv6}
+use Rattle.ipv6.specs.Laws.{ipv6-bytes}
+use Rattle.ipv6_values.specs.Ipv6Values.{connmanIpv6, WithLength, withLength}
+use Rattle.ipv6_values.specs.Laws.{GoodWithLength, connman-ipv6-good, with-length-good}
 use Rattle.hex_values.specs.HexValues.{ssid}
 use Rattle.kinds.specs.Kinds.{string}
 use Rattle.kinds.specs.Typed as T
@@ -26,7 +31,7 @@ use Rattle.addresses.specs.Laws.{address-bytes, addresses-good}
 use Rattle.utf8.specs.ByteLaws.{text-bytes}
 use Rattle.escapes.specs.TextLaws.{unescape-text}
 use Rattle.addresses.specs.MaskRuleLaws.{netmask-good}
-use Rattle.connman_ipv4.specs.Laws.{Ipv4Good, ipv4-good}
+use Rattle.connman_ipv4.specs.Laws.{ipv4-good}
 use Rattle.hex_values.specs.Laws.{pre-shared-key-size, ssid-size}
 use Rattle.kinds.specs.ValueRuleLaws.{string-size}
 use Rattle.kinds.specs.declared.Kind.the-variants as Kind
@@ -47,8 +52,8 @@ use Rattle.rules.specs.GoodValues.{GoodValue, group-value, service-value}
 use Rattle.rules.specs.GivenValues.{read-holds, entry-given}
 use Rattle.rules.specs.declared.Reading.the-variants.{Accepted}
 use Rattle.records.specs.Record.{Join}
-use Rattle.records.specs.Formed.{GoodPassphrase, GoodKey, GoodSecret, GoodIpv4, GoodServers, GoodDomain, WellFormed}
-use Rattle.joins.specs.Joins.{joined, secretFrom, staticOrDhcp, ipv4OrDhcp, nameFrom, iwdJoin, serviceJoin, wired, foreign, noRecord, networkName, iwdJoined, serviceSetting, serviceJoined}
+use Rattle.records.specs.Formed.{GoodPassphrase, GoodKey, GoodSecret, GoodIpv4, GoodIpv6, GoodServers, GoodDomain, WellFormed}
+use Rattle.joins.specs.Joins.{joined, secretFrom, staticOrDhcp, staticOrAuto, unlessOff, nameFrom, iwdJoin, serviceJoin, wired, foreign, noRecord, networkName, iwdJoined, serviceSetting, serviceJoined}
 use Rattle.joins.specs.Joining.{or-false, joined-good, service-joining}
 
 -- ---- what is read from a setting
@@ -140,6 +145,24 @@ iwd-ipv4-formed at =
     (read-holds (λ (n : ℕ). (1 ≤ n) × (n ≤ 32)) netmask (at (word "Netmask")) (λ e q x r. netmask-good (e .value) r))
     (address-formed (at (word "Gateway")))
 
+unless-off-formed : (o : Option Bool) (i : Addressing) → GoodIpv6 i → GoodIpv6 (unlessOff o i)
+unless-off-formed none i h = h
+unless-off-formed (some true) i h = h
+unless-off-formed (some false) i h = tt
+
+fixed-formed : (a : Option WithLength) (g : Option (List ℕ)) → IfSome GoodWithLength a → IfSome (λ x. isIpv6 x ≡ true) g →
+    GoodIpv6 (staticOrAuto a g)
+fixed-formed none g x y = tt
+fixed-formed (some a) g x y = record { address = x .address; low = x .low; high = x .high; gateway = y }
+
+iwd-ipv6-formed : (at : List ℕ → Option Entry) →
+    GoodIpv6 (unlessOff (readAs (flag D.Iwd) (at (word "Enabled"))) (staticOrAuto (readAs withLength (at (word "Address"))) (readAs ipv6 (at (word "Gateway")))))
+iwd-ipv6-formed at =
+    unless-off-formed (readAs (flag D.Iwd) (at (word "Enabled"))) (staticOrAuto (readAs withLength (at (word "Address"))) (readAs ipv6 (at (word "Gateway"))))
+    (fixed-formed (readAs withLength (at (word "Address"))) (readAs ipv6 (at (word "Gateway")))
+    (read-holds GoodWithLength withLength (at (word "Address")) (λ e q x r. with-length-good (e .value) r))
+    (read-holds (λ (x : List ℕ). isIpv6 x ≡ true) ipv6 (at (word "Gateway")) (λ e q x r. ipv6-bytes (e .value) x r)))
+
 pub iwd-formed : (name file : List ℕ) {j : Join} → iwdJoined name file ≡ joined j → WellFormed j
 unfolding keysOf
 iwd-formed name file a =
@@ -152,6 +175,7 @@ iwd-formed name file a =
       ipv4 = iwd-ipv4-formed (iwdEntry (sectionsOf D.Iwd file) (word "IPv4"));
       servers = good-servers Spaces (iwdEntry (sectionsOf D.Iwd file) (word "IPv4") (word "DNS"));
       domain = iwd-domain-formed name file r;
+      ipv6 = iwd-ipv6-formed (iwdEntry (sectionsOf D.Iwd file) (word "IPv6"));
     }
     )
 
@@ -236,18 +260,17 @@ name-formed none none f g h = absurd (h refl refl)
 
 -- ---- the other parts
 
-ipv4-formed : (i : IPv4) → Ipv4Good i → GoodIpv4 i
-ipv4-formed dhcp h = tt
-ipv4-formed off h = tt
-ipv4-formed (static a n g) h = record { address = h .address; low = h .low; high = h .high; gateway = h .gateway }
+or-auto-formed : (width most : ℕ) (o : Option Addressing) → IfSome (Good width most) o → Good width most (orAuto o)
+or-auto-formed width most none h = tt
+or-auto-formed width most (some i) h = h
 
-or-dhcp-formed : (o : Option IPv4) → IfSome GoodIpv4 o → GoodIpv4 (ipv4OrDhcp o)
-or-dhcp-formed none h = tt
-or-dhcp-formed (some i) h = h
-
-service-ipv4-formed : (at : Option Entry) → GoodIpv4 (ipv4OrDhcp (readAs ipv4 at))
+service-ipv4-formed : (at : Option Entry) → GoodIpv4 (orAuto (readAs ipv4 at))
 service-ipv4-formed at =
-    or-dhcp-formed (readAs ipv4 at) (read-holds GoodIpv4 ipv4 at (λ e q x r. ipv4-formed x (ipv4-good (e .value) r)))
+    or-auto-formed 4 32 (readAs ipv4 at) (read-holds GoodIpv4 ipv4 at (λ e q x r. ipv4-good (e .value) r))
+
+service-ipv6-formed : (at : Option Entry) → GoodIpv6 (orAuto (readAs connmanIpv6 at))
+service-ipv6-formed at =
+    or-auto-formed 16 128 (readAs connmanIpv6 at) (read-holds GoodIpv6 connmanIpv6 at (λ e q x r. connman-ipv6-good (e .value) r))
 
 -- of service w of an accepted file
 module _ (name file : List ℕ) (w : ℕ) {n m : ℕ} (a : reading D.ConnMan name file ≡ Accepted n m) where
@@ -297,5 +320,6 @@ service-formed name file w a =
       ipv4 = service-ipv4-formed (serviceSetting w file (word "IPv4"));
       servers = good-servers Comma (serviceSetting w file (word "Nameservers"));
       domain = service-domain-formed name file w (h .accepted);
+      ipv6 = service-ipv6-formed (serviceSetting w file (word "IPv6"));
     }
     )

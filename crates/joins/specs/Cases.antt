@@ -14,7 +14,10 @@ use Rattle.escapes.specs.Escapes.{unescapeFrom}
 use Rattle.hex.specs.Hex.{nibble, unhex}
 use Rattle.addresses.specs.Addresses.{decimalValue, number, address, prefixLength, lengthUpTo, maskLength, netmask, addresses}
 use Rattle.named_words.specs.NamedWords.{flag, wordOf}
-use Rattle.connman_ipv4.specs.ConnmanIpv4.{IPv4, dhcp, static, ipv4}
+use Rattle.connman_ipv4.specs.ConnmanIpv4.{ipv4}
+use Rattle.addressing.specs.Addressing.{Addressing, auto, off, static}
+use Rattle.ipv6.specs.Ipv6.{hexValue, group, groups, side, halves, ipv6}
+use Rattle.ipv6_values.specs.Ipv6Values.{connmanIpv6, withLength}
 use Rattle.hex_values.specs.HexValues.{colonPairs, mac, preSharedKey, ssid}
 use Rattle.entry_lists.specs.EntryLists.{entries}
 use Rattle.kinds.specs.Kinds.{string}
@@ -26,27 +29,29 @@ use Rattle.rules.specs.Faults.{fault}
 use Rattle.rules.specs.Sections.{withLine}
 use Rattle.rules.specs.Groups.{serviceFault, fileFault}
 use Rattle.rules.specs.Reading.{lineFault, grown, sectionsOf, reading}
-use Rattle.rules.specs.declared.Refusal.the-variants.{ValueText, Missing, NoPlace, NoService}
+use Rattle.rules.specs.declared.Refusal.the-variants.{ValueText, ValueKind, Missing, NoPlace, NoService}
 use Rattle.records.specs.Record.{Secret, noSecret, passphrase, Join}
 use Rattle.records.specs.Record as R
-use Rattle.records.specs.Cases.{worked}
-use Rattle.records.specs.declared.Ipv6.the-variants as Ipv6
+use Rattle.records.specs.Cases.{worked, till6, router6}
 use Rattle.joins.specs.Joins.{Joined, joined, refused, iwdJoined, serviceJoined}
 
 -- a record that is all defaults but for its name and credential
 abbrev plainJoin : String → Secret → Join
-plainJoin n c = record { name = word n; credential = c; hidden = false; ipv4 = dhcp; servers = []; domain = []; ipv6 = Ipv6.Auto }
+plainJoin n c = record { name = word n; credential = c; hidden = false; ipv4 = auto; servers = []; domain = []; ipv6 = auto }
 
 -- an open network whose addresses are given
-abbrev withNumbers : IPv4 → Join
-withNumbers i = record { name = word "Desk"; credential = noSecret; hidden = false; ipv4 = i; servers = []; domain = []; ipv6 = Ipv6.Auto }
+abbrev withNumbers : Addressing → Join
+withNumbers i = record { name = word "Desk"; credential = noSecret; hidden = false; ipv4 = i; servers = []; domain = []; ipv6 = auto }
+
+abbrev withIpv6 : Addressing → Join
+withIpv6 i = record { name = word "Desk"; credential = noSecret; hidden = false; ipv4 = auto; servers = []; domain = []; ipv6 = i }
 
 -- ---- iwd
 
 abbrev IwdCase : Type 0
 IwdCase = String × String × Joined
 
--- cases 1, 2 and 8 of the twelve are the second, third and fourth; a Passphrase wins over a PreSharedKey; a mask is absent; a domain is unescaped
+-- cases 1, 2 and 8 of the twelve are the second, third and fourth; a Passphrase wins over a PreSharedKey; a mask is absent; a domain is unescaped; an IPv6 address has 128 where its length is left off (2026-03)
 abbrev iwdCases : List IwdCase
 iwdCases =
     ("Desk 4.psk", desk, joined worked)
@@ -56,7 +61,10 @@ iwdCases =
     ∷ ("Desk.open", "[IPv4]\nAddress=10.0.0.2\nGateway=10.0.0.1", joined (withNumbers (static (10 ∷ 0 ∷ 0 ∷ 2 ∷ []) 24 (some (10 ∷ 0 ∷ 0 ∷ 1 ∷ [])))))
     ∷ ("Desk.psk", "[Security]\nPreSharedKey=0101010101010101010101010101010101010101010101010101010101010101", joined (plainJoin "Desk" (R.key (replicate 32 1))))
     ∷ ("Desk.psk", "[Security]\nPreSharedKey=0101010101010101010101010101010101010101010101010101010101010101\nPassphrase=1234567 ", joined (plainJoin "Desk" (passphrase (word "1234567 "))))
-    ∷ ("Desk.open", "[IPv4]\nDomainName=\\sab\n[IPv6]\nEnabled=1\n[Settings]\nHidden=0", joined (record { name = word "Desk"; credential = noSecret; hidden = false; ipv4 = dhcp; servers = []; domain = word " ab"; ipv6 = Ipv6.Auto }))
+    ∷ ("Desk.open", "[IPv4]\nDomainName=\\sab\n[IPv6]\nEnabled=1\n[Settings]\nHidden=0", joined (record { name = word "Desk"; credential = noSecret; hidden = false; ipv4 = auto; servers = []; domain = word " ab"; ipv6 = auto }))
+    ∷ ("Desk.open", "[IPv6]\nAddress=2001:DB8:0:0::14/64\nGateway=2001:db8::1\nEnabled=true", joined (withIpv6 (static till6 64 (some router6))))
+    ∷ ("Desk.open", "[IPv6]\nGateway=2001:db8::1\nAddress=2001:db8::14", joined (withIpv6 (static till6 128 (some router6))))
+    ∷ ("Desk.open", "[IPv6]\nEnabled=0", joined (withIpv6 off))
     ∷ []
 
 abbrev ofIwd : IwdCase → Joined
@@ -66,7 +74,7 @@ abbrev iwdAnswer : IwdCase → Joined
 iwdAnswer c = c .2
 
 pub iwd-table : map ofIwd iwdCases ≡ map iwdAnswer iwdCases
-unfolding reading lineFault grown sectionsOf serviceFault fileFault fault withLine isService groupOf keysOf nameOf networkOf isKeyByte isPlain bracketOf settingOf lineOf valueStart typed kindJudged judged flag wordOf ipv4 entries colonPairs mac preSharedKey ssid string decimalValue number address prefixLength lengthUpTo maskLength netmask addresses nibble unhex unescapeFrom follow utf8From text
+unfolding reading lineFault grown sectionsOf serviceFault fileFault fault withLine isService groupOf keysOf nameOf networkOf isKeyByte isPlain bracketOf settingOf lineOf valueStart typed kindJudged judged flag wordOf ipv4 hexValue group groups side halves ipv6 connmanIpv6 withLength entries colonPairs mac preSharedKey ssid string decimalValue number address prefixLength lengthUpTo maskLength netmask addresses nibble unhex unescapeFrom follow utf8From text
 iwd-table = refl
 
 -- ---- ConnMan
@@ -89,6 +97,10 @@ serviceCases =
     ∷ (0, "[service_a]\nType=wifi\nName=Desk", refused NoService 0)
     ∷ (1, "[service_a]\nType=wifi\nName=\\s \nPassphrase= \\ta\\nb\\rcde\\s\t", joined (plainJoin " " (passphrase (word "\ta\nb\rcde "))))
     ∷ (1, "[service_a]\nType=wifi\nName=Desk\nPassphrase=abcdefg\\ \t", refused ValueText 4)
+    ∷ (1, "[service_a]\nType=wifi\nName=Desk\nIPv6=2001:db8::14/64/2001:DB8::0:1 ", joined (withIpv6 (static till6 64 (some router6))))
+    ∷ (1, "[service_a]\nType=wifi\nName=Desk\nIPv6=2001:db8::14/64", joined (withIpv6 (static till6 64 none)))
+    ∷ (1, "[service_a]\nType=wifi\nName=Desk\nIPv6=auto", joined (withIpv6 auto))
+    ∷ (1, "[service_a]\nType=wifi\nName=Desk\nIPv6=2001:db8::14", refused ValueKind 4)
     ∷ []
 
 abbrev ofService : ServiceCase → Joined
@@ -98,5 +110,5 @@ abbrev serviceAnswer : ServiceCase → Joined
 serviceAnswer c = c .2
 
 pub service-table : map ofService serviceCases ≡ map serviceAnswer serviceCases
-unfolding reading lineFault grown sectionsOf serviceFault fileFault fault withLine isService groupOf keysOf nameOf networkOf isKeyByte isPlain bracketOf settingOf lineOf valueStart typed kindJudged judged flag wordOf ipv4 entries colonPairs mac preSharedKey ssid string decimalValue number address prefixLength lengthUpTo maskLength netmask addresses nibble unhex unescapeFrom follow utf8From text
+unfolding reading lineFault grown sectionsOf serviceFault fileFault fault withLine isService groupOf keysOf nameOf networkOf isKeyByte isPlain bracketOf settingOf lineOf valueStart typed kindJudged judged flag wordOf ipv4 hexValue group groups side halves ipv6 connmanIpv6 withLength entries colonPairs mac preSharedKey ssid string decimalValue number address prefixLength lengthUpTo maskLength netmask addresses nibble unhex unescapeFrom follow utf8From text
 service-table = refl

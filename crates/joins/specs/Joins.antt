@@ -9,8 +9,9 @@ use Rattle.text.specs.Words.{word}
 use Rattle.text.specs.Options.{only, orElse, orEmpty}
 use Rattle.text.specs.declared.Dialect.the-variants as D
 use Rattle.addresses.specs.Addresses.{noAddress}
-use Rattle.connman_ipv4.specs.ConnmanIpv4.{IPv4, dhcp, static}
-use Rattle.connman_ipv4.specs.declared.Method.the-variants as M
+use Rattle.addressing.specs.Addressing.{Addressing, auto, off, static, orAuto}
+use Rattle.ipv6_values.specs.Ipv6Values.{WithLength}
+use Rattle.addressing.specs.declared.Method.the-variants as M
 use Rattle.named_words.specs.declared.Word.{Word}
 use Rattle.named_words.specs.declared.Word.the-variants as W
 use Rattle.names.specs.Names.{Network, networkOf}
@@ -27,8 +28,6 @@ use Rattle.rules.specs.declared.Answer.{Answer}
 use Rattle.rules.specs.declared.Answer.the-variants.{Good, Refused}
 use Rattle.records.specs.Record.{Secret, noSecret, passphrase, key, Join, laid, laidServers}
 use Rattle.records.specs.declared.Credential.the-variants as C
-use Rattle.records.specs.declared.Ipv6.{Ipv6}
-use Rattle.records.specs.declared.Ipv6.the-variants as Ipv6
 use Rattle.records.specs.declared.JoinRecord.{JoinRecord}
 use Rattle.joins.specs.declared.RecordAnswer.{RecordAnswer}
 
@@ -46,29 +45,25 @@ lengthOr24 none = 24
 lengthOr24 (some n) = n
 
 -- "no Address means dhcp"
-abbrev pub staticOrDhcp : Option (List ℕ) → Option ℕ → Option (List ℕ) → IPv4
-staticOrDhcp none m g = dhcp
+abbrev pub staticOrDhcp : Option (List ℕ) → Option ℕ → Option (List ℕ) → Addressing
+staticOrDhcp none m g = auto
 staticOrDhcp (some a) m g = static a (lengthOr24 m) g
-
--- "IPv4 absent is dhcp"
-abbrev pub ipv4OrDhcp : Option IPv4 → IPv4
-ipv4OrDhcp none = dhcp
-ipv4OrDhcp (some i) = i
 
 -- "Hidden absent means false", in both
 abbrev pub orFalse : Option Bool → Bool
 orFalse none = false
 orFalse (some b) = b
 
--- "Enabled absent or true means auto (house)"
-abbrev pub enabledIpv6 : Option Bool → Ipv6
-enabledIpv6 none = Ipv6.Auto
-enabledIpv6 (some true) = Ipv6.Auto
-enabledIpv6 (some false) = Ipv6.Off
+-- "iwd's group gains Address (length 128 if left off) and Gateway" (2026-03): no Address means auto
+abbrev pub staticOrAuto : Option WithLength → Option (List ℕ) → Addressing
+staticOrAuto none g = auto
+staticOrAuto (some x) g = static (x .address) (x .length) g
 
--- "IPv6 absent auto"
-abbrev pub wordIpv6 : Option Word → Ipv6
-wordIpv6 o = cond (isWord W.Off o) Ipv6.Off Ipv6.Auto
+-- "Enabled absent or true means auto (house)", or by request 2026-03 what the Address says; false means off
+abbrev pub unlessOff : Option Bool → Addressing → Addressing
+unlessOff none i = i
+unlessOff (some true) i = i
+unlessOff (some false) i = off
 
 -- "SSID, if present, is the name and Name is ignored"
 abbrev pub nameFrom : Option (List ℕ) → Option (List ℕ) → List ℕ
@@ -81,11 +76,17 @@ abbrev pub iwdSecret : (List ℕ → Option Entry) → Secret
 unfolding keysOf
 iwdSecret at = let value = valueOf G.Security at in secretFrom (value (word "Passphrase")) (value (word "PreSharedKey"))
 
-abbrev pub iwdIpv4 : (List ℕ → Option Entry) → IPv4
+abbrev pub iwdIpv4 : (List ℕ → Option Entry) → Addressing
 unfolding keysOf
 iwdIpv4 at =
     let value = valueOf G.Ipv4 at in
     staticOrDhcp (value (word "Address")) (value (word "Netmask")) (value (word "Gateway"))
+
+abbrev pub iwdIpv6 : (List ℕ → Option Entry) → Addressing
+unfolding keysOf
+iwdIpv6 at =
+    let value = valueOf G.Ipv6 at in
+    unlessOff (value (word "Enabled")) (staticOrAuto (value (word "Address")) (value (word "Gateway")))
 
 -- "iwd: the name from the file name; a Passphrase wins over a PreSharedKey; Netmask absent means 24; no Address means
 -- dhcp; Enabled absent or true means auto (house); Hidden absent means false."
@@ -99,7 +100,7 @@ iwdJoin name at =
       ipv4 = iwdIpv4 (at (word "IPv4"));
       servers = orEmpty (groupValue G.Ipv4 at (word "DNS"));
       domain = orEmpty (groupValue G.Ipv4 at (word "DomainName"));
-      ipv6 = enabledIpv6 (groupValue G.Ipv6 at (word "Enabled"));
+      ipv6 = iwdIpv6 (at (word "IPv6"));
     }
 
 -- ---- the record of a ConnMan service, at giving the setting with a key
@@ -115,10 +116,10 @@ serviceJoin at =
       name = nameFrom (value (word "SSID")) (value (word "Name"));
       credential = secretFrom (value (word "Passphrase")) none;
       hidden = orFalse (value (word "Hidden"));
-      ipv4 = ipv4OrDhcp (value (word "IPv4"));
+      ipv4 = orAuto (value (word "IPv4"));
       servers = orEmpty (value (word "Nameservers"));
       domain = orEmpty (value (word "Domain"));
-      ipv6 = wordIpv6 (value (word "IPv6"));
+      ipv6 = orAuto (value (word "IPv6"));
     }
 
 -- "Asking the record of an ethernet, wep or ieee8021x service is 16": the Type or Security line that causes it
@@ -192,7 +193,7 @@ zeroRecord =
       passphrase = replicate 63 0;
       key = replicate 32 0;
       hidden = false;
-      ipv4 = M.Dhcp;
+      ipv4 = M.Auto;
       address = noAddress;
       length = 0;
       «has_gateway» = false;
@@ -200,7 +201,11 @@ zeroRecord =
       «server_count» = 0;
       «domain_len» = 0;
       domain = replicate 253 0;
-      ipv6 = Ipv6.Auto;
+      ipv6 = M.Auto;
+      «ipv6_address» = replicate 16 0;
+      «ipv6_length» = 0;
+      «has_ipv6_gateway» = false;
+      «ipv6_gateway» = replicate 16 0;
     }
 
 -- "Every answer but 0 leaves all lent buffers unchanged and all other result fields zero."

@@ -1,6 +1,6 @@
 -- What the table of places must say before a record is read from it.
 use Prim.Native.Nat.{ℕ}
-use mathlib.Core.Bool.{Bool, cond, _||_}
+use mathlib.Core.Bool.{Bool, _||_}
 use mathlib.Core.List.{List}
 use mathlib.Core.Option.{Option, none}
 use lib.ListN.{length}
@@ -12,6 +12,11 @@ use Rattle.hex_values.specs.HexValues.{preSharedKey, ssid}
 use Rattle.kinds.specs.Kinds.{string, passphrase}
 use Rattle.hex_values.specs.Answers.{ssidAnswer}
 use Rattle.connman_ipv4.specs.declared.Ipv4.{Ipv4}
+use Rattle.ipv6.specs.Ipv6.{ipv6}
+use Rattle.ipv6.specs.Answers.{ipv6Answer}
+use Rattle.ipv6_values.specs.Ipv6Values.{withLength}
+use Rattle.ipv6_values.specs.Answers.{withLengthAnswer}
+use Rattle.ipv6_values.specs.declared.Ipv6.{Ipv6}
 use Rattle.hex_values.specs.declared.Ssid.{Ssid}
 use Rattle.named_words.specs.declared.Word.the-variants as W
 use Rattle.rules.specs.Sections.{entriesIn}
@@ -26,11 +31,9 @@ use Rattle.places.specs.declared.KeyName.the-variants as N
 use Rattle.values.specs.Rows.{FourRows}
 use Rattle.values.specs.Codes.{choiceBy}
 use Rattle.records.specs.Record.{Join}
-use Rattle.records.specs.declared.Ipv6.{Ipv6}
-use Rattle.records.specs.declared.Ipv6.the-variants as Ipv6
 use Rattle.records.specs.declared.JoinRecord.{JoinRecord}
 use Rattle.joins.specs.Joins.{secretFrom, iwdJoin, networkName}
-use Rattle.joins.specs.Answers.{domainAnswer, loginAnswer, numbersRead, nameRead, choiceIn, hindrance}
+use Rattle.joins.specs.Answers.{domainAnswer, loginAnswer, numbersRead, ipv6Read, ipv6Unless, nameRead, choiceIn, hindrance}
 use Rattle.joins.specs.declared.Login.{Login}
 use Rattle.joins.specs.declared.Domain.{Domain}
 use Rattle.joins.specs.declared.Hindrance.{Hindrance}
@@ -69,10 +72,14 @@ serverCountAt sep file x b k = length (orEmpty (addresses sep (bytesOf file x b 
 abbrev pub yesAt : List ℕ → ℕ → KeyName → Option Bool
 yesAt x b k = choiceIn (choiceBy (keySlot x b k .code))
 
--- the words of a service
-abbrev pub serviceIpv6At : List ℕ → ℕ → Ipv6
-serviceIpv6At x b = cond (slotIs x b N.Ipv6 W.Off) Ipv6.Off Ipv6.Auto
+abbrev pub fixedIpv6At : List ℕ → List ℕ → ℕ → Ipv6
+fixedIpv6At file x b =
+    ipv6Read (withLengthAnswer (withLength (bytesOf file x b N.Ipv6Address))) (ipv6Answer (ipv6 (bytesOf file x b N.Ipv6Gateway)))
 
+abbrev pub iwdIpv6At : List ℕ → List ℕ → ℕ → Ipv6
+iwdIpv6At file x b = ipv6Unless (yesAt x b N.Enabled) (fixedIpv6At file x b)
+
+-- the words of a service
 abbrev pub foreignAt : List ℕ → ℕ → Bool
 foreignAt x b = slotIs x b N.Security W.Wep || slotIs x b N.Security W.Ieee8021x
 
@@ -105,5 +112,9 @@ assembled n name login hidden numbers servers domain ipv6 =
       «server_count» = servers;
       «domain_len» = domain .length;
       domain = domain .bytes;
-      ipv6 = ipv6;
+      ipv6 = ipv6 .method;
+      «ipv6_address» = ipv6 .address;
+      «ipv6_length» = ipv6 .length;
+      «has_ipv6_gateway» = ipv6 .«has_gateway»;
+      «ipv6_gateway» = ipv6 .gateway;
     }

@@ -10,10 +10,10 @@ use crate::Login;
 use crate::parts;
 use addresses::Separator;
 use connman_ipv4::Ipv4;
+use ipv6_values::Ipv6;
 use places::KeyName;
 use places::Places;
 use places::rows::base_of;
-use records::Ipv6;
 use records::JoinRecord;
 use rules::Group;
 use text::Dialect;
@@ -27,9 +27,9 @@ fn assemble(
     numbers: Ipv4,
     servers: usize,
     domain: Domain,
-    ipv6: Ipv6,
+    six: Ipv6,
 ) -> JoinRecord
-    ensures { λ r. ⌜ r ≡ assembled length name login hidden numbers servers domain ipv6 ⌝ }
+    ensures { λ r. ⌜ r ≡ assembled length name login hidden numbers servers domain six ⌝ }
 {
     let credential = login.credential;
     let passphrase = login.passphrase;
@@ -38,6 +38,9 @@ fn assemble(
     let address = numbers.address;
     let gateway = numbers.gateway;
     let bytes = domain.bytes;
+    let ipv6 = six.method;
+    let ipv6_address = six.address;
+    let ipv6_gateway = six.gateway;
     JoinRecord {
         name_len: length,
         name,
@@ -55,6 +58,10 @@ fn assemble(
         domain_len: domain.length,
         domain: bytes,
         ipv6,
+        ipv6_address,
+        ipv6_length: six.length,
+        has_ipv6_gateway: six.has_gateway,
+        ipv6_gateway,
     }
 }
 
@@ -70,7 +77,7 @@ pub fn iwd_join(name: &[u8], file: &[u8], x: &Places, count: usize) -> JoinRecor
     let row = base_of(Group::Ipv4, 0);
     let numbers = parts::iwd_numbers(file, x, row);
     let domain = parts::domain_at(file, x, row, KeyName::DomainName);
-    let ipv6 = parts::iwd_ipv6(x, base_of(Group::Ipv6, 0));
+    let ipv6 = parts::iwd_ipv6(file, x, base_of(Group::Ipv6, 0));
     let bytes = network.bytes;
     assemble(
         network.length,
@@ -95,7 +102,7 @@ pub fn service_join(file: &[u8], x: &Places, row: usize, count: usize) -> JoinRe
     let hidden = parts::hidden_at(x, row, KeyName::Hidden);
     let numbers = values::ipv4_at(file, x, row, KeyName::Ipv4);
     let domain = parts::domain_at(file, x, row, KeyName::Domain);
-    let ipv6 = parts::service_ipv6(x, row);
+    let ipv6 = values::ipv6_at(file, x, row, KeyName::Ipv6);
     let bytes = name.bytes;
     assemble(
         name.length,

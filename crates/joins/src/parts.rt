@@ -1,24 +1,28 @@
 // The parts of a join record, read by the rows of the table of places.
 ghost use mathlib.Core.Path.{_≡_};
+ghost use mathlib.Core.Bool.{true, false};
 ghost use mathlib.Core.Option.{none};
+ghost use lib.ListN.{replicate};
 ghost use Prim.Native.Nat.{_<_};
 ghost use Rattle.kinds.specs.Kinds.{string, passphrase};
 ghost use Rattle.hex_values.specs.Answers.{ssidAnswer};
 ghost use Rattle.places.specs.KeySlots.{RowInTable, ValueInFile};
 ghost use Rattle.values.specs.Rows.{RowOf};
-ghost use Rattle.joins.specs.Joins.{orFalse, enabledIpv6};
-ghost use Rattle.joins.specs.Answers.{phraseAnswer, domainAnswer, or24, loginRead, numbersRead, nameRead};
-ghost use Rattle.joins.specs.Places.{iwdLoginAt, serviceLoginAt, serviceNameAt, iwdNumbersAt, domainAt, yesAt, serviceIpv6At, foreignAt, hindranceAt};
+ghost use Rattle.joins.specs.Joins.{orFalse};
+ghost use Rattle.joins.specs.Answers.{phraseAnswer, domainAnswer, or24, loginRead, numbersRead, ipv6Read, nameRead};
+ghost use Rattle.joins.specs.Places.{iwdLoginAt, serviceLoginAt, serviceNameAt, iwdNumbersAt, domainAt, fixedIpv6At, iwdIpv6At, yesAt, foreignAt, hindranceAt};
 use crate::Domain;
 use crate::Hindrance;
 use crate::Login;
 use crate::Phrase;
 use addresses::Address;
+use addressing::Method;
 use connman_ipv4::Ipv4;
-use connman_ipv4::Method;
 use escapes::Size;
 use hex_values::PreSharedKey;
 use hex_values::Ssid;
+use ipv6_values::Ipv6;
+use ipv6_values::WithLength;
 use named_words::Word;
 use places::KeyName;
 use places::Places;
@@ -27,7 +31,6 @@ use places::rows::is_word;
 use places::rows::line_of;
 use places::rows::value_of;
 use records::Credential;
-use records::Ipv6;
 use rules::Group;
 use text::Dialect;
 use values::Choice;
@@ -226,7 +229,7 @@ fn numbers_of(a: Address, n: u8, g: Address) -> Ipv4
     }
     Ipv4 {
         ok: true,
-        method: Method::Dhcp,
+        method: Method::Auto,
         address: [0; 4],
         length: 0,
         has_gateway: false,
@@ -245,28 +248,60 @@ pub fn iwd_numbers(file: &[u8], x: &Places, row: usize) -> Ipv4
     numbers_of(a, n, g)
 }
 
-// IPv6 of an iwd file, by the row of its IPv6.
-pub fn iwd_ipv6(x: &Places, row: usize) -> Ipv6
-    requires { ⌜ RowInTable (now x) row ⌝ }
-    ensures { λ r. ⌜ r ≡ enabledIpv6 (yesAt (now (x .entry)) row KeyName.Enabled) ⌝ }
+// An IPv6 without an address.
+fn no_address(method: Method) -> Ipv6
+    ensures { λ r. ⌜ r ≡ record { ok = true; method = method; address = replicate 16 0; length = 0; «has_gateway» = false; gateway = replicate 16 0 } ⌝ }
 {
-    let c = values::choice_at(x, row, KeyName::Enabled);
-    match c {
-        Choice::Absent => Ipv6::Auto,
-        Choice::No => Ipv6::Off,
-        Choice::Yes => Ipv6::Auto,
+    Ipv6 {
+        ok: true,
+        method,
+        address: [0; 16],
+        length: 0,
+        has_gateway: false,
+        gateway: [0; 16],
     }
 }
 
-// IPv6 of a service, by its row.
-pub fn service_ipv6(x: &Places, row: usize) -> Ipv6
-    requires { ⌜ RowInTable (now x) row ⌝ }
-    ensures { λ r. ⌜ r ≡ serviceIpv6At (now (x .entry)) row ⌝ }
+// The IPv6 of an iwd file: an address with its length, and a gateway.
+fn ipv6_of(a: WithLength, g: ipv6::Address) -> Ipv6
+    ensures { λ r. ⌜ r ≡ ipv6Read a g ⌝ }
 {
-    if is_word(x, row, KeyName::Ipv6, Word::Off) {
-        return Ipv6::Off;
+    if a.ok {
+        let address = a.address;
+        let gateway = g.bytes;
+        return Ipv6 {
+            ok: true,
+            method: Method::Static,
+            address,
+            length: a.length,
+            has_gateway: g.ok,
+            gateway,
+        };
     }
-    Ipv6::Auto
+    no_address(Method::Auto)
+}
+
+// What the Address and the Gateway of a row of IPv6 give.
+fn fixed_ipv6(file: &[u8], x: &Places, row: usize) -> Ipv6
+    requires { ⌜ RowOf Dialect.Iwd (now file) (now x) row Group.Ipv6 ⌝ }
+    ensures { λ r. ⌜ r ≡ fixedIpv6At (now (file .entry)) (now (x .entry)) row ⌝ }
+{
+    let a = values::with_length_at(file, x, row, KeyName::Ipv6Address);
+    let g = values::ipv6_address_at(file, x, row, KeyName::Ipv6Gateway);
+    ipv6_of(a, g)
+}
+
+// The IPv6 of an iwd file, by the row of its IPv6.
+pub fn iwd_ipv6(file: &[u8], x: &Places, row: usize) -> Ipv6
+    requires { ⌜ RowOf Dialect.Iwd (now file) (now x) row Group.Ipv6 ⌝ }
+    ensures { λ r. ⌜ r ≡ iwdIpv6At (now (file .entry)) (now (x .entry)) row ⌝ }
+{
+    let c = values::choice_at(x, row, KeyName::Enabled);
+    match c {
+        Choice::Absent => fixed_ipv6(file, x, row),
+        Choice::No => no_address(Method::Off),
+        Choice::Yes => fixed_ipv6(file, x, row),
+    }
 }
 
 // The name of a network: an SSID wins over a Name.

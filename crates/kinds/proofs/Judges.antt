@@ -22,24 +22,31 @@ use Rattle.addresses.specs.declared.Address.{Address}
 use Rattle.addresses.specs.declared.Netmask.{Netmask}
 use Rattle.addresses.specs.declared.Separator.{Separator}
 use Rattle.named_words.specs.NamedWords as NamedWords
+use Rattle.ipv6.specs.Ipv6 as Ipv6
 use Rattle.connman_ipv4.specs.ConnmanIpv4 as ConnmanIpv4
+use Rattle.ipv6_values.specs.Ipv6Values as Ipv6Values
 use Rattle.hex_values.specs.HexValues as HexValues
 use Rattle.entry_lists.specs.EntryLists as EntryLists
 use Rattle.kinds.specs.Kinds as K
 use Rattle.kinds.specs.Typed.{Typed, typed, escapesBroken, kindJudged, byKind, bytes}
 use Rattle.kinds.specs.Typed as T
 use Rattle.named_words.specs.Answers.{yesNo, namedWord}
+use Rattle.ipv6.specs.Answers as Ipv6Answers
 use Rattle.connman_ipv4.specs.Answers.{ipv4Answer}
+use Rattle.ipv6_values.specs.Answers.{connmanIpv6Answer, withLengthAnswer}
 use Rattle.hex_values.specs.Answers.{macAnswer}
 use Rattle.entry_lists.specs.Answers.{entriesAnswer}
 use Rattle.kinds.specs.Answers.{valueAt, judgementAt}
 use Rattle.kinds.specs.Judging.{keptAt, flagJudgement, wordJudgement, maskJudgement, stringJudgement}
 use Rattle.kinds.specs.declared.Kind.{Kind}
-use Rattle.kinds.specs.declared.Kind.the-variants.{Flag, Named, Address as AddressKind, Netmask as NetmaskKind, Ipv4 as Ipv4Kind, Addresses, Entries as EntriesKind, Mac as MacKind, PreSharedKey, Ssid, Passphrase, Text}
+use Rattle.kinds.specs.declared.Kind.the-variants.{Flag, Named, Address as AddressKind, Netmask as NetmaskKind, Ipv4 as Ipv4Kind, Ipv6 as Ipv6Kind, Ipv6Address, Ipv6WithLength, Addresses, Entries as EntriesKind, Mac as MacKind, PreSharedKey, Ssid, Passphrase, Text}
 use Rattle.named_words.specs.declared.WordList.{WordList}
 use Rattle.named_words.specs.declared.YesNo.{YesNo}
 use Rattle.named_words.specs.declared.NamedWord.{NamedWord}
+use Rattle.ipv6.specs.declared.Address.{Address as Ipv6Text}
 use Rattle.connman_ipv4.specs.declared.Ipv4.{Ipv4}
+use Rattle.ipv6_values.specs.declared.Ipv6.{Ipv6 as ConnmanIpv6}
+use Rattle.ipv6_values.specs.declared.WithLength.{WithLength}
 use Rattle.entry_lists.specs.declared.Entries.{Entries}
 use Rattle.hex_values.specs.declared.Mac.{Mac}
 use Rattle.kinds.specs.declared.Judgement.{Judgement}
@@ -51,12 +58,13 @@ address-ok : (o : Option (List ℕ)) {x : Address} → x ≡ A.addressAnswer o �
 address-ok none e = ap (λ (x : Address). x .ok) e
 address-ok (some a) e = ap (λ (x : Address). x .ok) e
 
-ipv4-ok : (o : Option ConnmanIpv4.IPv4) {x : Ipv4} → x ≡ ipv4Answer o → x .ok ≡ isSome o
-ipv4-ok none e = ap (λ (x : Ipv4). x .ok) e
-ipv4-ok (some ConnmanIpv4.dhcp) e = ap (λ (x : Ipv4). x .ok) e
-ipv4-ok (some ConnmanIpv4.off) e = ap (λ (x : Ipv4). x .ok) e
-ipv4-ok (some (ConnmanIpv4.static a n none)) e = ap (λ (x : Ipv4). x .ok) e
-ipv4-ok (some (ConnmanIpv4.static a n (some g))) e = ap (λ (x : Ipv4). x .ok) e
+ipv6-ok : (o : Option (List ℕ)) {x : Ipv6Text} → x ≡ Ipv6Answers.ipv6Answer o → x .ok ≡ isSome o
+ipv6-ok none e = ap (λ (x : Ipv6Text). x .ok) e
+ipv6-ok (some a) e = ap (λ (x : Ipv6Text). x .ok) e
+
+length-ok : (o : Option Ipv6Values.WithLength) {x : WithLength} → x ≡ withLengthAnswer o → x .ok ≡ isSome o
+length-ok none e = ap (λ (x : WithLength). x .ok) e
+length-ok (some w) e = ap (λ (x : WithLength). x .ok) e
 
 mac-ok : (o : Option (List ℕ)) {x : Mac} → x ≡ macAnswer o → x .ok ≡ isSome o
 mac-ok none e = ap (λ (x : Mac). x .ok) e
@@ -122,7 +130,19 @@ module _ (d : Dialect) (v : List ℕ) (p : Place) {k : Kind} {r : Judgement} whe
 
   pub ipv4-kind : k ≡ Ipv4Kind → {x : Ipv4} → x ≡ ipv4Answer (ConnmanIpv4.ipv4 v) → r ≡ keptAt p (x .ok) → r ≡ judgementAt p (kindJudged d k v)
   unfolding kindJudged typed
-  ipv4-kind q e h = rw q (h ∙ kept-is p T.ipv4 (λ a. refl) (ConnmanIpv4.ipv4 v) (ipv4-ok (ConnmanIpv4.ipv4 v) e))
+  ipv4-kind q e h = rw q (h ∙ kept-is p T.addressing (λ a. refl) (ConnmanIpv4.ipv4 v) (ap (λ (x : Ipv4). x .ok) e))
+
+  pub ipv6-kind : k ≡ Ipv6Kind → {x : ConnmanIpv6} → x ≡ connmanIpv6Answer (Ipv6Values.connmanIpv6 v) → r ≡ keptAt p (x .ok) → r ≡ judgementAt p (kindJudged d k v)
+  unfolding kindJudged typed
+  ipv6-kind q e h = rw q (h ∙ kept-is p T.addressing (λ a. refl) (Ipv6Values.connmanIpv6 v) (ap (λ (x : ConnmanIpv6). x .ok) e))
+
+  pub ipv6-address-kind : k ≡ Ipv6Address → {x : Ipv6Text} → x ≡ Ipv6Answers.ipv6Answer (Ipv6.ipv6 v) → r ≡ keptAt p (x .ok) → r ≡ judgementAt p (kindJudged d k v)
+  unfolding kindJudged typed
+  ipv6-address-kind q e h = rw q (h ∙ kept-is p T.address (λ a. refl) (Ipv6.ipv6 v) (ipv6-ok (Ipv6.ipv6 v) e))
+
+  pub with-length-kind : k ≡ Ipv6WithLength → {x : WithLength} → x ≡ withLengthAnswer (Ipv6Values.withLength v) → r ≡ keptAt p (x .ok) → r ≡ judgementAt p (kindJudged d k v)
+  unfolding kindJudged typed
+  with-length-kind q e h = rw q (h ∙ kept-is p T.withLength (λ a. refl) (Ipv6Values.withLength v) (length-ok (Ipv6Values.withLength v) e))
 
   pub addresses-kind : {sep : Separator} → k ≡ Addresses sep → {n : ℕ} → n ≡ length (orEmpty (A.addresses sep v)) → r ≡ keptAt p (not (eqb n 0)) → r ≡ judgementAt p (kindJudged d k v)
   unfolding kindJudged typed A.addresses

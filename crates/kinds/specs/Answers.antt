@@ -15,7 +15,8 @@ valueAt p (T.word w) = WordValue w
 valueAt p (T.address a) = Text p
 valueAt p (T.addresses l) = Text p
 valueAt p (T.entries l) = Text p
-valueAt p (T.ipv4 s) = Text p
+valueAt p (T.addressing i) = Text p
+valueAt p (T.withLength w) = Text p
 valueAt p (T.bytes b) = Text p
 
 abbrev pub judgementAt : Place → Judged → Judgement

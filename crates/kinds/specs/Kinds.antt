@@ -1,5 +1,6 @@
 -- The kinds of values that are strings, as document 01 lists them under "Settings and their kinds": none where the value breaks its kind.
--- The others are in the crates below: `NamedWords`, `Addresses`, `ConnmanIpv4`, `EntryLists`, `HexValues`; `Typed` lists them all.
+-- The others are in the crates below: `NamedWords`, `Addresses`, `Ipv6`, `ConnmanIpv4`, `Ipv6Values`, `EntryLists`, `HexValues`; `Typed` lists
+-- them all.
 use Prim.Native.Nat.{ℕ}
 use mathlib.Core.List.{List}
 use mathlib.Core.Option.{Option}

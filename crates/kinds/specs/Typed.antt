@@ -9,14 +9,17 @@ use Rattle.utf8.specs.Utf8.{valueText}
 use Rattle.escapes.specs.Escapes.{unescape}
 use Rattle.addresses.specs.Addresses as A
 use Rattle.named_words.specs.NamedWords as NamedWords
+use Rattle.ipv6.specs.Ipv6 as Ipv6
 use Rattle.connman_ipv4.specs.ConnmanIpv4 as ConnmanIpv4
+use Rattle.ipv6_values.specs.Ipv6Values as Ipv6Values
 use Rattle.hex_values.specs.HexValues as HexValues
 use Rattle.entry_lists.specs.EntryLists as EntryLists
 use Rattle.kinds.specs.Kinds as K
-use Rattle.connman_ipv4.specs.ConnmanIpv4.{IPv4}
+use Rattle.addressing.specs.Addressing.{Addressing}
+use Rattle.ipv6_values.specs.Ipv6Values.{WithLength}
 use Rattle.named_words.specs.declared.Word.{Word}
 use Rattle.kinds.specs.declared.Kind.{Kind}
-use Rattle.kinds.specs.declared.Kind.the-variants.{Flag, Named, Address, Netmask, Ipv4, Addresses, Entries, Mac, PreSharedKey, Ssid, Passphrase, Text}
+use Rattle.kinds.specs.declared.Kind.the-variants.{Flag, Named, Address, Netmask, Ipv4, Ipv6, Ipv6Address, Ipv6WithLength, Addresses, Entries, Mac, PreSharedKey, Ssid, Passphrase, Text}
 
 -- a typed value
 pub data Typed : Type 0 where
@@ -26,7 +29,8 @@ pub data Typed : Type 0 where
   address : List ℕ → Typed
   addresses : List (List ℕ) → Typed
   entries : List (List ℕ) → Typed
-  ipv4 : IPv4 → Typed
+  addressing : Addressing → Typed
+  withLength : WithLength → Typed
   bytes : List ℕ → Typed
 
 -- the value by its kind, none where it breaks it
@@ -35,7 +39,10 @@ typed d Flag v = mapped flag (NamedWords.flag d v)
 typed d (Named w) v = mapped word (NamedWords.wordOf w v)
 typed d Address v = mapped address (A.address v)
 typed d Netmask v = mapped maskLength (A.netmask v)
-typed d Ipv4 v = mapped ipv4 (ConnmanIpv4.ipv4 v)
+typed d Ipv4 v = mapped addressing (ConnmanIpv4.ipv4 v)
+typed d Ipv6 v = mapped addressing (Ipv6Values.connmanIpv6 v)
+typed d Ipv6Address v = mapped address (Ipv6.ipv6 v)
+typed d Ipv6WithLength v = mapped withLength (Ipv6Values.withLength v)
 typed d (Addresses sep) v = mapped addresses (A.addresses sep v)
 typed d Entries v = mapped entries (EntryLists.entries v)
 typed d Mac v = mapped bytes (HexValues.mac v)
@@ -54,6 +61,9 @@ stringBroken (Named w) v = false
 stringBroken Address v = false
 stringBroken Netmask v = false
 stringBroken Ipv4 v = false
+stringBroken Ipv6 v = false
+stringBroken Ipv6Address v = false
+stringBroken Ipv6WithLength v = false
 stringBroken (Addresses sep) v = false
 stringBroken Entries v = false
 stringBroken Mac v = false

@@ -21,8 +21,12 @@ use Rattle.addresses.specs.AddressRuleLaws.{address-is, is-address, addresses-i
 use Rattle.addresses.specs.MaskRuleLaws.{netmask-is, is-netmask}
 use Rattle.named_words.specs.NamedWords.{flag, wordOf}
 use Rattle.named_words.specs.WordRuleLaws.{flag-means, means-flag, word-means, means-word}
+use Rattle.ipv6.specs.Ipv6.{ipv6}
+use Rattle.ipv6.specs.Ipv6RuleLaws.{ipv6-is, is-ipv6}
 use Rattle.connman_ipv4.specs.ConnmanIpv4.{ipv4}
 use Rattle.connman_ipv4.specs.Ipv4RuleLaws.{ipv4-is, is-ipv4}
+use Rattle.ipv6_values.specs.Ipv6Values.{connmanIpv6, withLength}
+use Rattle.ipv6_values.specs.Ipv6ValueRuleLaws.{connman-ipv6-is, is-connman-ipv6, with-length-is, is-with-length}
 use Rattle.hex_values.specs.HexValues.{mac, preSharedKey, ssid}
 use Rattle.hex_values.specs.HexValueRuleLaws.{mac-is, is-mac, pre-shared-key-is, is-pre-shared-key, ssid-is, is-ssid}
 use Rattle.entry_lists.specs.EntryLists.{entries}
@@ -67,7 +71,11 @@ typed-value d K.Flag v e = given d K.Flag v T.flag (flag d v) (λ b q. R.flag (f
 typed-value d (K.Named l) v e = given d (K.Named l) v T.word (wordOf l v) (λ w q. R.named (word-means l v q)) e
 typed-value d K.Address v e = given d K.Address v T.address (address v) (λ a q. R.address (address-is v q)) e
 typed-value d K.Netmask v e = given d K.Netmask v T.maskLength (netmask v) (λ n q. R.netmask (netmask-is v q)) e
-typed-value d K.Ipv4 v e = given d K.Ipv4 v T.ipv4 (ipv4 v) (λ i q. R.ipv4 (ipv4-is v q)) e
+typed-value d K.Ipv4 v e = given d K.Ipv4 v T.addressing (ipv4 v) (λ i q. R.ipv4 (ipv4-is v q)) e
+typed-value d K.Ipv6 v e = given d K.Ipv6 v T.addressing (connmanIpv6 v) (λ i q. R.ipv6 (connman-ipv6-is v q)) e
+typed-value d K.Ipv6Address v e = given d K.Ipv6Address v T.address (ipv6 v) (λ a q. R.ipv6Address (ipv6-is v q)) e
+typed-value d K.Ipv6WithLength v e =
+    given d K.Ipv6WithLength v T.withLength (withLength v) (λ w q. R.ipv6WithLength (with-length-is v q)) e
 typed-value d (K.Addresses sep) v e =
     given d (K.Addresses sep) v T.addresses (addresses sep v) (λ l q. R.addresses (addresses-is sep v q)) e
 typed-value d K.Entries v e = given d K.Entries v T.entries (entries v) (λ l q. R.entries (entries-are v q)) e
@@ -85,7 +93,10 @@ value-typed d k v (R.flag h) = ap (mapped T.flag) (means-flag d v h)
 value-typed d k v (R.named {l} h) = ap (mapped T.word) (means-word l v h)
 value-typed d k v (R.address h) = ap (mapped T.address) (is-address v h)
 value-typed d k v (R.netmask h) = ap (mapped T.maskLength) (is-netmask v h)
-value-typed d k v (R.ipv4 h) = ap (mapped T.ipv4) (is-ipv4 v h)
+value-typed d k v (R.ipv4 h) = ap (mapped T.addressing) (is-ipv4 v h)
+value-typed d k v (R.ipv6 h) = ap (mapped T.addressing) (is-connman-ipv6 v h)
+value-typed d k v (R.ipv6Address h) = ap (mapped T.address) (is-ipv6 v h)
+value-typed d k v (R.ipv6WithLength h) = ap (mapped T.withLength) (is-with-length v h)
 value-typed d k v (R.addresses {sep} h) = ap (mapped T.addresses) (is-addresses sep v h)
 value-typed d k v (R.entries h) = ap (mapped T.entries) (are-entries v h)
 value-typed d k v (R.mac h) = ap (mapped T.bytes) (is-mac v h)
@@ -113,6 +124,9 @@ string-whole (K.Named l) v e h = absurd h
 string-whole K.Address v e h = absurd h
 string-whole K.Netmask v e h = absurd h
 string-whole K.Ipv4 v e h = absurd h
+string-whole K.Ipv6 v e h = absurd h
+string-whole K.Ipv6Address v e h = absurd h
+string-whole K.Ipv6WithLength v e h = absurd h
 string-whole (K.Addresses sep) v e h = absurd h
 string-whole K.Entries v e h = absurd h
 string-whole K.Mac v e h = absurd h
@@ -150,6 +164,9 @@ whole-unbroken (K.Named l) v w = refl
 whole-unbroken K.Address v w = refl
 whole-unbroken K.Netmask v w = refl
 whole-unbroken K.Ipv4 v w = refl
+whole-unbroken K.Ipv6 v w = refl
+whole-unbroken K.Ipv6Address v w = refl
+whole-unbroken K.Ipv6WithLength v w = refl
 whole-unbroken (K.Addresses sep) v w = refl
 whole-unbroken K.Entries v w = refl
 whole-unbroken K.Mac v w = refl

@@ -15,8 +15,11 @@ use Rattle.addresses.specs.declared.Separator.{Separator}
 use Rattle.named_words.specs.WordRules.{Means, flagRows, wordRows}
 use Rattle.named_words.specs.declared.Word.{Word}
 use Rattle.named_words.specs.declared.WordList.{WordList}
-use Rattle.connman_ipv4.specs.ConnmanIpv4.{IPv4}
+use Rattle.addressing.specs.Addressing.{Addressing}
+use Rattle.ipv6.specs.Ipv6Rules.{Ipv6Is}
 use Rattle.connman_ipv4.specs.Ipv4Rules.{Ipv4Is}
+use Rattle.ipv6_values.specs.Ipv6Values.{WithLength}
+use Rattle.ipv6_values.specs.Ipv6ValueRules.{ConnmanIpv6Is, WithLengthIs}
 use Rattle.hex_values.specs.HexValueRules.{MacIs, PreSharedKeyIs, SsidIs}
 use Rattle.entry_lists.specs.EntryRules.{EntriesAre}
 use Rattle.kinds.specs.Typed as T
@@ -38,7 +41,10 @@ pub data ValueIs (d : Dialect) : Kind → List ℕ → Typed → Type 0 where
   named : {l : WordList} {v : List ℕ} {w : Word} → Means (wordRows l) v w → ValueIs d (K.Named l) v (T.word w)
   address : {v a : List ℕ} → AddressIs v a → ValueIs d K.Address v (T.address a)
   netmask : {v : List ℕ} {n : ℕ} → MaskIs v n → ValueIs d K.Netmask v (T.maskLength n)
-  ipv4 : {v : List ℕ} {i : IPv4} → Ipv4Is v i → ValueIs d K.Ipv4 v (T.ipv4 i)
+  ipv4 : {v : List ℕ} {i : Addressing} → Ipv4Is v i → ValueIs d K.Ipv4 v (T.addressing i)
+  ipv6 : {v : List ℕ} {i : Addressing} → ConnmanIpv6Is v i → ValueIs d K.Ipv6 v (T.addressing i)
+  ipv6Address : {v a : List ℕ} → Ipv6Is v a → ValueIs d K.Ipv6Address v (T.address a)
+  ipv6WithLength : {v : List ℕ} {w : WithLength} → WithLengthIs v w → ValueIs d K.Ipv6WithLength v (T.withLength w)
   addresses : {sep : Separator} {v : List ℕ} {l : List (List ℕ)}
       → AddressesIs sep v l → ValueIs d (K.Addresses sep) v (T.addresses l)
   entries : {v : List ℕ} {l : List (List ℕ)} → EntriesAre v l → ValueIs d K.Entries v (T.entries l)
@@ -58,6 +64,9 @@ IsString (K.Named l) = ⊥
 IsString K.Address = ⊥
 IsString K.Netmask = ⊥
 IsString K.Ipv4 = ⊥
+IsString K.Ipv6 = ⊥
+IsString K.Ipv6Address = ⊥
+IsString K.Ipv6WithLength = ⊥
 IsString (K.Addresses sep) = ⊥
 IsString K.Entries = ⊥
 IsString K.Mac = ⊥

@@ -10,7 +10,7 @@ use lib.Dec.{eqb}
 use lib.ListN.{length}
 use Rattle.text.specs.Bytes.{isByte, between, inLine, isBlank, isDigit, isLowerHex}
 use Rattle.text.specs.Parts.{all, after, empty}
-use Rattle.text.specs.Laws.{inside, between-low, between-high, pass-other, all-cons, all-weaken, all-other}
+use Rattle.text.specs.Laws.{inside, between-low, between-high, pass-other, all-cons, all-weaken, all-other, all-append}
 use Rattle.utf8.specs.Utf8.{text, valueText, recordText}
 use Rattle.utf8.specs.Laws.{isPrintable, text-printable}
 use Rattle.escapes.specs.Escapes.{escape}
@@ -18,10 +18,12 @@ use Rattle.escapes.specs.Laws.{unescape-escape, escape-line, escape-start}
 use Rattle.escapes.specs.TextLaws.{escape-text}
 use Rattle.hex.specs.Hex.{hex}
 use Rattle.hex.specs.Laws.{hex-lower}
-use Rattle.addresses.specs.Addresses.{isAddress, areAddresses, dotted, withSeparators, listed, isListByte}
+use Rattle.addresses.specs.Addresses.{isAddress, areAddresses, decimal, dotted, withSeparators, listed, isListByte}
 use Rattle.addresses.specs.Laws.{are-cons}
-use Rattle.addresses.specs.Written.{dotted-bytes, dotted-some, listed-bytes}
+use Rattle.addresses.specs.Written.{decimal-digits, dotted-bytes, dotted-some, listed-bytes}
 use Rattle.addresses.specs.declared.Separator.the-variants.{Spaces}
+use Rattle.ipv6.specs.Ipv6.{isIpv6, canonical, isIpv6Byte}
+use Rattle.ipv6.specs.Written.{canonical-bytes}
 use Rattle.kinds.specs.Kinds.{string}
 
 -- a value's text that stands behind the `=` of a line: no byte 10 in it, and no blank in front
@@ -54,6 +56,9 @@ module _ (p : ℕ → Bool) (space : p 32 ≡ false) (tab : p 9 ≡ false) where
   start-whole [] h = refl
   start-whole (x ∷ l) h = start-cons x l (all-cons p x l h .0)
 
+  class-stands : ((x : ℕ) → p x ≡ true → isPrintable x ≡ true) → (v : List ℕ) → all p v ≡ true → StandsOnLine v
+  class-stands f v h = printable-stands v (all-weaken p isPrintable f v h) (start-whole v h)
+
   start-append : (l r : List ℕ) → empty l ≡ false → all p l ≡ true → after isBlank (l ++ r) ≡ l ++ r
   start-append [] r e h = absurd (true≢false e)
   start-append (x ∷ l) r e h = start-cons x (l ++ r) (all-cons p x l h .0)
@@ -70,9 +75,7 @@ lower-printable x h = go (isDigit x) refl h
         inside {x = x} 32 126 (omega (arith, between-low {x = x} 97 102 f)) (omega (arith, between-high {x = x} 97 102 f))
 
 pub hex-stands : (t : List ℕ) → all isByte t ≡ true → StandsOnLine (hex t)
-hex-stands t b =
-    let h = hex-lower t b in
-    printable-stands (hex t) (all-weaken isLowerHex isPrintable lower-printable (hex t) h) (start-whole isLowerHex refl refl (hex t) h)
+hex-stands t b = class-stands isLowerHex refl refl lower-printable (hex t) (hex-lower t b)
 
 -- ---- addresses and lists of them
 
@@ -81,9 +84,7 @@ dotted-printable x h =
     inside {x = x} 32 126 (omega (arith, between-low {x = x} 46 57 h)) (omega (arith, between-high {x = x} 46 57 h))
 
 pub dotted-stands : (a : List ℕ) → isAddress a ≡ true → StandsOnLine (dotted a)
-dotted-stands a w =
-    let h = dotted-bytes a w in
-    printable-stands (dotted a) (all-weaken (between 46 57) isPrintable dotted-printable (dotted a) h) (start-whole (between 46 57) refl refl (dotted a) h)
+dotted-stands a w = class-stands (between 46 57) refl refl dotted-printable (dotted a) (dotted-bytes a w)
 
 list-printable : (x : ℕ) → isListByte Spaces x ≡ true → isPrintable x ≡ true
 list-printable x h = go (eqb x 32) refl h
@@ -101,3 +102,33 @@ listed-stands l w =
     start (a ∷ l) w =
         let h = are-cons a l w .0 in
         start-append (between 46 57) refl refl (dotted a) (withSeparators Spaces l) (dotted-some a h) (dotted-bytes a h)
+
+-- ---- IPv6 addresses, alone and with a length: bytes from `/` to `f`
+
+sized-printable : (x : ℕ) → between 47 102 x ≡ true → isPrintable x ≡ true
+sized-printable x h =
+    inside {x = x} 32 126 (omega (arith, between-low {x = x} 47 102 h)) (omega (arith, between-high {x = x} 47 102 h))
+
+digit-sized : (x : ℕ) → isDigit x ≡ true → between 47 102 x ≡ true
+digit-sized x h =
+    inside {x = x} 47 102 (omega (arith, between-low {x = x} 48 57 h)) (omega (arith, between-high {x = x} 48 57 h))
+
+ipv6-sized : (x : ℕ) → isIpv6Byte x ≡ true → between 47 102 x ≡ true
+ipv6-sized x h = go (isDigit x) refl (between 97 102 x) refl h
+  where
+    go : (a : Bool) → isDigit x ≡ a → (b : Bool) → between 97 102 x ≡ b → a || b || eqb x 58 ≡ true → between 47 102 x ≡ true
+    go true e b f k = digit-sized x e
+    go false e true f k =
+        inside {x = x} 47 102 (omega (arith, between-low {x = x} 97 102 f)) (omega (arith, between-high {x = x} 97 102 f))
+    go false e false f k = inside {x = x} 47 102 (omega (arith, eqb-true x 58 k)) (omega (arith, eqb-true x 58 k))
+
+canonical-sized : (a : List ℕ) → isIpv6 a ≡ true → all (between 47 102) (canonical a) ≡ true
+canonical-sized a w = all-weaken isIpv6Byte (between 47 102) ipv6-sized (canonical a) (canonical-bytes a w)
+
+pub canonical-stands : (a : List ℕ) → isIpv6 a ≡ true → StandsOnLine (canonical a)
+canonical-stands a w = class-stands (between 47 102) refl refl sized-printable (canonical a) (canonical-sized a w)
+
+pub with-length-stands : (a : List ℕ) (n : ℕ) → isIpv6 a ≡ true → n ≤ 128 →
+    StandsOnLine (canonical a ++ 47 ∷ decimal n)
+with-length-stands a n w h =
+    class-stands (between 47 102) refl refl sized-printable (canonical a ++ 47 ∷ decimal n) (all-append (between 47 102) (canonical a) (47 ∷ decimal n) (canonical-sized a w) (all-weaken isDigit (between 47 102) digit-sized (decimal n) (decimal-digits n (omega arith))))

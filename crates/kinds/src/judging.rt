@@ -81,6 +81,18 @@ fn judge_kind(d: Dialect, kind: Kind, v: &[u8], at: Place) -> Judgement
             let a = connman_ipv4::read_ipv4(v);
             kept(a.ok, at)
         }
+        Kind::Ipv6 => {
+            let a = ipv6_values::read_ipv6(v);
+            kept(a.ok, at)
+        }
+        Kind::Ipv6Address => {
+            let a = ipv6::reading::read_address(v);
+            kept(a.ok, at)
+        }
+        Kind::Ipv6WithLength => {
+            let a = ipv6_values::read_with_length(v);
+            kept(a.ok, at)
+        }
         Kind::Addresses(sep) => kept(addresses::lists::count_addresses(v, sep) != 0, at),
         Kind::Entries => {
             let e = entry_lists::read_entries(v, 0);

@@ -12,6 +12,7 @@ use Rattle.hex.specs.Hex.{nibble, unhex}
 use Rattle.addresses.specs.Addresses.{decimalValue, number, address, prefixLength, lengthUpTo, maskLength, netmask, addresses}
 use Rattle.named_words.specs.NamedWords.{flag, wordOf}
 use Rattle.connman_ipv4.specs.ConnmanIpv4.{ipv4}
+use Rattle.ipv6_values.specs.Ipv6Values.{connmanIpv6}
 use Rattle.hex_values.specs.HexValues.{colonPairs, mac, preSharedKey, ssid}
 use Rattle.entry_lists.specs.EntryLists.{entries}
 use Rattle.kinds.specs.Kinds.{string}
@@ -65,5 +66,5 @@ abbrev answer : Case → Handed
 answer c = c .3
 
 pub table : map computed cases ≡ map answer cases
-unfolding reading lineFault grown sectionsOf serviceFault fileFault fault withLine isService groupOf keysOf nameOf networkOf isKeyByte isPlain bracketOf settingOf lineOf valueStart typed kindJudged judged flag wordOf ipv4 entries colonPairs mac preSharedKey ssid string decimalValue number address prefixLength lengthUpTo maskLength netmask addresses nibble unhex unescapeFrom follow utf8From text
+unfolding reading lineFault grown sectionsOf serviceFault fileFault fault withLine isService groupOf keysOf nameOf networkOf isKeyByte isPlain bracketOf settingOf lineOf valueStart typed kindJudged judged flag wordOf ipv4 connmanIpv6 entries colonPairs mac preSharedKey ssid string decimalValue number address prefixLength lengthUpTo maskLength netmask addresses nibble unhex unescapeFrom follow utf8From text
 table = refl

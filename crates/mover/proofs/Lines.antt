@@ -9,7 +9,13 @@ use mathlib.Core.Option.{Option, none, some}
 use Rattle.text.specs.Words.{word}
 use Rattle.text.specs.declared.Dialect.the-variants.{ConnMan}
 use Rattle.named_words.specs.NamedWords.{wordOf}
-use Rattle.connman_ipv4.specs.ConnmanIpv4.{IPv4, dhcp, off, static, ipv4}
+use Rattle.connman_ipv4.specs.ConnmanIpv4.{ipv4}
+use Rattle.addressing.specs.Addressing.{Addressing, methodOf, addressOf, lengthOf, hasGateway, gatewayOf, addressingIn, orAuto}
+use Rattle.addressing.specs.declared.Method.{Method}
+use Rattle.ipv6_values.specs.Ipv6Values.{connmanIpv6}
+use Rattle.ipv6_values.specs.Answers.{connmanIpv6Answer}
+use Rattle.ipv6_values.specs.declared.Ipv6.{Ipv6}
+use Rattle.records.specs.PartLaws.{addressing-joined}
 use Rattle.connman_ipv4.specs.Answers.{ipv4Answer}
 use Rattle.connman_ipv4.specs.declared.Ipv4.{Ipv4}
 use Rattle.named_words.specs.declared.Word.the-variants as W
@@ -26,13 +32,14 @@ use Rattle.places.specs.KeySlots.{keySlot, bytesOf, slotIs}
 use Rattle.places.specs.declared.KeyName.{KeyName}
 use Rattle.places.specs.declared.KeyName.the-variants as N
 use Rattle.places.proofs.RowKeys.{row-key}
-use Rattle.values.proofs.KeptValues.{ipv4-none, row-read, row-word}
-use Rattle.written.specs.Written.{hasPlace}
-use Rattle.joins.specs.Joins.{ipv4OrDhcp, wired, foreignSecurity, foreign, serviceJoin}
+use Rattle.values.proofs.KeptValues.{ipv4-none, connman-ipv6-none, row-read, row-word}
+use Rattle.written.specs.Written.{ipv4Placed, ipv6Placed}
+use Rattle.written.specs.RecordParts.{PlacedBy}
+use Rattle.joins.specs.Joins.{wired, foreignSecurity, foreign, serviceJoin}
 use Rattle.joins.specs.Places.{foreignAt}
 use Rattle.joins.proofs.Choosing.{row-foreign}
 use Rattle.mover.specs.Moves.{lineIf, lineGiven, unplaced, earliest}
-use Rattle.mover.specs.Places.{lineSaid, earlierOf, Earlier, slotLineIf, unrouted, slotLine, GivenLine, RowLine}
+use Rattle.mover.specs.Places.{lineSaid, earlierOf, Earlier, slotLineIf, slotLine, GivenLine, givenLines, ipv6Lines, ipv4Lines, RowLine}
 
 -- ---- lines by numbers
 
@@ -103,21 +110,28 @@ wiredBy o = isWord W.Ethernet (readAs (wordOf L.ServiceType) o)
 abbrev foreignBy : Option Entry → Bool
 foreignBy o = foreignSecurity (readAs (wordOf L.Security) o)
 
-abbrev unroutedBy : Option Entry → Bool
-unroutedBy o = not (hasPlace (ipv4OrDhcp (readAs ipv4 o)))
+-- whether iwd has a place, place saying so, for what a family's reader gives, by what is read of it
+abbrev lostBy : (Addressing → Bool) → (List ℕ → Option Addressing) → Option Entry → Bool
+lostBy place read o = not (place (orAuto (readAs read o)))
 
-read-unrouted : (o : Option IPv4) → unrouted (ipv4Answer o .method) (ipv4Answer o .«has_gateway») ≡ not (hasPlace (ipv4OrDhcp o))
-read-unrouted none = refl
-read-unrouted (some dhcp) = refl
-read-unrouted (some off) = refl
-read-unrouted (some (static a n none)) = refl
-read-unrouted (some (static a n (some g))) = refl
+placed-read : (place : Addressing → Bool) (o : Option Addressing) {m : Method} {h p : Bool} → m ≡ methodOf (orAuto o) → h ≡ hasGateway (orAuto o) → PlacedBy place m h p → p ≡ place (orAuto o)
+placed-read place o e f b =
+    b .is (addressOf 0 (orAuto o)) (lengthOf (orAuto o)) (gatewayOf 0 (orAuto o))
+    ∙ ap₂ (λ (m : Method) (h : Bool). place (addressingIn m (addressOf 0 (orAuto o)) (lengthOf (orAuto o)) h (gatewayOf 0 (orAuto o)))) e f
+    ∙ ap place (addressing-joined 0 (orAuto o))
 
-row-unrouted : {file x : List ℕ} {b : ℕ} {es : List Entry} → RowKeeps ConnMan file x b G.Service es → {i : Ipv4} → i ≡ ipv4Answer (ipv4 (bytesOf file x b N.Ipv4)) → unrouted (i .method) (i .«has_gateway») ≡ unroutedBy (entryOf (word "IPv4") es)
-unfolding keysOf
-row-unrouted {es = es} h q =
-    ap (λ (v : Ipv4). unrouted (v .method) (v .«has_gateway»)) (q ∙ ap ipv4Answer (row-read N.Ipv4 h ipv4 ipv4-none))
-    ∙ read-unrouted (readAs ipv4 (entryOf (word "IPv4") es))
+module _ {file x : List ℕ} {b : ℕ} {es : List Entry} (h : RowKeeps ConnMan file x b G.Service es) where
+  ipv4-lost : {i : Ipv4} {p : Bool} → i ≡ ipv4Answer (ipv4 (bytesOf file x b N.Ipv4)) → PlacedBy ipv4Placed (i .method) (i .«has_gateway») p → not p ≡ lostBy ipv4Placed ipv4 (entryOf (word "IPv4") es)
+  unfolding keysOf
+  ipv4-lost q t =
+      let o = q ∙ ap ipv4Answer (row-read N.Ipv4 h ipv4 ipv4-none) in
+      ap not (placed-read ipv4Placed (readAs ipv4 (entryOf (word "IPv4") es)) (ap (λ (v : Ipv4). v .method) o) (ap (λ (v : Ipv4). v .«has_gateway») o) t)
+
+  ipv6-lost : {i : Ipv6} {p : Bool} → i ≡ connmanIpv6Answer (connmanIpv6 (bytesOf file x b N.Ipv6)) → PlacedBy ipv6Placed (i .method) (i .«has_gateway») p → not p ≡ lostBy ipv6Placed connmanIpv6 (entryOf (word "IPv6") es)
+  unfolding keysOf
+  ipv6-lost q t =
+      let o = q ∙ ap connmanIpv6Answer (row-read N.Ipv6 h connmanIpv6 connman-ipv6-none) in
+      ap not (placed-read ipv6Placed (readAs connmanIpv6 (entryOf (word "IPv6") es)) (ap (λ (v : Ipv6). v .method) o) (ap (λ (v : Ipv6). v .«has_gateway») o) t)
 
 -- ---- all lines
 
@@ -129,20 +143,14 @@ pub given-lines : {x : List ℕ} {s a b c d e f r : ℕ} → a ≡ keySlot x s N
 given-lines p q e s f t g = record { is = then-earlier g (ap lineSaid t) (then-earlier f (ap lineSaid s) (then-earlier e (ap lineSaid p) (ap lineSaid q))) }
 
 -- the lists of the list, each in front of all behind it
-nested : (a b c d e f g : List ℕ) → a ++ b ++ c ++ d ++ e ++ f ++ g ≡ a ++ (b ++ (c ++ (d ++ (e ++ (f ++ g)))))
-nested a b c d e f g = simp append-assoc
-
-abbrev givenLines : (List ℕ → Option Entry) → List ℕ
-givenLines at = lineGiven (at (word "MAC")) ++ (lineGiven (at (word "IPv6.Privacy")) ++ (lineGiven (at (word "SearchDomains")) ++ lineGiven (at (word "Timeservers"))))
-
-abbrev ipv4Lines : (List ℕ → Option Entry) → List ℕ
-ipv4Lines at = lineIf (not (hasPlace (serviceJoin at .ipv4))) (at (word "IPv4")) ++ givenLines at
+nested : (a b c d e f g k : List ℕ) → a ++ b ++ c ++ d ++ e ++ f ++ g ++ k ≡ a ++ (b ++ (c ++ (d ++ (e ++ (f ++ (g ++ k))))))
+nested a b c d e f g k = simp append-assoc
 
 abbrev securityLines : (List ℕ → Option Entry) → List ℕ
 securityLines at = lineIf (foreign at) (at (word "Security")) ++ ipv4Lines at
 
 unplaced-nested : (at : List ℕ → Option Entry) → lineIf (wired at) (at (word "Type")) ++ securityLines at ≡ unplaced at
-unplaced-nested at = sym (nested (lineIf (wired at) (at (word "Type"))) (lineIf (foreign at) (at (word "Security"))) (lineIf (not (hasPlace (serviceJoin at .ipv4))) (at (word "IPv4"))) (lineGiven (at (word "MAC"))) (lineGiven (at (word "IPv6.Privacy"))) (lineGiven (at (word "SearchDomains"))) (lineGiven (at (word "Timeservers"))))
+unplaced-nested at = sym (nested (lineIf (wired at) (at (word "Type"))) (lineIf (foreign at) (at (word "Security"))) (lineIf (not (ipv4Placed (serviceJoin at .ipv4))) (at (word "IPv4"))) (lineIf (not (ipv6Placed (serviceJoin at .ipv6))) (at (word "IPv6"))) (lineGiven (at (word "MAC"))) (lineGiven (at (word "IPv6.Privacy"))) (lineGiven (at (word "SearchDomains"))) (lineGiven (at (word "Timeservers"))))
 
 module _ {file x : List ℕ} {b : ℕ} {es : List Entry} (h : RowKeeps ConnMan file x b G.Service es) where
   row-others : {g : ℕ} → GivenLine x b g → lineSaid g ≡ earliest (givenLines (λ k. entryOf k es))
@@ -153,9 +161,13 @@ module _ {file x : List ℕ} {b : ℕ} {es : List Entry} (h : RowKeeps ConnMan f
       ∙ ap₂ earlierOf (row-given N.Mac h) (ap₂ earlierOf (row-given N.Privacy h) (ap₂ earlierOf (row-given N.SearchDomains h) (row-given N.Timeservers h) ∙ sym (given-front (entryOf (word "SearchDomains") es) (lineGiven (entryOf (word "Timeservers") es)))) ∙ sym (given-front (entryOf (word "IPv6.Privacy") es) late))
       ∙ sym (given-front (entryOf (word "MAC") es) (lineGiven (entryOf (word "IPv6.Privacy") es) ++ late))
 
-  row-numbers : {g p m : ℕ} {i : Ipv4} {u : Bool} → GivenLine x b g → i ≡ ipv4Answer (ipv4 (bytesOf file x b N.Ipv4)) → u ≡ unrouted (i .method) (i .«has_gateway») → p ≡ slotLineIf u x b N.Ipv4 → Earlier p g m → lineSaid m ≡ earliest (ipv4Lines (λ k. entryOf k es))
+  row-ipv6 : {g p m : ℕ} {i : Ipv6} {u : Bool} → GivenLine x b g → i ≡ connmanIpv6Answer (connmanIpv6 (bytesOf file x b N.Ipv6)) → PlacedBy ipv6Placed (i .method) (i .«has_gateway») u → p ≡ slotLineIf (not u) x b N.Ipv6 → Earlier p g m → lineSaid m ≡ earliest (ipv6Lines (λ k. entryOf k es))
   unfolding keysOf
-  row-numbers a q t l e = then-earlier e (row-where N.Ipv4 h unroutedBy refl (t ∙ row-unrouted h q) l) (row-others a) ∙ sym (front-line (unroutedBy (entryOf (word "IPv4") es)) (entryOf (word "IPv4") es) (givenLines (λ k. entryOf k es)))
+  row-ipv6 a q t l e = then-earlier e (row-where N.Ipv6 h (lostBy ipv6Placed connmanIpv6) refl (ipv6-lost h q t) l) (row-others a) ∙ sym (front-line (lostBy ipv6Placed connmanIpv6 (entryOf (word "IPv6") es)) (entryOf (word "IPv6") es) (givenLines (λ k. entryOf k es)))
+
+  row-ipv4 : {m p n : ℕ} {i : Ipv4} {u : Bool} → lineSaid m ≡ earliest (ipv6Lines (λ k. entryOf k es)) → i ≡ ipv4Answer (ipv4 (bytesOf file x b N.Ipv4)) → PlacedBy ipv4Placed (i .method) (i .«has_gateway») u → p ≡ slotLineIf (not u) x b N.Ipv4 → Earlier p m n → lineSaid n ≡ earliest (ipv4Lines (λ k. entryOf k es))
+  unfolding keysOf
+  row-ipv4 a q t l e = then-earlier e (row-where N.Ipv4 h (lostBy ipv4Placed ipv4) refl (ipv4-lost h q t) l) a ∙ sym (front-line (lostBy ipv4Placed ipv4 (entryOf (word "IPv4") es)) (entryOf (word "IPv4") es) (ipv6Lines (λ k. entryOf k es)))
 
   row-security : {m s n : ℕ} {t : Bool} → lineSaid m ≡ earliest (ipv4Lines (λ k. entryOf k es)) → t ≡ foreignAt x b → s ≡ slotLineIf t x b N.Security → Earlier s m n → lineSaid n ≡ earliest (securityLines (λ k. entryOf k es))
   unfolding keysOf
@@ -165,5 +177,8 @@ module _ {file x : List ℕ} {b : ℕ} {es : List Entry} (h : RowKeeps ConnMan f
   unfolding keysOf
   row-unplaced a t l e = then-earlier e (row-where N.Type h wiredBy refl (t ∙ row-word N.Type h L.ServiceType refl W.Ethernet) l) a ∙ sym (front-line (wired (λ k. entryOf k es)) (entryOf (word "Type") es) (securityLines (λ k. entryOf k es))) ∙ ap earliest (unplaced-nested (λ k. entryOf k es))
 
-pub all-lines : {file x : List ℕ} {b g p m s n t r : ℕ} {i : Ipv4} {u f w : Bool} → GivenLine x b g → i ≡ ipv4Answer (ipv4 (bytesOf file x b N.Ipv4)) → u ≡ unrouted (i .method) (i .«has_gateway») → p ≡ slotLineIf u x b N.Ipv4 → Earlier p g m → f ≡ foreignAt x b → s ≡ slotLineIf f x b N.Security → Earlier s m n → w ≡ slotIs x b N.Type W.Ethernet → t ≡ slotLineIf w x b N.Type → Earlier t n r → RowLine file x b (λ at. earliest (unplaced at)) r
-all-lines a i u p e f s q w t z = record { is = λ es h. row-unplaced h (row-security h (row-numbers h a i u p e) f s q) w t z }
+pub number-lines : {file x : List ℕ} {b g p m q r : ℕ} {i : Ipv6} {u : Bool} {j : Ipv4} {v : Bool} → GivenLine x b g → i ≡ connmanIpv6Answer (connmanIpv6 (bytesOf file x b N.Ipv6)) → PlacedBy ipv6Placed (i .method) (i .«has_gateway») u → p ≡ slotLineIf (not u) x b N.Ipv6 → Earlier p g m → j ≡ ipv4Answer (ipv4 (bytesOf file x b N.Ipv4)) → PlacedBy ipv4Placed (j .method) (j .«has_gateway») v → q ≡ slotLineIf (not v) x b N.Ipv4 → Earlier q m r → RowLine file x b (λ at. earliest (ipv4Lines at)) r
+number-lines a i u p e j v q f = record { is = λ es h. row-ipv4 h (row-ipv6 h a i u p e) j v q f }
+
+pub all-lines : {file x : List ℕ} {b m s n t r : ℕ} {f w : Bool} → RowLine file x b (λ at. earliest (ipv4Lines at)) m → f ≡ foreignAt x b → s ≡ slotLineIf f x b N.Security → Earlier s m n → w ≡ slotIs x b N.Type W.Ethernet → t ≡ slotLineIf w x b N.Type → Earlier t n r → RowLine file x b (λ at. earliest (unplaced at)) r
+all-lines a f s q w t z = record { is = λ es h. row-unplaced h (row-security h (a .is es h) f s q) w t z }

@@ -10,19 +10,20 @@ use Rattle.text.specs.Words.{word}
 use Rattle.addresses.specs.Addresses.{addresses}
 use Rattle.addresses.specs.declared.Separator.the-variants.{Comma}
 use Rattle.kinds.specs.Kinds as K
-use Rattle.connman_ipv4.specs.ConnmanIpv4.{IPv4, dhcp, off, static, ipv4}
+use Rattle.connman_ipv4.specs.ConnmanIpv4.{ipv4}
+use Rattle.addressing.specs.Addressing.{Addressing, auto, off, static, lengthOf, orAuto, Good}
 use Rattle.hex_values.specs.HexValues.{ssid}
 use Rattle.kinds.specs.Kinds.{string}
 use Rattle.addresses.specs.Laws.{addresses-good}
-use Rattle.connman_ipv4.specs.Laws.{Ipv4Good, ipv4-good}
+use Rattle.connman_ipv4.specs.Laws.{ipv4-good}
 use Rattle.hex_values.specs.Laws.{ssid-size}
 use Rattle.kinds.specs.ValueRuleLaws.{string-size}
 use Rattle.rules.specs.Tables.{keysOf}
 use Rattle.rules.specs.Sections.{Entry}
 use Rattle.rules.specs.Asking.{readAs}
-use Rattle.records.specs.Record.{passphraseOf, lengthOf, laid}
+use Rattle.records.specs.Record.{passphraseOf, laid}
 use Rattle.written.specs.RecordParts.{CountsWithin}
-use Rattle.joins.specs.Joins.{secretFrom, ipv4OrDhcp, nameFrom, serviceJoin}
+use Rattle.joins.specs.Joins.{secretFrom, nameFrom, serviceJoin}
 
 -- what a kind reads has at most m elements
 read-short : {A : Type 0} (f : List ℕ → Option (List A)) (m : ℕ) →
@@ -42,16 +43,16 @@ secret-plain : (o : Option (List ℕ)) → passphraseOf (secretFrom o none) ≡ 
 secret-plain none = refl
 secret-plain (some p) = refl
 
-numbers-short : (o : Option Entry) → lengthOf (ipv4OrDhcp (readAs ipv4 o)) ≤ 32
+numbers-short : (o : Option Entry) → lengthOf (orAuto (readAs ipv4 o)) ≤ 32
 numbers-short none = omega arith
 numbers-short (some e) = go (ipv4 (e .value)) refl
   where
-    good : (i : IPv4) → Ipv4Good i → lengthOf i ≤ 32
-    good dhcp h = omega arith
+    good : (i : Addressing) → Good 4 32 i → lengthOf i ≤ 32
+    good auto h = omega arith
     good off h = omega arith
     good (static a n g) h = h .high
 
-    go : (o : Option IPv4) → ipv4 (e .value) ≡ o → lengthOf (ipv4OrDhcp o) ≤ 32
+    go : (o : Option Addressing) → ipv4 (e .value) ≡ o → lengthOf (orAuto o) ≤ 32
     go none q = omega arith
     go (some i) q = good i (ipv4-good (e .value) q)
 

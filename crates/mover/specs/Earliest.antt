@@ -9,7 +9,7 @@ use mathlib.Core.Option.{Option, none, some, Option·none-ne-some, Option·some-
 use lib.Dec.{leb}
 use Rattle.text.specs.Words.{word}
 use Rattle.rules.specs.Sections.{Entry}
-use Rattle.written.specs.Written.{hasPlace}
+use Rattle.written.specs.Written.{ipv4Placed, ipv6Placed}
 use Rattle.joins.specs.Joins.{wired, foreign, serviceJoin}
 use Rattle.mover.specs.Moves.{lineIf, lineGiven, unplaced, least, earliest}
 
@@ -84,7 +84,8 @@ earliest-is (x ∷ xs) {l} e =
 pub record AllPlaced (at : List ℕ → Option Entry) : Type 0 where
   pub wifi : wired at ≡ false
   pub security : foreign at ≡ false
-  pub numbers : hasPlace (serviceJoin at .ipv4) ≡ true
+  pub ipv4 : ipv4Placed (serviceJoin at .ipv4) ≡ true
+  pub ipv6 : ipv6Placed (serviceJoin at .ipv6) ≡ true
   pub mac : at (word "MAC") ≡ none
   pub privacy : at (word "IPv6.Privacy") ≡ none
   pub domains : at (word "SearchDomains") ≡ none
@@ -94,20 +95,22 @@ not-false : (b : Bool) → not b ≡ false → b ≡ true
 not-false true e = refl
 not-false false e = sym e
 
-no-lines : (a b c : Bool) (t s i m p d k : Option Entry) →
-    lineIf a t ++ lineIf b s ++ lineIf c i ++ lineGiven m ++ lineGiven p ++ lineGiven d ++ lineGiven k ≡ [] →
-    (a ≡ false) × (b ≡ false) × (c ≡ false) × (m ≡ none) × (p ≡ none) × (d ≡ none) × (k ≡ none)
-no-lines true b c t s i m p d k e = some-line e
-no-lines false true c t s i m p d k e = some-line e
-no-lines false false true t s i m p d k e = some-line e
-no-lines false false false t s i (some x) p d k e = some-line e
-no-lines false false false t s i none (some x) d k e = some-line e
-no-lines false false false t s i none none (some x) k e = some-line e
-no-lines false false false t s i none none none (some x) e = some-line e
-no-lines false false false t s i none none none none e = (refl, refl, refl, refl, refl, refl, refl)
+no-lines : (a b c f : Bool) (t s i v m p d k : Option Entry) →
+    lineIf a t ++ lineIf b s ++ lineIf c i ++ lineIf f v ++ lineGiven m ++ lineGiven p ++ lineGiven d ++ lineGiven k ≡ [] →
+    (a ≡ false) × (b ≡ false) × (c ≡ false) × (f ≡ false) × (m ≡ none) × (p ≡ none) × (d ≡ none) × (k ≡ none)
+no-lines true b c f t s i v m p d k e = some-line e
+no-lines false true c f t s i v m p d k e = some-line e
+no-lines false false true f t s i v m p d k e = some-line e
+no-lines false false false true t s i v m p d k e = some-line e
+no-lines false false false false t s i v (some x) p d k e = some-line e
+no-lines false false false false t s i v none (some x) d k e = some-line e
+no-lines false false false false t s i v none none (some x) k e = some-line e
+no-lines false false false false t s i v none none none (some x) e = some-line e
+no-lines false false false false t s i v none none none none e = (refl, refl, refl, refl, refl, refl, refl, refl)
 
 pub unplaced-none : (at : List ℕ → Option Entry) → unplaced at ≡ [] → AllPlaced at
 unplaced-none at e =
-    let n = hasPlace (serviceJoin at .ipv4) in
-    let h = no-lines (wired at) (foreign at) (not n) (at (word "Type")) (at (word "Security")) (at (word "IPv4")) (at (word "MAC")) (at (word "IPv6.Privacy")) (at (word "SearchDomains")) (at (word "Timeservers")) e in
-    record { wifi = h .0; security = h .1; numbers = not-false n (h .2); mac = h .3; privacy = h .4; domains = h .5; clocks = h .6 }
+    let n = ipv4Placed (serviceJoin at .ipv4) in
+    let v = ipv6Placed (serviceJoin at .ipv6) in
+    let h = no-lines (wired at) (foreign at) (not n) (not v) (at (word "Type")) (at (word "Security")) (at (word "IPv4")) (at (word "IPv6")) (at (word "MAC")) (at (word "IPv6.Privacy")) (at (word "SearchDomains")) (at (word "Timeservers")) e in
+    record { wifi = h .0; security = h .1; ipv4 = not-false n (h .2); ipv6 = not-false v (h .3); mac = h .4; privacy = h .5; domains = h .6; clocks = h .7 }

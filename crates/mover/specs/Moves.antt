@@ -15,7 +15,7 @@ use Rattle.rules.specs.declared.Refusal.the-variants.{NoPlace}
 use Rattle.rules.specs.declared.Answer.{Answer}
 use Rattle.rules.specs.declared.Answer.the-variants.{Good, Refused}
 use Rattle.writer.specs.Writing.{Writing, refuses, writingOf}
-use Rattle.written.specs.Written.{hasPlace}
+use Rattle.written.specs.Written.{ipv4Placed, ipv6Placed}
 use Rattle.joins.specs.Joins.{wired, foreign, serviceJoin, serviceSetting}
 
 -- ---- what iwd has no place for; at gives the service's setting with a key
@@ -30,12 +30,14 @@ abbrev pub lineGiven : Option Entry → List ℕ
 lineGiven e = lineIf (isSome e) e
 
 -- "No place in iwd, for a move: Type ethernet; Security wep or ieee8021x; IPv4 off; static IPv4 without gateway; MAC;
--- IPv6.Privacy; SearchDomains; Timeservers.": the lines of the service that hold a thing on this list
+-- IPv6.Privacy; SearchDomains; Timeservers.", and by request 2026-03 static IPv6 without gateway: the lines of the service that
+-- hold a thing on this list
 abbrev pub unplaced : (List ℕ → Option Entry) → List ℕ
 unplaced at =
     lineIf (wired at) (at (word "Type"))
     ++ lineIf (foreign at) (at (word "Security"))
-    ++ lineIf (not (hasPlace (serviceJoin at .ipv4))) (at (word "IPv4"))
+    ++ lineIf (not (ipv4Placed (serviceJoin at .ipv4))) (at (word "IPv4"))
+    ++ lineIf (not (ipv6Placed (serviceJoin at .ipv6))) (at (word "IPv6"))
     ++ lineGiven (at (word "MAC"))
     ++ lineGiven (at (word "IPv6.Privacy"))
     ++ lineGiven (at (word "SearchDomains"))

@@ -1,12 +1,11 @@
 -- What the code says of a line that has no place in iwd, 0 standing for none, and of the buffers, by the row of a service.
 use Prim.Native.Nat.{ℕ, zero, suc}
 use mathlib.Core.Path.{_≡_}
-use mathlib.Core.Bool.{Bool, true, false, cond}
-use mathlib.Core.List.{List}
+use mathlib.Core.Bool.{Bool, cond, not}
+use mathlib.Core.List.{List, _++_}
 use mathlib.Core.Option.{Option, none, some}
+use Rattle.text.specs.Words.{word}
 use Rattle.text.specs.declared.Dialect.the-variants.{ConnMan}
-use Rattle.connman_ipv4.specs.declared.Method.{Method}
-use Rattle.connman_ipv4.specs.declared.Method.the-variants as M
 use Rattle.rules.specs.Sections.{Entry, entryOf}
 use Rattle.rules.specs.declared.Group.the-variants.{Service}
 use Rattle.places.specs.Holds.{RowKeeps}
@@ -15,7 +14,9 @@ use Rattle.places.specs.declared.KeyName.{KeyName}
 use Rattle.places.specs.declared.KeyName.the-variants as N
 use Rattle.writer.specs.Writing.{Writes}
 use Rattle.writer.specs.declared.Written.{Written}
-use Rattle.mover.specs.Moves.{least, movingOf}
+use Rattle.joins.specs.Joins.{serviceJoin}
+use Rattle.written.specs.Written.{ipv4Placed, ipv6Placed}
+use Rattle.mover.specs.Moves.{lineIf, lineGiven, least, movingOf}
 
 -- ---- lines
 
@@ -38,13 +39,6 @@ pub record Earlier (a b r : ℕ) : Type 0 where
 abbrev pub slotLineIf : Bool → List ℕ → ℕ → KeyName → ℕ
 slotLineIf t x b k = cond t (keySlot x b k .line) 0
 
--- whether IPv4 has no place, by the method and the gateway that are read
-abbrev pub unrouted : Method → Bool → Bool
-unrouted m true = false
-unrouted M.Dhcp false = false
-unrouted M.Off false = true
-unrouted M.Static false = true
-
 -- the line of a key that is given
 abbrev pub slotLine : List ℕ → ℕ → KeyName → Option ℕ
 slotLine x b k = lineSaid (keySlot x b k .line)
@@ -53,6 +47,20 @@ slotLine x b k = lineSaid (keySlot x b k .line)
 pub record GivenLine (x : List ℕ) (b r : ℕ) : Type 0 where
   pub is : lineSaid r ≡ earlierOf (slotLine x b N.Mac) (earlierOf (slotLine x b N.Privacy)
       (earlierOf (slotLine x b N.SearchDomains) (slotLine x b N.Timeservers)))
+
+-- the lists of the move's list, each in front of those behind it: what has no place whatever it says; IPv6 and IPv4 in front of it
+abbrev pub givenLines : (List ℕ → Option Entry) → List ℕ
+givenLines at =
+    lineGiven (at (word "MAC"))
+    ++ (lineGiven (at (word "IPv6.Privacy"))
+    ++ (lineGiven (at (word "SearchDomains"))
+    ++ lineGiven (at (word "Timeservers"))))
+
+abbrev pub ipv6Lines : (List ℕ → Option Entry) → List ℕ
+ipv6Lines at = lineIf (not (ipv6Placed (serviceJoin at .ipv6))) (at (word "IPv6")) ++ givenLines at
+
+abbrev pub ipv4Lines : (List ℕ → Option Entry) → List ℕ
+ipv4Lines at = lineIf (not (ipv4Placed (serviceJoin at .ipv4))) (at (word "IPv4")) ++ ipv6Lines at
 
 -- the line of the service whose settings the row keeps
 pub record RowLine (file x : List ℕ) (b : ℕ) (f : (List ℕ → Option Entry) → Option ℕ) (r : ℕ) : Type 0 where

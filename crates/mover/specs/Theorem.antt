@@ -57,8 +57,8 @@ module _ {name file : List ℕ} {w : ℕ} (s : Service name file w) where
     move-well-formed = service-formed name file w move-joined
 
     -- nor the writer's own 16
-    pub move-placed : hasPlace (serviceJoin (serviceSetting w file) .ipv4) ≡ true
-    move-placed = unplaced-none (serviceSetting w file) p .numbers
+    pub move-placed : hasPlace (serviceJoin (serviceSetting w file)) ≡ true
+    move-placed = let h = unplaced-none (serviceSetting w file) p in rw (h .ipv4) (h .ipv6)
 
     move-writing : (n f : List ℕ) → moving name file w n f ≡ writingOf (serviceJoin (serviceSetting w file)) n f
     move-writing n f = moving-service n f ∙ ap (λ (o : Option ℕ). orUnplaced o (writingOf (serviceJoin (serviceSetting w file)) n f)) (none-earliest (unplaced (serviceSetting w file)) p)

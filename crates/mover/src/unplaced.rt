@@ -4,9 +4,7 @@ ghost use mathlib.Core.Path.{_≡_};
 ghost use Rattle.places.specs.KeySlots.{RowInTable};
 ghost use Rattle.values.specs.Rows.{RowOf};
 ghost use Rattle.mover.specs.Moves.{unplaced, earliest};
-ghost use Rattle.mover.specs.Places.{Earlier, GivenLine, RowLine, slotLineIf, unrouted};
-use connman_ipv4::Ipv4;
-use connman_ipv4::Method;
+ghost use Rattle.mover.specs.Places.{Earlier, GivenLine, RowLine, slotLineIf, ipv4Lines};
 use joins::parts::is_foreign;
 use named_words::Word;
 use places::KeyName;
@@ -15,6 +13,7 @@ use places::rows::is_word;
 use places::rows::line_of;
 use rules::Group;
 use text::Dialect;
+use written::parts;
 
 // The earlier of two lines.
 fn earlier(a: usize, b: usize) -> usize
@@ -43,21 +42,6 @@ fn line_if(holds: bool, x: &Places, row: usize, k: KeyName) -> usize
     0
 }
 
-// IPv4 off, or static without gateway.
-fn is_unrouted(numbers: Ipv4) -> bool
-    ensures { λ r. ⌜ r ≡ unrouted (numbers .method) (numbers .«has_gateway») ⌝ }
-{
-    let method = numbers.method;
-    if numbers.has_gateway {
-        return false;
-    }
-    match method {
-        Method::Dhcp => false,
-        Method::Off => true,
-        Method::Static => true,
-    }
-}
-
 // MAC, IPv6.Privacy, SearchDomains and Timeservers, whatever they say.
 fn given_line(x: &Places, row: usize) -> usize
     requires { ⌜ RowInTable (now x) row ⌝ }
@@ -69,14 +53,28 @@ fn given_line(x: &Places, row: usize) -> usize
     earlier(line_of(x, row, KeyName::Mac), privacy)
 }
 
-// The earliest of them all: those given, IPv4, Security wep or ieee8021x, and Type ethernet.
+// Those, IPv4 off or static without gateway, and IPv6 static without gateway.
+fn numbers_line(file: &[u8], x: &Places, row: usize) -> usize
+    requires { ⌜ RowOf Dialect.ConnMan (now file) (now x) row Group.Service ⌝ }
+    ensures { λ r. ⌜ RowLine (now (file .entry)) (now (x .entry)) row (λ at. earliest (ipv4Lines at)) r ⌝ }
+{
+    let given = given_line(x, row);
+    let six = values::ipv6_at(file, x, row, KeyName::Ipv6);
+    let six_method = six.method;
+    let six_placed = parts::ipv6_placed(six_method, six.has_gateway);
+    let behind = earlier(line_if(!six_placed, x, row, KeyName::Ipv6), given);
+    let four = values::ipv4_at(file, x, row, KeyName::Ipv4);
+    let four_method = four.method;
+    let four_placed = parts::ipv4_placed(four_method, four.has_gateway);
+    earlier(line_if(!four_placed, x, row, KeyName::Ipv4), behind)
+}
+
+// The earliest of them all: those, Security wep or ieee8021x, and Type ethernet.
 pub fn unplaced_line(file: &[u8], x: &Places, row: usize) -> usize
     requires { ⌜ RowOf Dialect.ConnMan (now file) (now x) row Group.Service ⌝ }
     ensures { λ r. ⌜ RowLine (now (file .entry)) (now (x .entry)) row (λ at. earliest (unplaced at)) r ⌝ }
 {
-    let given = given_line(x, row);
-    let unrouted = is_unrouted(values::ipv4_at(file, x, row, KeyName::Ipv4));
-    let numbers = earlier(line_if(unrouted, x, row, KeyName::Ipv4), given);
+    let numbers = numbers_line(file, x, row);
     let foreign = is_foreign(x, row);
     let security = earlier(line_if(foreign, x, row, KeyName::Security), numbers);
     let wired = is_word(x, row, KeyName::Type, Word::Ethernet);

@@ -14,7 +14,7 @@ use Rattle.named_words.specs.NamedWords.{flagWords, flag, wordsOf, wordO
 use Rattle.named_words.specs.WordRules.{Means, flagRows, wordRows}
 use Rattle.named_words.specs.declared.Word.{Word}
 use Rattle.named_words.specs.declared.WordList.{WordList}
-use Rattle.named_words.specs.declared.WordList.the-variants.{ServiceType, Ipv6Method, Privacy, Security}
+use Rattle.named_words.specs.declared.WordList.the-variants.{ServiceType, Privacy, Security}
 
 -- ---- a table of words
 
@@ -59,13 +59,11 @@ means-flag ConnMan v h = row-named (flagWords ConnMan) (flagWords ConnMan) (refl
 pub word-means : (l : WordList) (v : List ℕ) {w : Word} → wordOf l v ≡ some w → Means (wordRows l) v w
 unfolding wordOf
 word-means ServiceType v e = named-row v (wordsOf ServiceType) e
-word-means Ipv6Method v e = named-row v (wordsOf Ipv6Method) e
 word-means Privacy v e = named-row v (wordsOf Privacy) e
 word-means Security v e = named-row v (wordsOf Security) e
 
 pub means-word : (l : WordList) (v : List ℕ) {w : Word} → Means (wordRows l) v w → wordOf l v ≡ some w
 unfolding wordOf
 means-word ServiceType v h = row-named (wordsOf ServiceType) (wordsOf ServiceType) (refl, (refl, tt)) v h
-means-word Ipv6Method v h = row-named (wordsOf Ipv6Method) (wordsOf Ipv6Method) (refl, (refl, tt)) v h
 means-word Privacy v h = row-named (wordsOf Privacy) (wordsOf Privacy) (refl, (refl, (refl, (refl, tt)))) v h
 means-word Security v h = row-named (wordsOf Security) (wordsOf Security) (refl, (refl, (refl, (refl, tt)))) v h

@@ -12,8 +12,6 @@ use text::words::equal;
 pub enum Word {
     Wifi,
     Ethernet,
-    Off,
-    Auto,
     Disabled,
     Enabled,
     Preferred,
@@ -26,7 +24,6 @@ pub enum Word {
 // The lists of named words.
 pub enum WordList {
     ServiceType,
-    Ipv6Method,
     Privacy,
     Security,
 }
@@ -77,18 +74,6 @@ fn read_type(s: &[u8]) -> NamedWord
     NamedWord::Broken
 }
 
-fn read_ipv6(s: &[u8]) -> NamedWord
-    ensures { λ r. ⌜ r ≡ namedWord (wordOf WordList.Ipv6Method (now (s .entry))) ⌝ }
-{
-    if equal(s, b"off") {
-        return NamedWord::Is(Word::Off);
-    }
-    if equal(s, b"auto") {
-        return NamedWord::Is(Word::Auto);
-    }
-    NamedWord::Broken
-}
-
 fn read_privacy(s: &[u8]) -> NamedWord
     ensures { λ r. ⌜ r ≡ namedWord (wordOf WordList.Privacy (now (s .entry))) ⌝ }
 {
@@ -131,7 +116,6 @@ pub fn read_word(w: WordList, s: &[u8]) -> NamedWord
 {
     match w {
         WordList::ServiceType => read_type(s),
-        WordList::Ipv6Method => read_ipv6(s),
         WordList::Privacy => read_privacy(s),
         WordList::Security => read_security(s),
     }

@@ -17,11 +17,12 @@ use Rattle.named_words.specs.NamedWords.{flag, wordOf}
 use Rattle.kinds.specs.Typed as T
 use Rattle.kinds.specs.Typed.{Typed, byKind, typed, stringBroken, kindJudged, judged}
 use Rattle.named_words.specs.declared.Word.{Word}
-use Rattle.named_words.specs.declared.Word.the-variants.{Wifi, Ethernet, Off, Auto, Disabled, Enabled, Preferred, Psk, Ieee8021x, None, Wep}
+use Rattle.named_words.specs.declared.Word.the-variants.{Wifi, Ethernet, Disabled, Enabled, Preferred, Psk, Ieee8021x, None, Wep}
 use Rattle.kinds.specs.declared.Kind.{Kind}
 use Rattle.kinds.specs.declared.Kind.the-variants.{Flag, Named, Netmask}
 use Rattle.named_words.specs.declared.WordList.{WordList}
 use Rattle.rules.specs.Sections.{Entry, given, entryOf}
+use Rattle.rules.specs.Groups.{isNo}
 use Rattle.rules.specs.WordNumbers.{isWord, wordNumber}
 use Rattle.tables.specs.KeyPlaces.{keyNames}
 use Rattle.places.specs.Store.{Slot, slot}
@@ -99,8 +100,6 @@ kept-word d l file s none q w = rw (ap (λ (t : Slot). t .code) q) (ne-eqb 0 (wo
     word-some : (w : Word) → 0 ≡ wordNumber w → ⊥
     word-some Wifi e = omega (arith, e)
     word-some Ethernet e = omega (arith, e)
-    word-some Off e = omega (arith, e)
-    word-some Auto e = omega (arith, e)
     word-some Disabled e = omega (arith, e)
     word-some Enabled e = omega (arith, e)
     word-some Preferred e = omega (arith, e)
@@ -109,3 +108,13 @@ kept-word d l file s none q w = rw (ap (λ (t : Slot). t .code) q) (ne-eqb 0 (wo
     word-some None e = omega (arith, e)
     word-some Wep e = omega (arith, e)
 kept-word d l file s (some x) h w = let c = coded-word d l (x .value) (h .code) in ap (λ (n : ℕ). eqb n (wordNumber w)) (c .code) ∙ sym (ap (isWord w) (c .is))
+
+-- ---- a no by its code
+
+pub kept-no : (d : Dialect) (file : List ℕ) (s : Slot) (o : Option Entry) → SlotKeeps d (some Flag) file s o → eqb (s .code) (flagCode false) ≡ isNo (andThen o (λ e. flag d (e .value)))
+kept-no d file s none q = rw (ap (λ (t : Slot). t .code) q)
+kept-no d file s (some x) h = let c = coded-flag d (x .value) (h .code) in ap (λ (n : ℕ). eqb n (flagCode false)) (c .code) ∙ code-no (c .value) ∙ sym (ap isNo (c .is))
+  where
+    code-no : (b : Bool) → eqb (flagCode b) (flagCode false) ≡ isNo (some b)
+    code-no true = refl
+    code-no false = refl

@@ -35,7 +35,8 @@ codeOf (T.word w) = wordNumber w
 codeOf (T.address a) = 0
 codeOf (T.addresses l) = 0
 codeOf (T.entries l) = 0
-codeOf (T.ipv4 s) = 0
+codeOf (T.addressing i) = 0
+codeOf (T.withLength w) = 0
 codeOf (T.bytes b) = 0
 
 -- bytes are good, by their kind, and this is their code
@@ -53,6 +54,9 @@ isText (K.Named w) = false
 isText K.Netmask = false
 isText K.Address = true
 isText K.Ipv4 = true
+isText K.Ipv6 = true
+isText K.Ipv6Address = true
+isText K.Ipv6WithLength = true
 isText (K.Addresses s) = true
 isText K.Entries = true
 isText K.Mac = true

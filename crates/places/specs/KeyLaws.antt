@@ -32,6 +32,8 @@ listed N.Dns = record { placed = refl; kind = refl; few = (omega arith, omega ar
 listed N.DomainName = record { placed = refl; kind = refl; few = (omega arith, omega arith) }
 listed N.SendHostname = record { placed = refl; kind = refl; few = (omega arith, omega arith) }
 listed N.Enabled = record { placed = refl; kind = refl; few = (omega arith, omega arith) }
+listed N.Ipv6Address = record { placed = refl; kind = refl; few = (omega arith, omega arith) }
+listed N.Ipv6Gateway = record { placed = refl; kind = refl; few = (omega arith, omega arith) }
 listed N.GlobalName = record { placed = refl; kind = refl; few = (omega arith, omega arith) }
 listed N.Description = record { placed = refl; kind = refl; few = (omega arith, omega arith) }
 listed N.Type = record { placed = refl; kind = refl; few = (omega arith, omega arith) }

@@ -5,7 +5,7 @@ use Rattle.text.specs.Words.{word}
 use Rattle.addresses.specs.declared.Separator.the-variants.{Spaces, Comma}
 use Rattle.kinds.specs.declared.Kind.{Kind}
 use Rattle.kinds.specs.declared.Kind.the-variants as Kinds
-use Rattle.kinds.specs.declared.Kind.the-variants.{Flag, Named, Address, Netmask, Ipv4, Addresses, Entries, Mac, Ssid, Passphrase, Text}
+use Rattle.kinds.specs.declared.Kind.the-variants.{Flag, Named, Address, Netmask, Ipv4, Ipv6, Ipv6Address, Ipv6WithLength, Addresses, Entries, Mac, Ssid, Passphrase, Text}
 use Rattle.named_words.specs.declared.WordList.the-variants as W
 use Rattle.rules.specs.declared.Group.{Group}
 use Rattle.rules.specs.declared.Group.the-variants as G
@@ -35,11 +35,13 @@ keyNamed N.Dns = record { group = G.Ipv4; name = word "DNS"; kind = (Addresses S
 keyNamed N.DomainName = record { group = G.Ipv4; name = word "DomainName"; kind = (Text 1 253); slot = 6 }
 keyNamed N.SendHostname = record { group = G.Ipv4; name = word "SendHostname"; kind = Flag; slot = 7 }
 keyNamed N.Enabled = record { group = G.Ipv6; name = word "Enabled"; kind = Flag; slot = 1 }
+keyNamed N.Ipv6Address = record { group = G.Ipv6; name = word "Address"; kind = Ipv6WithLength; slot = 2 }
+keyNamed N.Ipv6Gateway = record { group = G.Ipv6; name = word "Gateway"; kind = Ipv6Address; slot = 3 }
 keyNamed N.GlobalName = record { group = G.Global; name = word "Name"; kind = (Text 1 253); slot = 1 }
 keyNamed N.Description = record { group = G.Global; name = word "Description"; kind = (Text 1 253); slot = 2 }
 keyNamed N.Type = record { group = G.Service; name = word "Type"; kind = (Named W.ServiceType); slot = 1 }
 keyNamed N.Ipv4 = record { group = G.Service; name = word "IPv4"; kind = Ipv4; slot = 2 }
-keyNamed N.Ipv6 = record { group = G.Service; name = word "IPv6"; kind = (Named W.Ipv6Method); slot = 3 }
+keyNamed N.Ipv6 = record { group = G.Service; name = word "IPv6"; kind = Ipv6; slot = 3 }
 keyNamed N.Privacy = record { group = G.Service; name = word "IPv6.Privacy"; kind = (Named W.Privacy); slot = 4 }
 keyNamed N.Mac = record { group = G.Service; name = word "MAC"; kind = Mac; slot = 5 }
 keyNamed N.Nameservers = record { group = G.Service; name = word "Nameservers"; kind = (Addresses Comma); slot = 6 }

@@ -22,6 +22,8 @@ pub fn key_place(k: KeyName) -> usize
         KeyName::DomainName => 6,
         KeyName::SendHostname => 7,
         KeyName::Enabled => 1,
+        KeyName::Ipv6Address => 2,
+        KeyName::Ipv6Gateway => 3,
         KeyName::GlobalName => 1,
         KeyName::Description => 2,
         KeyName::Type => 1,

@@ -58,6 +58,8 @@ pub enum KeyName {
     DomainName,
     SendHostname,
     Enabled,
+    Ipv6Address,
+    Ipv6Gateway,
     GlobalName,
     Description,
     Type,

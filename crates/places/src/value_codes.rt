@@ -16,15 +16,13 @@ pub fn word_number(w: Word) -> u16
     match w {
         Word::Wifi => 1,
         Word::Ethernet => 2,
-        Word::Off => 3,
-        Word::Auto => 4,
-        Word::Disabled => 5,
-        Word::Enabled => 6,
-        Word::Preferred => 7,
-        Word::Psk => 8,
-        Word::Ieee8021x => 9,
-        Word::None => 10,
-        Word::Wep => 11,
+        Word::Disabled => 3,
+        Word::Enabled => 4,
+        Word::Preferred => 5,
+        Word::Psk => 6,
+        Word::Ieee8021x => 7,
+        Word::None => 8,
+        Word::Wep => 9,
     }
 }
 
@@ -40,7 +38,8 @@ pub fn value_code(v: Value) -> u16
     }
 }
 
-fn flag_code(b: bool) -> u16
+// The code of a yes/no.
+pub fn flag_code(b: bool) -> u16
     ensures { λ r. ⌜ r ≡ flagCode b ⌝ }
 {
     if b {

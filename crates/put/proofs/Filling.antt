@@ -1,6 +1,6 @@
 -- A text that may be broken, read into the front of a buffer byte by byte; and an array filled from its front.
 use mathlib.Core.Path.{_≡_, refl, ap, sym, _∙_, subst}
-use mathlib.Core.List.{List, [], _∷_, _++_, append-assoc, append-nil}
+use mathlib.Core.List.{List, [], _∷_, _++_, append-nil}
 use mathlib.Core.Option.{Option, none, some}
 use Prim.Native.Nat.{ℕ, zero, suc, _+_, _-_, _≤_, _<_}
 use native.Mathlib.Nat.{zero-add, sub-zero, zero-sub, suc-sub-suc}
@@ -8,29 +8,10 @@ use native.Mathlib.Numerals.{add-one}
 use native.Mathlib.Omega.{arith}
 use lib.ListN.{length, take, drop, set, length-append, length-set, take-append-drop, replicate}
 use lib.Seq.{drop-cons, take-suc-set, drop-set-lt, length-take-le}
-use Rattle.text.specs.Options.{prepend, orEmpty, ReadsUpTo}
+use Rattle.text.specs.Options.{prepend, glue, orEmpty, ReadsUpTo}
+use Rattle.text.specs.OptionLaws.{glue-prepend, glue-nil}
 use Rattle.text.specs.Parts.{padded}
 use Rattle.put.specs.Put.{Wrote}
-
-abbrev pub glue : List ℕ → Option (List ℕ) → Option (List ℕ)
-glue t none = none
-glue t (some u) = some (t ++ u)
-
-pub glue-prepend : (t : List ℕ) (x : ℕ) (o : Option (List ℕ)) → glue t (prepend x o) ≡ glue (t ++ (x ∷ [])) o
-glue-prepend t x none = refl
-glue-prepend t x (some u) = ap some (sym (append-assoc t (x ∷ []) u))
-
-pub glue-cons : (x : ℕ) (t : List ℕ) (o : Option (List ℕ)) → prepend x (glue t o) ≡ glue (x ∷ t) o
-glue-cons x t none = refl
-glue-cons x t (some u) = refl
-
-pub glue-glue : (t u : List ℕ) (o : Option (List ℕ)) → glue t (glue u o) ≡ glue (t ++ u) o
-glue-glue t u none = refl
-glue-glue t u (some v) = ap some (sym (append-assoc t u v))
-
-pub glue-nil : (o : Option (List ℕ)) → glue [] o ≡ o
-glue-nil none = refl
-glue-nil (some u) = refl
 
 -- the first n bytes of x are read, r is still to be read, and t is the whole
 pub record Filling (t r : Option (List ℕ)) (n : ℕ) (o x : List ℕ) : Type 0 where

@@ -6,6 +6,6 @@ abbrev pub version : ℕ
 version = 200
 
 -- The layout of the C boundary's structs. It is raised whenever a struct, a parameter or a code changes its meaning or goes; the
--- name of `qewaris_layout_1` carries it, and so does the name of the shared library.
+-- name of `qewaris_layout_2` carries it, and so does the name of the shared library.
 abbrev pub layout : ℕ
-layout = 1
+layout = 2

@@ -11,8 +11,8 @@ pub extern "C" fn qewaris_version() -> u32
 }
 
 #[no_mangle]
-pub extern "C" fn qewaris_layout_1() -> u32
+pub extern "C" fn qewaris_layout_2() -> u32
     ensures { λ r. ⌜ r ≡ layout ⌝ }
 {
-    1
+    2
 }

@@ -17,7 +17,9 @@ use Rattle.lines.specs.Lines as Lines
 use Rattle.lines.specs.Lines.{setting, lineOf, valueStart}
 use Rattle.kinds.specs.Typed as T
 use Rattle.kinds.specs.Typed.{Typed, typed, Judged, judged}
+use Rattle.ipv6.specs.Ipv6 as Ipv6
 use Rattle.connman_ipv4.specs.ConnmanIpv4 as ConnmanIpv4
+use Rattle.ipv6_values.specs.Ipv6Values as Ipv6Values
 use Rattle.hex_values.specs.HexValues as HexValues
 use Rattle.entry_lists.specs.EntryLists as EntryLists
 use Rattle.kinds.specs.Kinds as Kinds
@@ -94,7 +96,8 @@ value-code p (T.word w) = refl
 value-code p (T.address a) = refl
 value-code p (T.addresses l) = refl
 value-code p (T.entries l) = refl
-value-code p (T.ipv4 s) = refl
+value-code p (T.addressing i) = refl
+value-code p (T.withLength w) = refl
 value-code p (T.bytes b) = refl
 
 -- a text stands at its place
@@ -109,7 +112,10 @@ module _ (p : Place) where
   typed-placed d (K.Named l) b w e = absurd (true≢false (sym w))
   typed-placed d K.Netmask b w e = absurd (true≢false (sym w))
   typed-placed d K.Address b w e = mapped-placed T.address (A.address b) e (λ a. refl)
-  typed-placed d K.Ipv4 b w e = mapped-placed T.ipv4 (ConnmanIpv4.ipv4 b) e (λ a. refl)
+  typed-placed d K.Ipv4 b w e = mapped-placed T.addressing (ConnmanIpv4.ipv4 b) e (λ a. refl)
+  typed-placed d K.Ipv6 b w e = mapped-placed T.addressing (Ipv6Values.connmanIpv6 b) e (λ a. refl)
+  typed-placed d K.Ipv6Address b w e = mapped-placed T.address (Ipv6.ipv6 b) e (λ a. refl)
+  typed-placed d K.Ipv6WithLength b w e = mapped-placed T.withLength (Ipv6Values.withLength b) e (λ a. refl)
   typed-placed d (K.Addresses s) b w e = mapped-placed T.addresses (A.addresses s b) e (λ a. refl)
   typed-placed d K.Entries b w e = mapped-placed T.entries (EntryLists.entries b) e (λ a. refl)
   typed-placed d K.Mac b w e = mapped-placed T.bytes (HexValues.mac b) e (λ a. refl)
@@ -132,7 +138,8 @@ place-inside {d} {file} u = let t = reads-typed (u .place) (judged d (u .new .ki
     go (T.address a) = u .inside
     go (T.addresses l) = u .inside
     go (T.entries l) = u .inside
-    go (T.ipv4 s) = u .inside
+    go (T.addressing i) = u .inside
+    go (T.withLength w) = u .inside
     go (T.bytes b) = u .inside
 
 module _ {d : Dialect} {file : List ℕ} {st : State} {x : List ℕ} {s : ℕ} {l : List ℕ} {f : Line} (says : LineSays d file x (st .current) s l f) where

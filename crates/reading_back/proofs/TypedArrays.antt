@@ -16,7 +16,8 @@ use denote.Struct.Declared.{row}
 use Rattle.text.specs.Bytes.{isByte, between}
 use Rattle.text.specs.Parts.{all}
 use Rattle.text.specs.Laws.{inside}
-use Rattle.addresses.specs.Addresses.{isAddress, areAddresses}
+use Rattle.addresses.specs.Addresses.{isBytes, areAddresses}
+use Rattle.addresses.specs.Laws.{are-bytes}
 use Rattle.records.specs.Formed.{Arrays}
 use Rattle.records.specs.declared.JoinRecord.{JoinRecord}
 use Rattle.records.proofs.JoinRecord as J
@@ -40,13 +41,13 @@ module _ (n : ℕ) (xs : List ℕ) (vs : List Val) (p : Is (Array (UInt w8) n) x
   bytes : all isByte xs ≡ true
   bytes = each-bytes xs (p .0) (p .1 .1)
 
-address : (xs : List ℕ) (vs : List Val) → Is (Array (UInt w8) 4) xs vs → isAddress xs ≡ true
-address xs vs p = rw (long 4 xs vs p) (each-between xs (p .0) (p .1 .1))
+address : (n : ℕ) (xs : List ℕ) (vs : List Val) → Is (Array (UInt w8) n) xs vs → isBytes n xs ≡ true
+address n xs vs p = are-bytes n xs (long n xs vs p) (each-between xs (p .0) (p .1 .1))
 
 each-address : (s : List (List ℕ)) (us : List Val) → shadow (each (List ℕ) (Array (UInt w8) 4 .own) s us) → areAddresses s ≡ true
 each-address [] us p = refl
 each-address (a ∷ s) [] p = absurd p
-each-address (a ∷ s) (u ∷ us) p = rw (address a (u ∷ []) (p .0)) (each-address s us (p .1))
+each-address (a ∷ s) (u ∷ us) p = rw (address 4 a (u ∷ []) (p .0)) (each-address s us (p .1))
 
 -- ---- the arrays of a record, and its servers
 
@@ -63,9 +64,11 @@ typed-arrays r s vs ws p q =
       passphrase = long 63 (r .passphrase) _ (field 63 (r .passphrase) _ (p .1 .1 .1 .1 .1 .1 .0));
       key = long 32 (r .key) _ key;
       keyBytes = bytes 32 (r .key) _ key;
-      address = address (r .address) _ (field 4 (r .address) _ (p .1 .1 .1 .1 .1 .1 .1 .1 .1 .1 .0));
-      gateway = address (r .gateway) _ (field 4 (r .gateway) _ (p .1 .1 .1 .1 .1 .1 .1 .1 .1 .1 .1 .1 .1 .0));
+      address = address 4 (r .address) _ (field 4 (r .address) _ (p .1 .1 .1 .1 .1 .1 .1 .1 .1 .1 .0));
+      gateway = address 4 (r .gateway) _ (field 4 (r .gateway) _ (p .1 .1 .1 .1 .1 .1 .1 .1 .1 .1 .1 .1 .1 .0));
       servers = q .1 .0 .1;
       serverBytes = each-address s (q .0) (q .1 .1);
       domain = long 253 (r .domain) _ (field 253 (r .domain) _ (p .1 .1 .1 .1 .1 .1 .1 .1 .1 .1 .1 .1 .1 .1 .1 .1 .0));
+      ipv6Address = address 16 (r .«ipv6_address») _ (field 16 (r .«ipv6_address») _ (p .1 .1 .1 .1 .1 .1 .1 .1 .1 .1 .1 .1 .1 .1 .1 .1 .1 .1 .0));
+      ipv6Gateway = address 16 (r .«ipv6_gateway») _ (field 16 (r .«ipv6_gateway») _ (p .1 .1 .1 .1 .1 .1 .1 .1 .1 .1 .1 .1 .1 .1 .1 .1 .1 .1 .1 .1 .1 .0));
     }

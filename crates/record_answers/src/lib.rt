@@ -8,7 +8,7 @@ ghost use Rattle.joins.specs.Joins.{zeroRecord, iwdRecord, iwdRecordServers, se
 ghost use Rattle.joins.specs.Places.{IwdFileRows, iwdFileJoin};
 ghost use Rattle.record_answers.specs.Places.{RowAnswered};
 use addresses::Separator;
-use connman_ipv4::Method;
+use addressing::Method;
 use joins::Hindrance;
 use joins::RecordAnswer;
 use joins::joining;
@@ -18,7 +18,6 @@ use places::PLACES;
 use places::Places;
 use places::rows::base_of;
 use records::Credential;
-use records::Ipv6;
 use records::JoinRecord;
 use rules::Answer;
 use rules::Group;
@@ -38,7 +37,7 @@ fn zero_record() -> JoinRecord
         passphrase: [0; 63],
         key: [0; 32],
         hidden: false,
-        ipv4: Method::Dhcp,
+        ipv4: Method::Auto,
         address: [0; 4],
         length: 0,
         has_gateway: false,
@@ -46,7 +45,11 @@ fn zero_record() -> JoinRecord
         server_count: 0,
         domain_len: 0,
         domain: [0; 253],
-        ipv6: Ipv6::Auto,
+        ipv6: Method::Auto,
+        ipv6_address: [0; 16],
+        ipv6_length: 0,
+        has_ipv6_gateway: false,
+        ipv6_gateway: [0; 16],
     }
 }
 

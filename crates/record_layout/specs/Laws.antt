@@ -16,7 +16,7 @@ use Rattle.records.specs.Record.{Join, laid}
 use Rattle.records.specs.Formed.{WellFormed, Arrays}
 use Rattle.records.specs.PartLaws.{secret-short}
 use Rattle.records.specs.declared.JoinRecord.{JoinRecord}
-use Rattle.codes.specs.Laws.{bit-back, credential-back, method-back, ipv6-back, bit-known, credential-known, method-known, ipv6-known, known-bit, known-credential, known-method, known-ipv6}
+use Rattle.codes.specs.Laws.{bit-back, credential-back, method-back, bit-known, credential-known, method-known, known-bit, known-credential, known-method}
 use Rattle.record_layout.specs.Records.{fourAt, sixteen, fours, recordAt, FitsBytes, CArrays, known, recordIn, serversIn}
 use Rattle.record_layout.specs.declared.CRecord.{CRecord}
 
@@ -24,11 +24,11 @@ use Rattle.record_layout.specs.declared.CRecord.{CRecord}
 
 pub record-back : (r : JoinRecord) (s : List (List ℕ)) → recordIn (recordAt r s) ≡ r
 record-back r s =
-    rw (credential-back (r .credential), bit-back (r .hidden), method-back (r .ipv4), bit-back (r .«has_gateway»), ipv6-back (r .ipv6))
+    rw (credential-back (r .credential), bit-back (r .hidden), method-back (r .ipv4), bit-back (r .«has_gateway»), method-back (r .ipv6), bit-back (r .«has_ipv6_gateway»))
 
 pub record-known : (r : JoinRecord) (s : List (List ℕ)) → known (recordAt r s) ≡ true
 record-known r s =
-    rw (credential-known (r .credential), bit-known (r .hidden), method-known (r .ipv4), bit-known (r .«has_gateway»)) (ipv6-known (r .ipv6))
+    rw (credential-known (r .credential), bit-known (r .hidden), method-known (r .ipv4), bit-known (r .«has_gateway»), method-known (r .ipv6)) (bit-known (r .«has_ipv6_gateway»))
 
 -- ---- name servers
 
@@ -74,11 +74,12 @@ sixteen-back b e =
 -- a record whose every code is that of a case is handed out as it was brought in
 pub brought-back : (c : CRecord) → known c ≡ true → length (c .servers) ≡ 16 → recordAt (recordIn c) (serversIn c) ≡ c
 brought-back c k e =
-    let p = and-true (leb (c .credential) 2) (leb (c .hidden) 1 && (leb (c .ipv4) 2 && (leb (c .«has_gateway») 1 && leb (c .ipv6) 1))) k in
-    let q = and-true (leb (c .hidden) 1) (leb (c .ipv4) 2 && (leb (c .«has_gateway») 1 && leb (c .ipv6) 1)) (p .1) in
-    let r = and-true (leb (c .ipv4) 2) (leb (c .«has_gateway») 1 && leb (c .ipv6) 1) (q .1) in
-    let t = and-true (leb (c .«has_gateway») 1) (leb (c .ipv6) 1) (r .1) in
-    rw (known-credential (c .credential) (p .0), known-bit (c .hidden) (q .0), known-method (c .ipv4) (r .0), known-bit (c .«has_gateway») (t .0), known-ipv6 (c .ipv6) (t .1), sixteen-back (c .servers) e)
+    let p = and-true (leb (c .credential) 2) _ k in
+    let q = and-true (leb (c .hidden) 1) _ (p .1) in
+    let r = and-true (leb (c .ipv4) 2) _ (q .1) in
+    let t = and-true (leb (c .«has_gateway») 1) _ (r .1) in
+    let u = and-true (leb (c .ipv6) 2) (leb (c .«has_ipv6_gateway») 1) (t .1) in
+    rw (known-credential (c .credential) (p .0), known-bit (c .hidden) (q .0), known-method (c .ipv4) (r .0), known-bit (c .«has_gateway») (t .0), known-method (c .ipv6) (u .0), known-bit (c .«has_ipv6_gateway») (u .1), sixteen-back (c .servers) e)
 
 -- the arrays of the record that is brought in, by what the types say of them
 at-passes : (p : ℕ → Bool) (b : List ℕ) (i : ℕ) → i < length b → all p b ≡ true → p (getD b i 0) ≡ true
@@ -103,6 +104,8 @@ brought-arrays c a =
       servers = refl;
       serverBytes = rw (address-at 0 (omega (arith, a .servers)), address-at 4 (omega (arith, a .servers)), address-at 8 (omega (arith, a .servers)), address-at 12 (omega (arith, a .servers)));
       domain = a .domain;
+      ipv6Address = a .ipv6Address;
+      ipv6Gateway = a .ipv6Gateway;
     }
   where
     address-at : (i : ℕ) → i + 4 ≤ length (c .servers) → isAddress (fourAt (c .servers) i) ≡ true

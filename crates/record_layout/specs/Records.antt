@@ -7,9 +7,9 @@ use lib.Dec.{leb}
 use lib.ListN.{length, getD, replicate}
 use Rattle.text.specs.Bytes.{isByte, between}
 use Rattle.text.specs.Parts.{all}
-use Rattle.addresses.specs.Addresses.{noAddress, isAddress}
+use Rattle.addresses.specs.Addresses.{noAddress, isBytes, isAddress}
 use Rattle.records.specs.declared.JoinRecord.{JoinRecord}
-use Rattle.codes.specs.Codes.{bitOf, credentialCode, methodCode, ipv6Code, bitIn, credentialIn, methodIn, ipv6In}
+use Rattle.codes.specs.Codes.{bitOf, credentialCode, methodCode, bitIn, credentialIn, methodIn}
 use Rattle.record_layout.specs.declared.CRecord.{CRecord}
 
 -- four bytes of b from i on
@@ -48,7 +48,11 @@ recordAt r s =
       servers = sixteen s;
       «domain_len» = r .«domain_len»;
       domain = r .domain;
-      ipv6 = ipv6Code (r .ipv6);
+      ipv6 = methodCode (r .ipv6);
+      «ipv6_address» = r .«ipv6_address»;
+      «ipv6_prefix_length» = r .«ipv6_length»;
+      «has_ipv6_gateway» = bitOf (r .«has_ipv6_gateway»);
+      «ipv6_gateway» = r .«ipv6_gateway»;
     }
 
 -- the lengths and the count of a record fit a byte
@@ -72,11 +76,18 @@ pub record CArrays (c : CRecord) : Type 0 where
   pub servers : length (c .servers) ≡ 16
   pub serverBytes : all (between 0 255) (c .servers) ≡ true
   pub domain : length (c .domain) ≡ 253
+  pub ipv6Address : isBytes 16 (c .«ipv6_address») ≡ true
+  pub ipv6Gateway : isBytes 16 (c .«ipv6_gateway») ≡ true
 
 -- every code is that of a case
 abbrev pub known : CRecord → Bool
 known c =
-    leb (c .credential) 2 && (leb (c .hidden) 1 && (leb (c .ipv4) 2 && (leb (c .«has_gateway») 1 && leb (c .ipv6) 1)))
+    leb (c .credential) 2
+    && (leb (c .hidden) 1
+    && (leb (c .ipv4) 2
+    && (leb (c .«has_gateway») 1
+    && (leb (c .ipv6) 2
+    && leb (c .«has_ipv6_gateway») 1))))
 
 abbrev pub recordIn : CRecord → JoinRecord
 recordIn c =
@@ -96,7 +107,11 @@ recordIn c =
       «server_count» = c .«server_count»;
       «domain_len» = c .«domain_len»;
       domain = c .domain;
-      ipv6 = ipv6In (c .ipv6);
+      ipv6 = methodIn (c .ipv6);
+      «ipv6_address» = c .«ipv6_address»;
+      «ipv6_length» = c .«ipv6_prefix_length»;
+      «has_ipv6_gateway» = bitIn (c .«has_ipv6_gateway»);
+      «ipv6_gateway» = c .«ipv6_gateway»;
     }
 
 abbrev pub serversIn : CRecord → List (List ℕ)

@@ -26,6 +26,10 @@ pub struct CRecord {
     pub domain_len: u8,
     pub domain: [u8; 253],
     pub ipv6: u8,
+    pub ipv6_address: [u8; 16],
+    pub ipv6_prefix_length: u8,
+    pub has_ipv6_gateway: u8,
+    pub ipv6_gateway: [u8; 16],
 }
 
 // A byte as a length.
@@ -90,6 +94,8 @@ pub fn record_at(r: JoinRecord, servers: [[u8; 4]; 4]) -> CRecord
     let bytes = sixteen(servers);
     let domain = r.domain;
     let ipv6 = r.ipv6;
+    let ipv6_address = r.ipv6_address;
+    let ipv6_gateway = r.ipv6_gateway;
     CRecord {
         name_len: r.name_len as u8,
         name,
@@ -107,7 +113,11 @@ pub fn record_at(r: JoinRecord, servers: [[u8; 4]; 4]) -> CRecord
         servers: bytes,
         domain_len: r.domain_len as u8,
         domain,
-        ipv6: codes::ipv6_code(ipv6),
+        ipv6: codes::method_code(ipv6),
+        ipv6_address,
+        ipv6_prefix_length: r.ipv6_length,
+        has_ipv6_gateway: codes::bit_of(r.has_ipv6_gateway),
+        ipv6_gateway,
     }
 }
 
@@ -127,7 +137,10 @@ pub fn is_known(c: CRecord) -> bool
     if 1 < c.has_gateway {
         return false;
     }
-    c.ipv6 <= 1
+    if 2 < c.ipv6 {
+        return false;
+    }
+    c.has_ipv6_gateway <= 1
 }
 
 // The record that is brought in, its codes being known.
@@ -140,6 +153,8 @@ pub fn record_in(c: CRecord) -> JoinRecord
     let address = c.address;
     let gateway = c.gateway;
     let domain = c.domain;
+    let ipv6_address = c.ipv6_address;
+    let ipv6_gateway = c.ipv6_gateway;
     JoinRecord {
         name_len: wide(c.name_len),
         name,
@@ -156,6 +171,10 @@ pub fn record_in(c: CRecord) -> JoinRecord
         server_count: wide(c.server_count),
         domain_len: wide(c.domain_len),
         domain,
-        ipv6: codes::ipv6_in(c.ipv6),
+        ipv6: codes::method_in(c.ipv6),
+        ipv6_address,
+        ipv6_length: c.ipv6_prefix_length,
+        has_ipv6_gateway: c.has_ipv6_gateway == 1,
+        ipv6_gateway,
     }
 }

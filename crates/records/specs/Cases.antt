@@ -9,17 +9,16 @@ use Rattle.text.specs.Parts.{padded}
 use Rattle.text.specs.Words.{word}
 use Rattle.utf8.specs.Utf8.{follow, utf8From, text}
 use Rattle.addresses.specs.Addresses.{noAddress, rows}
-use Rattle.connman_ipv4.specs.ConnmanIpv4.{static}
-use Rattle.connman_ipv4.specs.declared.Method.{Method}
-use Rattle.connman_ipv4.specs.declared.Method.the-variants.{Dhcp, Off, Static}
+use Rattle.addressing.specs.Addressing.{off, static}
+use Rattle.addressing.specs.declared.Method.{Method}
+use Rattle.addressing.specs.declared.Method.the-variants.{Auto, Off, Static}
 use Rattle.records.specs.Record.{passphrase, Join, laid, laidServers}
 use Rattle.records.specs.Formed.{formed}
 use Rattle.records.specs.declared.Credential.{Credential}
 use Rattle.records.specs.declared.Credential.the-variants.{None, Passphrase, Key}
-use Rattle.records.specs.declared.Ipv6.the-variants as Ipv6
 use Rattle.records.specs.declared.JoinRecord.{JoinRecord}
 
--- a struct by its parts: a name, a credential, an IPv4, a count of servers, a domain
+-- a struct by its parts: a name, a credential, an IPv4, a count of servers, a domain, an IPv6
 abbrev Name : Type 0
 Name = ℕ × List ℕ
 
@@ -29,8 +28,8 @@ Login = Credential × ℕ × List ℕ × List ℕ
 abbrev Numbers : Type 0
 Numbers = Method × List ℕ × ℕ × Bool × List ℕ
 
-abbrev struct : Name → Login → Numbers → ℕ → Name → JoinRecord
-struct n c i k d =
+abbrev structWith : Name → Login → Numbers → ℕ → Name → Numbers → JoinRecord
+structWith n c i k d v =
     record {
       «name_len» = n .0;
       name = n .1;
@@ -47,8 +46,18 @@ struct n c i k d =
       «server_count» = k;
       «domain_len» = d .0;
       domain = d .1;
-      ipv6 = Ipv6.Auto;
+      ipv6 = v .0;
+      «ipv6_address» = v .1;
+      «ipv6_length» = v .2;
+      «has_ipv6_gateway» = v .3;
+      «ipv6_gateway» = v .4;
     }
+
+abbrev noIpv6 : List ℕ
+noIpv6 = replicate 16 0
+
+abbrev struct : Name → Login → Numbers → ℕ → Name → JoinRecord
+struct n c i k d = structWith n c i k d (Auto, noIpv6, 0, false, noIpv6)
 
 abbrev desk : Name
 desk = (4, padded 32 (word "Desk"))
@@ -60,7 +69,7 @@ abbrev secret : ℕ → List ℕ → Login
 secret n p = (Passphrase, n, padded 63 p, replicate 32 0)
 
 abbrev dhcp : Numbers
-dhcp = (Dhcp, noAddress, 0, false, noAddress)
+dhcp = (Auto, noAddress, 0, false, noAddress)
 
 abbrev till : List ℕ
 till = 10 ∷ 20 ∷ 0 ∷ 14 ∷ []
@@ -84,7 +93,7 @@ worked =
       ipv4 = static till 24 (some router);
       servers = (10 ∷ 20 ∷ 0 ∷ 2 ∷ []) ∷ (10 ∷ 20 ∷ 0 ∷ 3 ∷ []) ∷ [];
       domain = [];
-      ipv6 = Ipv6.Off;
+      ipv6 = off;
     }
 
 abbrev Case : Type 0
@@ -121,8 +130,8 @@ abbrev numbers : List Case
 numbers =
     (struct desk keyless (Off, noAddress, 0, false, noAddress) 0 absent, noServers, true)
     ∷ (struct desk keyless (Off, till, 0, false, noAddress) 0 absent, noServers, false)
-    ∷ (struct desk keyless (Dhcp, noAddress, 24, false, noAddress) 0 absent, noServers, false)
-    ∷ (struct desk keyless (Dhcp, noAddress, 0, true, noAddress) 0 absent, noServers, false)
+    ∷ (struct desk keyless (Auto, noAddress, 24, false, noAddress) 0 absent, noServers, false)
+    ∷ (struct desk keyless (Auto, noAddress, 0, true, noAddress) 0 absent, noServers, false)
     ∷ (struct desk keyless (Static, till, 24, false, noAddress) 0 absent, noServers, true)
     ∷ (struct desk keyless (Static, till, 24, true, router) 0 absent, noServers, true)
     ∷ (struct desk keyless (Static, till, 24, false, router) 0 absent, noServers, false)
@@ -142,6 +151,30 @@ others =
     ∷ (struct desk keyless dhcp 0 (2, padded 253 (195 ∷ 40 ∷ [])), noServers, false)
     ∷ (struct desk keyless dhcp 0 (253, replicate 253 97), noServers, true)
     ∷ (struct desk keyless dhcp 0 (254, replicate 253 97), noServers, false)
+    ∷ []
+
+-- 2001:db8::14, and 2001:db8::1
+abbrev pub till6 : List ℕ
+till6 = 32 ∷ 1 ∷ 13 ∷ 184 ∷ 0 ∷ 0 ∷ 0 ∷ 0 ∷ 0 ∷ 0 ∷ 0 ∷ 0 ∷ 0 ∷ 0 ∷ 0 ∷ 20 ∷ []
+
+abbrev pub router6 : List ℕ
+router6 = 32 ∷ 1 ∷ 13 ∷ 184 ∷ 0 ∷ 0 ∷ 0 ∷ 0 ∷ 0 ∷ 0 ∷ 0 ∷ 0 ∷ 0 ∷ 0 ∷ 0 ∷ 1 ∷ []
+
+-- request 2026-03: the static case of IPv6, "1 to 128"
+abbrev numbers6 : List Case
+numbers6 =
+    (structWith desk keyless dhcp 0 absent (Off, noIpv6, 0, false, noIpv6), noServers, true)
+    ∷ (structWith desk keyless dhcp 0 absent (Off, till6, 0, false, noIpv6), noServers, false)
+    ∷ (structWith desk keyless dhcp 0 absent (Auto, noIpv6, 64, false, noIpv6), noServers, false)
+    ∷ (structWith desk keyless dhcp 0 absent (Auto, noIpv6, 0, true, noIpv6), noServers, false)
+    ∷ (structWith desk keyless dhcp 0 absent (Auto, noIpv6, 0, false, router6), noServers, false)
+    ∷ (structWith desk keyless dhcp 0 absent (Static, till6, 64, false, noIpv6), noServers, true)
+    ∷ (structWith desk keyless dhcp 0 absent (Static, till6, 64, true, router6), noServers, true)
+    ∷ (structWith desk keyless dhcp 0 absent (Static, till6, 64, false, router6), noServers, false)
+    ∷ (structWith desk keyless dhcp 0 absent (Static, noIpv6, 1, true, noIpv6), noServers, true)
+    ∷ (structWith desk keyless dhcp 0 absent (Static, till6, 128, true, router6), noServers, true)
+    ∷ (structWith desk keyless dhcp 0 absent (Static, till6, 0, true, router6), noServers, false)
+    ∷ (structWith desk keyless dhcp 0 absent (Static, till6, 129, true, router6), noServers, false)
     ∷ []
 
 abbrev of : Case → Bool
@@ -165,3 +198,7 @@ of-numbers = refl
 pub of-others : map of others ≡ map answer others
 unfolding formed text utf8From follow
 of-others = refl
+
+pub of-numbers6 : map of numbers6 ≡ map answer numbers6
+unfolding formed text utf8From follow
+of-numbers6 = refl

@@ -3,18 +3,16 @@ use Prim.Native.Nat.{ℕ, _≤_}
 use mathlib.Core.Path.{_≡_}
 use mathlib.Core.Bool.{Bool, true, not, _&&_, _||_}
 use mathlib.Core.List.{List, [], _∷_}
-use mathlib.Core.Option.{Option}
 use lib.Dec.{eqb}
 use lib.ListN.{length, take, drop}
 use Rattle.text.specs.Bytes.{isByte, between}
 use Rattle.text.specs.Parts.{all}
-use Rattle.text.specs.OptionLaws.{IfSome}
 use Rattle.utf8.specs.Utf8.{recordText}
-use Rattle.addresses.specs.Addresses.{isAddress, areAddresses}
+use Rattle.addresses.specs.Addresses.{isBytes, isAddress, areAddresses}
 use Rattle.names.specs.Names.{NetworkName}
-use Rattle.connman_ipv4.specs.ConnmanIpv4.{IPv4, dhcp, off, static}
-use Rattle.connman_ipv4.specs.declared.Method.{Method}
-use Rattle.connman_ipv4.specs.declared.Method.the-variants.{Dhcp, Off, Static}
+use Rattle.addressing.specs.Addressing.{Addressing, Good}
+use Rattle.addressing.specs.declared.Method.{Method}
+use Rattle.addressing.specs.declared.Method.the-variants.{Auto, Off, Static}
 use Rattle.records.specs.Record.{Secret, noSecret, passphrase, key, Join, laid, laidServers}
 use Rattle.records.specs.declared.Credential.{Credential}
 use Rattle.records.specs.declared.Credential.the-variants.{None, Passphrase, Key}
@@ -45,17 +43,13 @@ GoodSecret noSecret = Unit
 GoodSecret (passphrase p) = GoodPassphrase p
 GoodSecret (key k) = GoodKey k
 
--- "static with address, length 1 to 32 and perhaps a gateway": an address is four bytes
-pub record GoodStatic (a : List ℕ) (n : ℕ) (g : Option (List ℕ)) : Type 0 where
-  pub address : isAddress a ≡ true
-  pub low : 1 ≤ n
-  pub high : n ≤ 32
-  pub gateway : IfSome (λ x. isAddress x ≡ true) g
+-- "IPv4 as dhcp, off, or static with address, length 1 to 32 and perhaps a gateway": an address is four bytes
+abbrev pub GoodIpv4 : Addressing → Type 0
+GoodIpv4 i = Good 4 32 i
 
-abbrev pub GoodIpv4 : IPv4 → Type 0
-GoodIpv4 dhcp = Unit
-GoodIpv4 off = Unit
-GoodIpv4 (static a n g) = GoodStatic a n g
+-- "The join record gains the static case": "sixteen bytes", "Lengths run from 1 to 128" (2026-03)
+abbrev pub GoodIpv6 : Addressing → Type 0
+GoodIpv6 i = Good 16 128 i
 
 -- "0 to 4 name servers in order"
 pub record GoodServers (l : List (List ℕ)) : Type 0 where
@@ -73,6 +67,7 @@ pub record WellFormed (j : Join) : Type 0 where
   pub ipv4 : GoodIpv4 (j .ipv4)
   pub servers : GoodServers (j .servers)
   pub domain : GoodDomain (j .domain)
+  pub ipv6 : GoodIpv6 (j .ipv6)
 
 -- a struct and servers in which a well-formed record is laid out
 pub record Laid (r : JoinRecord) (s : List (List ℕ)) : Type 0 where
@@ -108,13 +103,19 @@ credentialFormed Key n p k = held 0 0 n p
 abbrev pub unaddressed : List ℕ → ℕ → Bool → List ℕ → Bool
 unaddressed a n h g = (zeros a && eqb n 0) && (not h && zeros g)
 
-abbrev pub addressed : ℕ → Bool → List ℕ → Bool
-addressed n h g = between 1 32 n && (h || zeros g)
+abbrev pub addressed : ℕ → ℕ → Bool → List ℕ → Bool
+addressed most n h g = between 1 most n && (h || zeros g)
 
-abbrev pub ipv4Formed : Method → List ℕ → ℕ → Bool → List ℕ → Bool
-ipv4Formed Dhcp a n h g = unaddressed a n h g
-ipv4Formed Off a n h g = unaddressed a n h g
-ipv4Formed Static a n h g = addressed n h g
+abbrev pub addressingFormed : ℕ → Method → List ℕ → ℕ → Bool → List ℕ → Bool
+addressingFormed most Auto a n h g = unaddressed a n h g
+addressingFormed most Off a n h g = unaddressed a n h g
+addressingFormed most Static a n h g = addressed most n h g
+
+abbrev pub ipv4Formed : JoinRecord → Bool
+ipv4Formed r = addressingFormed 32 (r .ipv4) (r .address) (r .length) (r .«has_gateway») (r .gateway)
+
+abbrev pub ipv6Formed : JoinRecord → Bool
+ipv6Formed r = addressingFormed 128 (r .ipv6) (r .«ipv6_address») (r .«ipv6_length») (r .«has_ipv6_gateway») (r .«ipv6_gateway»)
 
 abbrev pub serversFormed : ℕ → List (List ℕ) → Bool
 serversFormed n s = between 0 4 n && zeroRows (drop n s)
@@ -126,8 +127,9 @@ unfoldable pub formed : JoinRecord → List (List ℕ) → Bool
 formed r s =
     held 1 32 (r .«name_len») (r .name)
     && (credentialFormed (r .credential) (r .«passphrase_len») (r .passphrase) (r .key)
-    && (ipv4Formed (r .ipv4) (r .address) (r .length) (r .«has_gateway») (r .gateway)
-    && (domainFormed (r .«domain_len») (r .domain) && serversFormed (r .«server_count») s)))
+    && (ipv4Formed r
+    && (ipv6Formed r
+    && (domainFormed (r .«domain_len») (r .domain) && serversFormed (r .«server_count») s))))
 
 -- what the types say of the arrays of a struct and its servers: their lengths, and that they hold bytes
 pub record Arrays (r : JoinRecord) (s : List (List ℕ)) : Type 0 where
@@ -141,3 +143,5 @@ pub record Arrays (r : JoinRecord) (s : List (List ℕ)) : Type 0 where
   pub servers : length s ≡ 4
   pub serverBytes : areAddresses s ≡ true
   pub domain : length (r .domain) ≡ 253
+  pub ipv6Address : isBytes 16 (r .«ipv6_address») ≡ true
+  pub ipv6Gateway : isBytes 16 (r .«ipv6_gateway») ≡ true

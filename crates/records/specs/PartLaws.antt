@@ -12,21 +12,24 @@ use lib.Seq.{length-take-le, take-append-seam, drop-append-seam}
 use Rattle.text.specs.Bytes.{isByte, between}
 use Rattle.text.specs.Parts.{all, padded}
 use Rattle.text.specs.Laws.{and-true, all-cons, inside, between-low, between-high}
-use Rattle.addresses.specs.Addresses.{isAddress, areAddresses, noAddress, rows}
-use Rattle.addresses.specs.Laws.{address-length, are-cons}
-use Rattle.connman_ipv4.specs.ConnmanIpv4.{IPv4, dhcp, off, static}
-use Rattle.connman_ipv4.specs.declared.Method.{Method}
-use Rattle.connman_ipv4.specs.declared.Method.the-variants.{Dhcp, Off, Static}
-use Rattle.records.specs.Record.{Secret, noSecret, passphrase, key, credentialOf, passphraseOf, keyOf, methodOf, addressOf, lengthOf, hasGateway, gatewayOf, secretOf, ipv4In}
-use Rattle.records.specs.Formed.{passphraseText, GoodKey, GoodSecret, GoodIpv4, GoodServers, zeros, zeroRows, held, passphraseFormed, credentialFormed, unaddressed, ipv4Formed, serversFormed}
+use Rattle.addresses.specs.Addresses.{isBytes, areAddresses, noAddress, rows}
+use Rattle.addresses.specs.Laws.{bytes-length, are-bytes, are-cons}
+use Rattle.addressing.specs.Addressing.{Addressing, auto, off, static, methodOf, addressOf, lengthOf, hasGateway, gatewayOf, addressingIn, Good}
+use Rattle.addressing.specs.declared.Method.{Method}
+use Rattle.addressing.specs.declared.Method.the-variants.{Auto, Off, Static}
+use Rattle.records.specs.Record.{Secret, noSecret, passphrase, key, credentialOf, passphraseOf, keyOf, secretOf}
+use Rattle.records.specs.Formed.{passphraseText, GoodKey, GoodSecret, GoodServers, zeros, zeroRows, held, passphraseFormed, credentialFormed, unaddressed, addressingFormed, serversFormed}
 use Rattle.records.specs.declared.Credential.{Credential}
 use Rattle.records.specs.declared.Credential.the-variants.{None, Passphrase, Key}
 
 -- ---- zeros
 
+pub all-zeros : (p : ℕ → Bool) → p 0 ≡ true → (n : ℕ) → all p (replicate n 0) ≡ true
+all-zeros p h zero = refl
+all-zeros p h (suc n) = rw h (all-zeros p h n)
+
 zeros-replicate : (n : ℕ) → zeros (replicate n 0) ≡ true
-zeros-replicate zero = refl
-zeros-replicate (suc n) = zeros-replicate n
+zeros-replicate n = all-zeros (between 0 0) refl n
 
 zeros-eq : (a : List ℕ) → zeros a ≡ true → a ≡ replicate (length a) 0
 zeros-eq [] e = refl
@@ -35,8 +38,8 @@ zeros-eq (x ∷ a) e =
     let z : x ≡ 0 = omega (arith, between-high {x = x} 0 0 (h .0)) in
     ap₂ _∷_ z (zeros-eq a (h .1))
 
-zero-address : (a : List ℕ) → isAddress a ≡ true → zeros a ≡ true → noAddress ≡ a
-zero-address a h e = sym (zeros-eq a e ∙ ap (λ (n : ℕ). replicate n 0) (address-length a h))
+zero-address : (width : ℕ) (a : List ℕ) → isBytes width a ≡ true → zeros a ≡ true → replicate width 0 ≡ a
+zero-address width a h e = sym (zeros-eq a e ∙ ap (λ (n : ℕ). replicate n 0) (bytes-length width a h))
 
 zero-rows : (n : ℕ) → zeroRows (replicate n noAddress) ≡ true
 zero-rows zero = refl
@@ -47,7 +50,7 @@ rows-eq [] h e = refl
 rows-eq (a ∷ l) h e =
     let b = are-cons a l h in
     let z = and-true (zeros a) (zeroRows l) e in
-    ap₂ _∷_ (sym (zero-address a (b .0) (z .0))) (rows-eq l (b .1) (z .1))
+    ap₂ _∷_ (sym (zero-address 4 a (b .0) (z .0))) (rows-eq l (b .1) (z .1))
 
 -- ---- parts of lists
 
@@ -148,70 +151,73 @@ module _ (n : ℕ) (p k : List ℕ) (lp : length p ≡ 63) (lk : length k ≡ 32
   secret-back Key b h =
       record { kind = refl; long = unused h .0; text = unused h .1; bytes = refl; good = record { long = lk; bytes = b } }
 
--- ---- IPv4
+-- ---- IPv4 and IPv6: an address has width bytes, and its length is at most most
 
-pub ipv4-formed : (x : IPv4) → GoodIpv4 x →
-    ipv4Formed (methodOf x) (addressOf x) (lengthOf x) (hasGateway x) (gatewayOf x) ≡ true
-ipv4-formed dhcp g = refl
-ipv4-formed off g = refl
-ipv4-formed (static a n none) g = rw (inside {x = n} 1 32 (g .low) (g .high))
-ipv4-formed (static a n (some y)) g = rw (inside {x = n} 1 32 (g .low) (g .high))
+pub addressing-joined : (width : ℕ) (x : Addressing) →
+    addressingIn (methodOf x) (addressOf width x) (lengthOf x) (hasGateway x) (gatewayOf width x) ≡ x
+addressing-joined width auto = refl
+addressing-joined width off = refl
+addressing-joined width (static a n none) = refl
+addressing-joined width (static a n (some y)) = refl
 
-pub ipv4-joined : (x : IPv4) → ipv4In (methodOf x) (addressOf x) (lengthOf x) (hasGateway x) (gatewayOf x) ≡ x
-ipv4-joined dhcp = refl
-ipv4-joined off = refl
-ipv4-joined (static a n none) = refl
-ipv4-joined (static a n (some y)) = refl
+module _ (width most : ℕ) where
+  pub addressing-formed : (x : Addressing) → Good width most x →
+      addressingFormed most (methodOf x) (addressOf width x) (lengthOf x) (hasGateway x) (gatewayOf width x) ≡ true
+  addressing-formed auto g = rw (zeros-replicate width)
+  addressing-formed off g = rw (zeros-replicate width)
+  addressing-formed (static a n none) g = rw (inside {x = n} 1 most (g .low) (g .high)) (zeros-replicate width)
+  addressing-formed (static a n (some y)) g = rw (inside {x = n} 1 most (g .low) (g .high))
 
-pub record Ipv4Back (m : Method) (a : List ℕ) (n : ℕ) (h : Bool) (g : List ℕ) : Type 0 where
-  pub method : methodOf (ipv4In m a n h g) ≡ m
-  pub address : addressOf (ipv4In m a n h g) ≡ a
-  pub size : lengthOf (ipv4In m a n h g) ≡ n
-  pub routed : hasGateway (ipv4In m a n h g) ≡ h
-  pub gateway : gatewayOf (ipv4In m a n h g) ≡ g
-  pub good : GoodIpv4 (ipv4In m a n h g)
+  -- what formed places hold, laid out again
+  pub record AddressingBack (m : Method) (a : List ℕ) (n : ℕ) (h : Bool) (g : List ℕ) : Type 0 where
+    pub method : methodOf (addressingIn m a n h g) ≡ m
+    pub address : addressOf width (addressingIn m a n h g) ≡ a
+    pub size : lengthOf (addressingIn m a n h g) ≡ n
+    pub routed : hasGateway (addressingIn m a n h g) ≡ h
+    pub gateway : gatewayOf width (addressingIn m a n h g) ≡ g
+    pub good : Good width most (addressingIn m a n h g)
 
-module _ (a : List ℕ) (n : ℕ) (g : List ℕ) (la : isAddress a ≡ true) (lg : isAddress g ≡ true) where
-  record Unaddressed (h : Bool) : Type 0 where
-    address : noAddress ≡ a
-    size : 0 ≡ n
-    routed : false ≡ h
-    gateway : noAddress ≡ g
+  module _ (a : List ℕ) (n : ℕ) (g : List ℕ) (la : isBytes width a ≡ true) (lg : isBytes width g ≡ true) where
+    record Unaddressed (h : Bool) : Type 0 where
+      address : replicate width 0 ≡ a
+      size : 0 ≡ n
+      routed : false ≡ h
+      gateway : replicate width 0 ≡ g
 
-  is-unaddressed : (h : Bool) → unaddressed a n h g ≡ true → Unaddressed h
-  is-unaddressed h e =
-      let s = and-true (zeros a && eqb n 0) (not h && zeros g) e in
-      let t = and-true (zeros a) (eqb n 0) (s .0) in
-      let u = and-true (not h) (zeros g) (s .1) in
-      record { address = zero-address a la (t .0); size = sym (eqb-true n 0 (t .1)); routed = sym (not-true h (u .0)); gateway = zero-address g lg (u .1) }
+    is-unaddressed : (h : Bool) → unaddressed a n h g ≡ true → Unaddressed h
+    is-unaddressed h e =
+        let s = and-true (zeros a && eqb n 0) (not h && zeros g) e in
+        let t = and-true (zeros a) (eqb n 0) (s .0) in
+        let u = and-true (not h) (zeros g) (s .1) in
+        record { address = zero-address width a la (t .0); size = sym (eqb-true n 0 (t .1)); routed = sym (not-true h (u .0)); gateway = zero-address width g lg (u .1) }
 
-  pub ipv4-back : (m : Method) (h : Bool) → ipv4Formed m a n h g ≡ true → Ipv4Back m a n h g
-  ipv4-back Dhcp h e =
-      let u = is-unaddressed h e in
-      record { method = refl; address = u .address; size = u .size; routed = u .routed; gateway = u .gateway; good = tt }
-  ipv4-back Off h e =
-      let u = is-unaddressed h e in
-      record { method = refl; address = u .address; size = u .size; routed = u .routed; gateway = u .gateway; good = tt }
-  ipv4-back Static true e =
-      let s = and-true (between 1 32 n) true e in
-      record {
-        method = refl;
-        address = refl;
-        size = refl;
-        routed = refl;
-        gateway = refl;
-        good = record { address = la; low = between-low {x = n} 1 32 (s .0); high = between-high {x = n} 1 32 (s .0); gateway = lg };
-      }
-  ipv4-back Static false e =
-      let s = and-true (between 1 32 n) (zeros g) e in
-      record {
-        method = refl;
-        address = refl;
-        size = refl;
-        routed = refl;
-        gateway = zero-address g lg (s .1);
-        good = record { address = la; low = between-low {x = n} 1 32 (s .0); high = between-high {x = n} 1 32 (s .0); gateway = tt };
-      }
+    pub addressing-back : (m : Method) (h : Bool) → addressingFormed most m a n h g ≡ true → AddressingBack m a n h g
+    addressing-back Auto h e =
+        let u = is-unaddressed h e in
+        record { method = refl; address = u .address; size = u .size; routed = u .routed; gateway = u .gateway; good = tt }
+    addressing-back Off h e =
+        let u = is-unaddressed h e in
+        record { method = refl; address = u .address; size = u .size; routed = u .routed; gateway = u .gateway; good = tt }
+    addressing-back Static true e =
+        let s = and-true (between 1 most n) true e in
+        record {
+          method = refl;
+          address = refl;
+          size = refl;
+          routed = refl;
+          gateway = refl;
+          good = record { address = la; low = between-low {x = n} 1 most (s .0); high = between-high {x = n} 1 most (s .0); gateway = lg };
+        }
+    addressing-back Static false e =
+        let s = and-true (between 1 most n) (zeros g) e in
+        record {
+          method = refl;
+          address = refl;
+          size = refl;
+          routed = refl;
+          gateway = zero-address width g lg (s .1);
+          good = record { address = la; low = between-low {x = n} 1 most (s .0); high = between-high {x = n} 1 most (s .0); gateway = tt };
+        }
 
 -- ---- the servers
 
@@ -243,10 +249,6 @@ module _ (n : ℕ) (s : List (List ℕ)) (l : length s ≡ 4) (b : areAddresses 
 pub padded-long : (m : ℕ) (t : List ℕ) → length t ≤ m → length (padded m t) ≡ m
 padded-long m t h = simp (length-append, length-replicate) (omega arith)
 
-pub zero-bytes : (n : ℕ) → all isByte (replicate n 0) ≡ true
-zero-bytes zero = refl
-zero-bytes (suc n) = zero-bytes n
-
 pub are-append : (k l : List (List ℕ)) → areAddresses k ≡ true → areAddresses l ≡ true → areAddresses (k ++ l) ≡ true
 are-append [] l h g = g
 are-append (a ∷ k) l h g = rw (are-cons a k h .0) (are-append k l (are-cons a k h .1) g)
@@ -265,8 +267,12 @@ secret-key noSecret g = record { long = refl; bytes = refl }
 secret-key (passphrase p) g = record { long = refl; bytes = refl }
 secret-key (key k) g = g
 
-pub ipv4-addresses : (x : IPv4) → GoodIpv4 x → (isAddress (addressOf x) ≡ true) × (isAddress (gatewayOf x) ≡ true)
-ipv4-addresses dhcp g = (refl, refl)
-ipv4-addresses off g = (refl, refl)
-ipv4-addresses (static a n none) g = (g .address, refl)
-ipv4-addresses (static a n (some y)) g = (g .address, g .gateway)
+zero-is : (width : ℕ) → isBytes width (replicate width 0) ≡ true
+zero-is width = are-bytes width (replicate width 0) (length-replicate width 0) (all-zeros (between 0 255) refl width)
+
+pub addressing-arrays : (width most : ℕ) (x : Addressing) → Good width most x →
+    (isBytes width (addressOf width x) ≡ true) × (isBytes width (gatewayOf width x) ≡ true)
+addressing-arrays width most auto g = (zero-is width, zero-is width)
+addressing-arrays width most off g = (zero-is width, zero-is width)
+addressing-arrays width most (static a n none) g = (g .address, zero-is width)
+addressing-arrays width most (static a n (some y)) g = (g .address, g .gateway)

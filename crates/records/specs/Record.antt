@@ -1,17 +1,14 @@
 -- The join record: what document 01 puts into it, and the one definition that lays it out in the code's types.
 use Prim.Native.Nat.{ℕ}
-use mathlib.Core.Bool.{Bool, true, false}
+use mathlib.Core.Bool.{Bool}
 use mathlib.Core.List.{List, []}
-use mathlib.Core.Option.{Option, none, some}
+use mathlib.Core.Option.{some}
 use lib.ListN.{length, take, replicate}
 use Rattle.text.specs.Parts.{padded}
-use Rattle.addresses.specs.Addresses.{noAddress, rows}
-use Rattle.connman_ipv4.specs.ConnmanIpv4.{IPv4, dhcp, off, static}
-use Rattle.connman_ipv4.specs.declared.Method.{Method}
-use Rattle.connman_ipv4.specs.declared.Method.the-variants.{Dhcp, Off, Static}
+use Rattle.addresses.specs.Addresses.{rows}
+use Rattle.addressing.specs.Addressing.{Addressing, methodOf, addressOf, lengthOf, hasGateway, gatewayOf, addressingIn}
 use Rattle.records.specs.declared.Credential.{Credential}
 use Rattle.records.specs.declared.Credential.the-variants.{None, Passphrase, Key}
-use Rattle.records.specs.declared.Ipv6.{Ipv6}
 use Rattle.records.specs.declared.JoinRecord.{JoinRecord}
 
 -- "credential (none, passphrase of 8 to 63 bytes, or 32-byte key)"
@@ -21,15 +18,15 @@ pub data Secret : Type 0 where
   key : List ℕ → Secret
 
 -- "Network name; credential ..; hidden; IPv4 as dhcp, off, or static with address, length 1 to 32 and perhaps a gateway;
--- 0 to 4 name servers in order; domain of 0 to 253 bytes, 0 meaning absent; IPv6 auto or off."
+-- 0 to 4 name servers in order; domain of 0 to 253 bytes, 0 meaning absent; IPv6 auto or off.", and by request 2026-03 static too
 pub record Join : Type 0 where
   pub name : List ℕ
   pub credential : Secret
   pub hidden : Bool
-  pub ipv4 : IPv4
+  pub ipv4 : Addressing
   pub servers : List (List ℕ)
   pub domain : List ℕ
-  pub ipv6 : Ipv6
+  pub ipv6 : Addressing
 
 -- ---- its layout: "Places not in use are zero"
 
@@ -48,33 +45,6 @@ keyOf noSecret = replicate 32 0
 keyOf (passphrase p) = replicate 32 0
 keyOf (key k) = k
 
-abbrev pub methodOf : IPv4 → Method
-methodOf dhcp = Dhcp
-methodOf off = Off
-methodOf (static a n g) = Static
-
-abbrev pub addressOf : IPv4 → List ℕ
-addressOf dhcp = noAddress
-addressOf off = noAddress
-addressOf (static a n g) = a
-
-abbrev pub lengthOf : IPv4 → ℕ
-lengthOf dhcp = 0
-lengthOf off = 0
-lengthOf (static a n g) = n
-
-abbrev pub hasGateway : IPv4 → Bool
-hasGateway dhcp = false
-hasGateway off = false
-hasGateway (static a n none) = false
-hasGateway (static a n (some g)) = true
-
-abbrev pub gatewayOf : IPv4 → List ℕ
-gatewayOf dhcp = noAddress
-gatewayOf off = noAddress
-gatewayOf (static a n none) = noAddress
-gatewayOf (static a n (some g)) = g
-
 abbrev pub laid : Join → JoinRecord
 laid j =
     record {
@@ -86,14 +56,18 @@ laid j =
       key = keyOf (j .credential);
       hidden = j .hidden;
       ipv4 = methodOf (j .ipv4);
-      address = addressOf (j .ipv4);
+      address = addressOf 4 (j .ipv4);
       length = lengthOf (j .ipv4);
       «has_gateway» = hasGateway (j .ipv4);
-      gateway = gatewayOf (j .ipv4);
+      gateway = gatewayOf 4 (j .ipv4);
       «server_count» = length (j .servers);
       «domain_len» = length (j .domain);
       domain = padded 253 (j .domain);
-      ipv6 = j .ipv6;
+      ipv6 = methodOf (j .ipv6);
+      «ipv6_address» = addressOf 16 (j .ipv6);
+      «ipv6_length» = lengthOf (j .ipv6);
+      «has_ipv6_gateway» = hasGateway (j .ipv6);
+      «ipv6_gateway» = gatewayOf 16 (j .ipv6);
     }
 
 -- the name servers, which stand beside the record
@@ -107,23 +81,14 @@ secretOf None p k = noSecret
 secretOf Passphrase p k = passphrase p
 secretOf Key p k = key k
 
-abbrev pub gatewayIf : Bool → List ℕ → Option (List ℕ)
-gatewayIf false g = none
-gatewayIf true g = some g
-
-abbrev pub ipv4In : Method → List ℕ → ℕ → Bool → List ℕ → IPv4
-ipv4In Dhcp a n h g = dhcp
-ipv4In Off a n h g = off
-ipv4In Static a n h g = static a n (gatewayIf h g)
-
 abbrev pub joined : JoinRecord → List (List ℕ) → Join
 joined r s =
     record {
       name = take (r .«name_len») (r .name);
       credential = secretOf (r .credential) (take (r .«passphrase_len») (r .passphrase)) (r .key);
       hidden = r .hidden;
-      ipv4 = ipv4In (r .ipv4) (r .address) (r .length) (r .«has_gateway») (r .gateway);
+      ipv4 = addressingIn (r .ipv4) (r .address) (r .length) (r .«has_gateway») (r .gateway);
       servers = take (r .«server_count») s;
       domain = take (r .«domain_len») (r .domain);
-      ipv6 = r .ipv6;
+      ipv6 = addressingIn (r .ipv6) (r .«ipv6_address») (r .«ipv6_length») (r .«has_ipv6_gateway») (r .«ipv6_gateway»);
     }

@@ -5,18 +5,13 @@
 ghost use mathlib.Core.Path.{_≡_};
 ghost use Prim.Native.Nat.{_≤_};
 ghost use lib.ListN.{length};
-ghost use Rattle.records.specs.Formed.{zeros, held, passphraseFormed, credentialFormed, unaddressed, addressed, ipv4Formed, serversFormed, domainFormed, formed};
-use connman_ipv4::Method;
+ghost use Rattle.records.specs.Formed.{zeros, held, passphraseFormed, credentialFormed, unaddressed, addressed, addressingFormed, ipv4Formed, ipv6Formed, serversFormed, domainFormed, formed};
+use addressing::Method;
 
 pub enum Credential {
     None,
     Passphrase,
     Key,
-}
-
-pub enum Ipv6 {
-    Auto,
-    Off,
 }
 
 // The name, the passphrase and the domain are the first `.._len` bytes of their arrays. What is not in use is zero. The
@@ -37,7 +32,11 @@ pub struct JoinRecord {
     pub server_count: usize,
     pub domain_len: usize,
     pub domain: [u8; 253],
-    pub ipv6: Ipv6,
+    pub ipv6: Method,
+    pub ipv6_address: [u8; 16],
+    pub ipv6_length: u8,
+    pub has_ipv6_gateway: bool,
+    pub ipv6_gateway: [u8; 16],
 }
 
 // Whether s holds only zeros; long runs of them are passed in blocks.
@@ -100,10 +99,10 @@ fn is_no_address(a: [u8; 4]) -> bool
 }
 
 // Whether the places of an address a, its length n and a gateway g, which h says is given, are not in use.
-fn is_unaddressed(a: [u8; 4], n: u8, h: bool, g: [u8; 4]) -> bool
-    ensures { λ r. ⌜ r ≡ unaddressed a n h g ⌝ }
+fn is_unaddressed(a: &[u8], n: u8, h: bool, g: &[u8]) -> bool
+    ensures { λ r. ⌜ r ≡ unaddressed (now (a .entry)) n h (now (g .entry)) ⌝ }
 {
-    if !is_no_address(a) {
+    if !is_zero(a) {
         return false;
     }
     if n != 0 {
@@ -112,31 +111,56 @@ fn is_unaddressed(a: [u8; 4], n: u8, h: bool, g: [u8; 4]) -> bool
     if h {
         return false;
     }
-    is_no_address(g)
+    is_zero(g)
 }
 
-// Whether a length n and a gateway g, which h says is given, are good beside an address.
-fn is_addressed(n: u8, h: bool, g: [u8; 4]) -> bool
-    ensures { λ r. ⌜ r ≡ addressed n h g ⌝ }
+// Whether a length n, at most most, and a gateway g, which h says is given, are good beside an address.
+fn is_addressed(most: u8, n: u8, h: bool, g: &[u8]) -> bool
+    ensures { λ r. ⌜ r ≡ addressed most n h (now (g .entry)) ⌝ }
 {
     if n < 1 {
         return false;
     }
-    if 32 < n {
+    if most < n {
         return false;
     }
-    h || is_no_address(g)
+    h || is_zero(g)
 }
 
 // Whether the places of a method hold what it uses and zeros.
-fn is_ipv4(m: Method, a: [u8; 4], n: u8, h: bool, g: [u8; 4]) -> bool
-    ensures { λ r. ⌜ r ≡ ipv4Formed m a n h g ⌝ }
+fn is_addressing(most: u8, m: Method, a: &[u8], n: u8, h: bool, g: &[u8]) -> bool
+    ensures { λ r. ⌜ r ≡ addressingFormed most m (now (a .entry)) n h (now (g .entry)) ⌝ }
 {
     match m {
-        Method::Dhcp => is_unaddressed(a, n, h, g),
+        Method::Auto => is_unaddressed(a, n, h, g),
         Method::Off => is_unaddressed(a, n, h, g),
-        Method::Static => is_addressed(n, h, g),
+        Method::Static => is_addressed(most, n, h, g),
     }
+}
+
+fn is_ipv4(r: JoinRecord) -> bool
+    ensures { λ a. ⌜ a ≡ ipv4Formed r ⌝ }
+{
+    let method = r.ipv4;
+    let address = r.address;
+    let gateway = r.gateway;
+    is_addressing(32, method, &address, r.length, r.has_gateway, &gateway)
+}
+
+fn is_ipv6(r: JoinRecord) -> bool
+    ensures { λ a. ⌜ a ≡ ipv6Formed r ⌝ }
+{
+    let method = r.ipv6;
+    let address = r.ipv6_address;
+    let gateway = r.ipv6_gateway;
+    is_addressing(
+        128,
+        method,
+        &address,
+        r.ipv6_length,
+        r.has_ipv6_gateway,
+        &gateway,
+    )
 }
 
 // Whether there are at most four servers, and those behind the first n are zero.
@@ -170,10 +194,10 @@ pub fn is_well_formed(r: JoinRecord, servers: [[u8; 4]; 4]) -> bool
     if !is_credential(credential, r.passphrase_len, passphrase, key) {
         return false;
     }
-    let ipv4 = r.ipv4;
-    let address = r.address;
-    let gateway = r.gateway;
-    if !is_ipv4(ipv4, address, r.length, r.has_gateway, gateway) {
+    if !is_ipv4(r) {
+        return false;
+    }
+    if !is_ipv6(r) {
         return false;
     }
     let domain = r.domain;

@@ -2,16 +2,19 @@
 use Prim.Native.Nat.{ℕ, zero, suc, _≤_}
 use native.Mathlib.Omega.{arith}
 use mathlib.Core.Path.{_≡_}
+use mathlib.Core.Bool.{Bool}
 use mathlib.Core.List.{List, [], _∷_}
 use mathlib.Core.Option.{Option}
 use lib.ListN.{length, take}
 use Rattle.text.specs.Words.{word}
-use Rattle.connman_ipv4.specs.ConnmanIpv4.{IPv4}
+use Rattle.addresses.specs.Addresses.{dotted}
+use Rattle.addressing.specs.Addressing.{Addressing, gatewayIf}
+use Rattle.ipv6.specs.Ipv6.{canonical}
 use Rattle.records.specs.Record.{joined}
 use Rattle.records.specs.declared.JoinRecord.{JoinRecord}
 use Rattle.written.specs.Written.{WrittenRow, rowLines, headedLines, hiddenRows, secretRows, gatewayRows, numberRows, serverRows, domainRows, ipv4Rows, ipv6Rows}
 use Rattle.written.specs.GreatestLengths.{LineRoom, settingsRoom, securityRoom, numberRoom, serverRoom, domainRoom, ipv4Room, ipv6Room, total, Under}
-use Rattle.written.specs.LengthLaws.{under-total, hidden-under, secret-under, gateway-under, numbers-under, servers-under, domain-under, ipv4-under, ipv6-under}
+use Rattle.written.specs.LengthLaws.{under-total, hidden-under, secret-under, ipv4-gateway-under, ipv6-gateway-under, numbers-under, servers-under, domain-under, ipv4-under, ipv6-under}
 use Rattle.written.specs.RecordParts.{CountsWithin}
 use Rattle.written.specs.Texts.{rowsText, groupText}
 
@@ -23,10 +26,13 @@ group-short : (n : List ℕ) (rs : List WrittenRow) (t : List LineRoom) → Unde
 unfolding groupText
 group-short n rs t u = under-total (headedLines n rs) t u
 
-pub gateway-short : (g : Option (List ℕ)) → length (rowsText (gatewayRows g)) ≤ 24
-gateway-short g = rows-short (gatewayRows g) ((word "Gateway=", 15) ∷ []) (gateway-under g)
+pub gateway-short : (g : Option (List ℕ)) → length (rowsText (gatewayRows dotted g)) ≤ 24
+gateway-short g = rows-short (gatewayRows dotted g) ((word "Gateway=", 15) ∷ []) (ipv4-gateway-under g)
 
-pub numbers-short : (i : IPv4) → length (rowsText (numberRows i)) ≤ 72
+pub ipv6-gateway-short : (h : Bool) (g : List ℕ) → length g ≡ 16 → length (rowsText (gatewayRows canonical (gatewayIf h g))) ≤ 48
+ipv6-gateway-short h g e = rows-short (gatewayRows canonical (gatewayIf h g)) ((word "Gateway=", 39) ∷ []) (ipv6-gateway-under h g e)
+
+pub numbers-short : (i : Addressing) → length (rowsText (numberRows i)) ≤ 72
 numbers-short i = rows-short (numberRows i) numberRoom (numbers-under i)
 
 pub servers-short : (l : List (List ℕ)) → length l ≤ 4 → length (rowsText (serverRows l)) ≤ 68
@@ -44,10 +50,10 @@ pub record GroupsShort (r : JoinRecord) (s : List (List ℕ)) : Type 0 where
   pub settings : length (groupText (word "Settings") (hiddenRows (r .hidden))) ≤ 23
   pub security : length (groupText (word "Security") (secretRows (joined r s .credential))) ≤ 149
   pub ipv4 : length (groupText (word "IPv4") (ipv4Rows (joined r s .ipv4) (joined r s .servers) (joined r s .domain))) ≤ 665
-  pub ipv6 : length (groupText (word "IPv6") (ipv6Rows (r .ipv6))) ≤ 21
+  pub ipv6 : length (groupText (word "IPv6") (ipv6Rows (joined r s .ipv6))) ≤ 107
 
-pub groups-short : (r : JoinRecord) (s : List (List ℕ)) → CountsWithin r → length (r .key) ≡ 32 → GroupsShort r s
-groups-short r s w k =
+pub groups-short : (r : JoinRecord) (s : List (List ℕ)) → CountsWithin r → length (r .key) ≡ 32 → length (r .«ipv6_address») ≡ 16 → length (r .«ipv6_gateway») ≡ 16 → GroupsShort r s
+groups-short r s w k a g =
     let p = take (r .«passphrase_len») (r .passphrase) in
     let l = take (r .«server_count») s in
     let d = take (r .«domain_len») (r .domain) in
@@ -59,5 +65,7 @@ groups-short r s w k =
       ipv4 =
           group-short (word "IPv4") (ipv4Rows (joined r s .ipv4) l d) ipv4Room
           (ipv4-under (joined r s .ipv4) l d (omega (arith, take-short (r .«server_count») s, w .servers)) (omega (arith, take-short (r .«domain_len») (r .domain), w .domain)));
-      ipv6 = group-short (word "IPv6") (ipv6Rows (r .ipv6)) ipv6Room (ipv6-under (r .ipv6));
+      ipv6 =
+          group-short (word "IPv6") (ipv6Rows (joined r s .ipv6)) ipv6Room
+          (ipv6-under (r .ipv6) (r .«ipv6_address») (r .«ipv6_length») (r .«has_ipv6_gateway») (r .«ipv6_gateway») a g);
     }

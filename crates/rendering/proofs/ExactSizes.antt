@@ -6,7 +6,7 @@ use mathlib.Core.Bool.{true}
 use mathlib.Core.List.{List, [], _∷_, _++_}
 use lib.ListN.{length, length-append}
 use Rattle.text.specs.Words.{word}
-use Rattle.connman_ipv4.specs.ConnmanIpv4.{IPv4}
+use Rattle.addressing.specs.Addressing.{Addressing}
 use Rattle.records.specs.Record.{Join}
 use Rattle.written.specs.Written.{WrittenRow, hiddenRows, secretRows, numberRows, serverRows, domainRows, ipv4Rows, ipv6Rows, fileText}
 use Rattle.written.specs.Texts.{rowsText, groupText, someRow}
@@ -20,7 +20,7 @@ line-size k v = length-append (k ++ v) (10 ∷ []) ∙ omega (arith, length-appe
 pub group-size : (n : List ℕ) (rs : List WrittenRow) → someRow rs ≡ true → length (groupText n rs) ≡ 3 + length n + length (rowsText rs)
 group-size n rs e = ap length (group-text n rs e) ∙ length-append (91 ∷ (n ++ 93 ∷ 10 ∷ [])) (rowsText rs) ∙ omega (arith, length-append n (93 ∷ 10 ∷ []))
 
-pub ipv4-rows-size : (i : IPv4) (l : List (List ℕ)) (d : List ℕ) → length (rowsText (ipv4Rows i l d)) ≡ length (rowsText (numberRows i)) + length (rowsText (serverRows l)) + length (rowsText (domainRows d))
+pub ipv4-rows-size : (i : Addressing) (l : List (List ℕ)) (d : List ℕ) → length (rowsText (ipv4Rows i l d)) ≡ length (rowsText (numberRows i)) + length (rowsText (serverRows l)) + length (rowsText (domainRows d))
 ipv4-rows-size i l d =
     ap length (rows-append (numberRows i ++ serverRows l) (domainRows d))
     ∙ length-append (rowsText (numberRows i ++ serverRows l)) (rowsText (domainRows d))

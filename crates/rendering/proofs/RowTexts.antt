@@ -10,8 +10,8 @@ use Rattle.escapes.specs.Escapes.{escape}
 use Rattle.addresses.specs.Addresses.{dotted, maskBytes, listed}
 use Rattle.addresses.specs.declared.Separator.the-variants.{Spaces}
 use Rattle.connman_ipv4.specs.declared.Ipv4.{Ipv4}
-use Rattle.connman_ipv4.specs.declared.Method.the-variants.{Dhcp, Off, Static}
-use Rattle.records.specs.Record.{gatewayIf}
+use Rattle.addressing.specs.declared.Method.the-variants.{Auto, Off, Static}
+use Rattle.addressing.specs.Addressing.{gatewayIf}
 use Rattle.rendering.proofs.Three.{Three}
 use Rattle.written.specs.Written.{WrittenRow, gatewayRows, numberRows, serverRows, domainRows}
 use Rattle.written.specs.RecordParts.{numbersIn, staticRows}
@@ -19,12 +19,13 @@ use Rattle.written.specs.Texts.{rowsText}
 use Rattle.written.specs.TextLaws.{rows-append}
 use Rattle.rendering.proofs.ExactSizes.{line-size}
 
-module _ (a : List ℕ) where
-  pub gateway-text : {h : Bool} → h ≡ true → rowsText (gatewayRows (gatewayIf h a)) ≡ word "Gateway=" ++ dotted a ++ 10 ∷ []
+module _ (text : List ℕ → List ℕ) (a : List ℕ) where
+  pub gateway-text : {h : Bool} → h ≡ true →
+      rowsText (gatewayRows text (gatewayIf h a)) ≡ word "Gateway=" ++ text a ++ 10 ∷ []
   unfolding rowsText
   gateway-text e = rw e
 
-  pub gateway-none : {h : Bool} → h ≡ false → rowsText (gatewayRows (gatewayIf h a)) ≡ []
+  pub gateway-none : {h : Bool} → h ≡ false → rowsText (gatewayRows text (gatewayIf h a)) ≡ []
   unfolding rowsText
   gateway-none e = rw e
 
@@ -33,24 +34,24 @@ abbrev pub addressLine : List ℕ → List ℕ → List ℕ
 addressLine k a = k ++ dotted a ++ 10 ∷ []
 
 -- the lines of a static IPv4, m being its mask
-pub static-text : (i : Ipv4) {m : List ℕ} → m ≡ maskBytes (i .length) → Three (rowsText (staticRows i)) (addressLine (word "Address=") (i .address)) (addressLine (word "Netmask=") m) (rowsText (gatewayRows (gatewayIf (i .«has_gateway») (i .gateway))))
+pub static-text : (i : Ipv4) {m : List ℕ} → m ≡ maskBytes (i .length) → Three (rowsText (staticRows i)) (addressLine (word "Address=") (i .address)) (addressLine (word "Netmask=") m) (rowsText (gatewayRows dotted (gatewayIf (i .«has_gateway») (i .gateway))))
 unfolding rowsText
 static-text i {m} e =
     let own : WrittenRow = (word "Address", dotted (i .address)) in
     let mask : WrittenRow = (word "Netmask", dotted (maskBytes (i .length))) in
-    let last : List WrittenRow = gatewayRows (gatewayIf (i .«has_gateway») (i .gateway)) in
+    let last : List WrittenRow = gatewayRows dotted (gatewayIf (i .«has_gateway») (i .gateway)) in
     rw e (record { is = rows-append (own ∷ mask ∷ []) last ∙ ap (λ (t : List ℕ). t ++ rowsText last) (rows-append (own ∷ []) (mask ∷ [])) })
 
-pub static-size : (i : Ipv4) {m : List ℕ} → m ≡ maskBytes (i .length) → length (rowsText (staticRows i)) ≡ 18 + length (dotted (i .address)) + length (dotted m) + length (rowsText (gatewayRows (gatewayIf (i .«has_gateway») (i .gateway))))
+pub static-size : (i : Ipv4) {m : List ℕ} → m ≡ maskBytes (i .length) → length (rowsText (staticRows i)) ≡ 18 + length (dotted (i .address)) + length (dotted m) + length (rowsText (gatewayRows dotted (gatewayIf (i .«has_gateway») (i .gateway))))
 static-size i {m} e =
     let own = addressLine (word "Address=") (i .address) in
     let mask = addressLine (word "Netmask=") m in
-    let last = rowsText (gatewayRows (gatewayIf (i .«has_gateway») (i .gateway))) in
+    let last = rowsText (gatewayRows dotted (gatewayIf (i .«has_gateway») (i .gateway))) in
     ap length (static-text i e .is) ∙ length-append (own ++ mask) last ∙ omega (arith, length-append own mask, line-size (word "Address=") (dotted (i .address)), line-size (word "Netmask=") (dotted m))
 
 -- an IPv4 has the settings of its method
 module _ (i : Ipv4) where
-  pub numbers-dhcp : i .method ≡ Dhcp → rowsText (numberRows (numbersIn i)) ≡ []
+  pub numbers-dhcp : i .method ≡ Auto → rowsText (numberRows (numbersIn i)) ≡ []
   unfolding rowsText
   numbers-dhcp e = rw e
 

@@ -3,14 +3,15 @@ ghost use Prim.Native.Nat.{_+_, _≤_};
 ghost use lib.ListN.{length, take};
 ghost use Rattle.text.specs.Words.{word};
 ghost use Rattle.put.specs.Put.{Wrote};
+ghost use Rattle.addressing.specs.Addressing.{static, gatewayIf, addressingIn};
 ghost use Rattle.records.specs.Record.{secretOf, joined};
 ghost use Rattle.written.specs.Written.{hiddenRows, secretRows, ipv4Rows, ipv6Rows, fileText};
 ghost use Rattle.written.specs.Texts.{rowsText, groupText};
 ghost use Rattle.written.specs.RecordParts.{numbersIn, CountsWithin};
 use crate::rows;
+use addressing::Method;
 use connman_ipv4::Ipv4;
 use records::Credential;
-use records::Ipv6;
 use records::JoinRecord;
 use written::parts;
 
@@ -66,13 +67,23 @@ fn put_ipv4(out: &mut [u8], i: Ipv4, servers: [[u8; 4]; 4], count: usize, domain
     0
 }
 
-fn put_ipv6(out: &mut [u8], v: Ipv6) -> usize
-    requires { ⌜ length (groupText (word "IPv6") (ipv6Rows v)) ≤ length (now out) ⌝ }
-    ensures { λ r. ⌜ Wrote (groupText (word "IPv6") (ipv6Rows v)) 0 (now (out .entry)) (now (out .exit)) r ⌝ }
+// The group of an IPv6 that is static: an address a, its length n, and a gateway g, where it is given.
+fn put_ipv6_static(out: &mut [u8], a: [u8; 16], n: u8, given: bool, g: [u8; 16]) -> usize
+    requires { ⌜ length (groupText (word "IPv6") (ipv6Rows (static a n (gatewayIf given g)))) ≤ length (now out) ⌝ }
+    ensures { λ r. ⌜ Wrote (groupText (word "IPv6") (ipv6Rows (static a n (gatewayIf given g)))) 0 (now (out .entry)) (now (out .exit)) r ⌝ }
 {
-    match v {
-        Ipv6::Auto => 0,
-        Ipv6::Off => put::put_text(out, 0, b"[IPv6]\nEnabled=false\n"),
+    let at = rows::put_ipv6_address(out, a, n);
+    rows::put_ipv6_gateway(out, at, given, g)
+}
+
+fn put_ipv6(out: &mut [u8], method: Method, a: [u8; 16], n: u8, given: bool, g: [u8; 16]) -> usize
+    requires { ⌜ length (groupText (word "IPv6") (ipv6Rows (addressingIn method a n given g))) ≤ length (now out) ⌝ }
+    ensures { λ r. ⌜ Wrote (groupText (word "IPv6") (ipv6Rows (addressingIn method a n given g))) 0 (now (out .entry)) (now (out .exit)) r ⌝ }
+{
+    match method {
+        Method::Auto => 0,
+        Method::Off => put::put_text(out, 0, b"[IPv6]\nEnabled=false\n"),
+        Method::Static => put_ipv6_static(out, a, n, given, g),
     }
 }
 
@@ -88,7 +99,9 @@ pub fn put_file(out: &mut [u8], r: JoinRecord, servers: [[u8; 4]; 4]) -> usize
     let key = r.key;
     let domain = r.domain;
     let domain_used = r.domain_len;
-    let ipv6 = r.ipv6;
+    let method = r.ipv6;
+    let address = r.ipv6_address;
+    let gateway = r.ipv6_gateway;
     let numbers = parts::numbers(r);
     let mut at = put_settings(out, r.hidden);
     at += put_security(&mut out[at..], credential, &passphrase[..phrase_used], &key);
@@ -99,6 +112,13 @@ pub fn put_file(out: &mut [u8], r: JoinRecord, servers: [[u8; 4]; 4]) -> usize
         r.server_count,
         &domain[..domain_used],
     );
-    at += put_ipv6(&mut out[at..], ipv6);
+    at += put_ipv6(
+        &mut out[at..],
+        method,
+        address,
+        r.ipv6_length,
+        r.has_ipv6_gateway,
+        gateway,
+    );
     at
 }

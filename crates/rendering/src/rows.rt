@@ -3,19 +3,21 @@ ghost use mathlib.Core.Path.{_≡_};
 ghost use mathlib.Core.List.{[], _∷_, _++_};
 ghost use Prim.Native.Nat.{_+_, _≤_};
 ghost use lib.ListN.{length, take};
+ghost use Rattle.text.specs.Words.{word};
 ghost use Rattle.escapes.specs.Escapes.{escape};
 ghost use Rattle.hex.specs.Hex.{hex};
 ghost use Rattle.addresses.specs.Addresses.{dotted};
+ghost use Rattle.ipv6.specs.Ipv6.{canonical};
 ghost use Rattle.put.specs.Put.{Wrote};
-ghost use Rattle.written.specs.Written.{gatewayRows, numberRows, serverRows, domainRows};
+ghost use Rattle.written.specs.Written.{gatewayRows, numberRows, serverRows, domainRows, lengthened};
 ghost use Rattle.written.specs.Texts.{rowsText};
-ghost use Rattle.records.specs.Record.{gatewayIf};
+ghost use Rattle.addressing.specs.Addressing.{gatewayIf};
 ghost use Rattle.written.specs.RecordParts.{numbersIn, staticRows};
 use addresses::Separator;
 use addresses::masks;
 use addresses::writing;
+use addressing::Method;
 use connman_ipv4::Ipv4;
-use connman_ipv4::Method;
 
 // What stands in front of a string, the string, escaped, and the end of the line.
 pub fn put_string(out: &mut [u8], at: usize, front: &[u8], s: &[u8]) -> usize
@@ -49,8 +51,8 @@ fn put_address(out: &mut [u8], at: usize, front: &[u8], a: [u8; 4]) -> usize
 
 // The line of a gateway, where there is one.
 fn put_gateway(out: &mut [u8], at: usize, given: bool, a: [u8; 4]) -> usize
-    requires { ⌜ at + length (rowsText (gatewayRows (gatewayIf given a))) ≤ length (now out) ⌝ }
-    ensures { λ r. ⌜ Wrote (rowsText (gatewayRows (gatewayIf given a))) at (now (out .entry)) (now (out .exit)) r ⌝ }
+    requires { ⌜ at + length (rowsText (gatewayRows dotted (gatewayIf given a))) ≤ length (now out) ⌝ }
+    ensures { λ r. ⌜ Wrote (rowsText (gatewayRows dotted (gatewayIf given a))) at (now (out .entry)) (now (out .exit)) r ⌝ }
 {
     if given {
         return put_address(out, at, b"Gateway=", a);
@@ -79,7 +81,7 @@ pub fn put_numbers(out: &mut [u8], at: usize, i: Ipv4) -> usize
 {
     let method = i.method;
     match method {
-        Method::Dhcp => at,
+        Method::Auto => at,
         Method::Off => at,
         Method::Static => put_static(out, at, i),
     }
@@ -108,4 +110,29 @@ pub fn put_domain(out: &mut [u8], at: usize, d: &[u8]) -> usize
         return at;
     }
     put_string(out, at, b"DomainName=", d)
+}
+
+// The header of the IPv6 group, and the line of an address with its length.
+pub fn put_ipv6_address(out: &mut [u8], a: [u8; 16], n: u8) -> usize
+    requires { ⌜ length (word "[IPv6]\nAddress=" ++ lengthened a n ++ 10 ∷ []) ≤ length (now out) ⌝ }
+    ensures { λ r. ⌜ Wrote (word "[IPv6]\nAddress=" ++ lengthened a n ++ 10 ∷ []) 0 (now (out .entry)) (now (out .exit)) r ⌝ }
+{
+    let p = put::put_text(out, 0, b"[IPv6]\nAddress=");
+    let q = ipv6::writing::put_address(out, p, a);
+    let r = put::put_byte(out, q, 47);
+    let s = writing::put_decimal(out, r, n);
+    put::put_byte(out, s, 10)
+}
+
+// The line of a gateway, where there is one.
+pub fn put_ipv6_gateway(out: &mut [u8], at: usize, given: bool, a: [u8; 16]) -> usize
+    requires { ⌜ at + length (rowsText (gatewayRows canonical (gatewayIf given a))) ≤ length (now out) ⌝ }
+    ensures { λ r. ⌜ Wrote (rowsText (gatewayRows canonical (gatewayIf given a))) at (now (out .entry)) (now (out .exit)) r ⌝ }
+{
+    if given {
+        let p = put::put_text(out, at, b"Gateway=");
+        let q = ipv6::writing::put_address(out, p, a);
+        return put::put_byte(out, q, 10);
+    }
+    at
 }

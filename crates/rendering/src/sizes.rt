@@ -3,17 +3,19 @@ ghost use mathlib.Core.Path.{_≡_};
 ghost use Prim.Native.Nat.{_≤_};
 ghost use lib.ListN.{length, take};
 ghost use Rattle.text.specs.Words.{word};
-ghost use Rattle.records.specs.Record.{gatewayIf, secretOf, joined};
+ghost use Rattle.records.specs.Record.{secretOf, joined};
+ghost use Rattle.addressing.specs.Addressing.{static, gatewayIf, addressingIn};
+ghost use Rattle.addresses.specs.Addresses.{dotted};
+ghost use Rattle.ipv6.specs.Ipv6.{canonical};
 ghost use Rattle.written.specs.Written.{hiddenRows, secretRows, gatewayRows, numberRows, serverRows, domainRows, ipv4Rows, ipv6Rows, fileText};
 ghost use Rattle.written.specs.Texts.{rowsText, groupText};
 ghost use Rattle.written.specs.RecordParts.{numbersIn, staticRows, CountsWithin};
 use addresses::Separator;
 use addresses::masks;
 use addresses::writing;
+use addressing::Method;
 use connman_ipv4::Ipv4;
-use connman_ipv4::Method;
 use records::Credential;
-use records::Ipv6;
 use records::JoinRecord;
 use written::parts;
 
@@ -35,7 +37,7 @@ fn security_len(c: Credential, passphrase: &[u8], key: &[u8]) -> usize
 }
 
 fn gateway_len(given: bool, a: [u8; 4]) -> usize
-    ensures { λ r. ⌜ r ≡ length (rowsText (gatewayRows (gatewayIf given a))) ⌝ }
+    ensures { λ r. ⌜ r ≡ length (rowsText (gatewayRows dotted (gatewayIf given a))) ⌝ }
 {
     if given {
         return 9 + writing::address_len(a);
@@ -60,7 +62,7 @@ fn numbers_len(i: Ipv4) -> usize
 {
     let method = i.method;
     match method {
-        Method::Dhcp => 0,
+        Method::Auto => 0,
         Method::Off => 0,
         Method::Static => static_len(i),
     }
@@ -100,12 +102,30 @@ fn ipv4_len(i: Ipv4, servers: [[u8; 4]; 4], count: usize, domain: &[u8]) -> usiz
     0
 }
 
-fn ipv6_len(v: Ipv6) -> usize
-    ensures { λ r. ⌜ r ≡ length (groupText (word "IPv6") (ipv6Rows v)) ⌝ }
+fn ipv6_gateway_len(given: bool, a: [u8; 16]) -> usize
+    ensures { λ r. ⌜ r ≡ length (rowsText (gatewayRows canonical (gatewayIf given a))) ⌝ }
 {
-    match v {
-        Ipv6::Auto => 0,
-        Ipv6::Off => 21,
+    if given {
+        return 9 + ipv6::writing::address_len(a);
+    }
+    0
+}
+
+fn ipv6_static_len(a: [u8; 16], n: u8, given: bool, g: [u8; 16]) -> usize
+    ensures { λ r. ⌜ r ≡ length (groupText (word "IPv6") (ipv6Rows (static a n (gatewayIf given g)))) ⌝ }
+{
+    let own = ipv6::writing::address_len(a);
+    let digits = writing::decimal_len(n);
+    17 + own + digits + ipv6_gateway_len(given, g)
+}
+
+fn ipv6_len(method: Method, a: [u8; 16], n: u8, given: bool, g: [u8; 16]) -> usize
+    ensures { λ r. ⌜ r ≡ length (groupText (word "IPv6") (ipv6Rows (addressingIn method a n given g))) ⌝ }
+{
+    match method {
+        Method::Auto => 0,
+        Method::Off => 21,
+        Method::Static => ipv6_static_len(a, n, given, g),
     }
 }
 
@@ -120,10 +140,13 @@ pub fn file_len(r: JoinRecord, servers: [[u8; 4]; 4]) -> usize
     let key = r.key;
     let domain = r.domain;
     let domain_used = r.domain_len;
-    let ipv6 = r.ipv6;
+    let method = r.ipv6;
+    let address = r.ipv6_address;
+    let gateway = r.ipv6_gateway;
     let numbers = parts::numbers(r);
     let settings = settings_len(r.hidden);
     let security = security_len(credential, &passphrase[..phrase_used], &key);
     let ipv4 = ipv4_len(numbers, servers, r.server_count, &domain[..domain_used]);
-    settings + security + ipv4 + ipv6_len(ipv6)
+    let ipv6 = ipv6_len(method, address, r.ipv6_length, r.has_ipv6_gateway, gateway);
+    settings + security + ipv4 + ipv6
 }

@@ -18,11 +18,15 @@ use Rattle.hex.specs.Hex.{hex}
 use Rattle.addresses.specs.Addresses.{isAddress, maskBytes, addresses, dotted, listed}
 use Rattle.addresses.specs.Written.{address-dotted, mask-address, netmask-dotted, addresses-listed}
 use Rattle.addresses.specs.declared.Separator.the-variants.{Spaces}
+use Rattle.ipv6.specs.Ipv6.{isIpv6, canonical}
+use Rattle.ipv6.specs.Written.{ipv6-canonical}
+use Rattle.ipv6_values.specs.Written.{with-length-written}
+use Rattle.written.specs.Written.{lengthened}
 use Rattle.named_words.specs.NamedWords as NamedWords
 use Rattle.kinds.specs.Typed as T
 use Rattle.kinds.specs.Typed.{Typed, typed, stringBroken}
 use Rattle.hex_values.specs.Laws.{pre-shared-key-hex}
-use Rattle.kinds.specs.Written.{StandsOnLine, escape-stands, string-escape, printable-stands, hex-stands, dotted-stands, listed-stands}
+use Rattle.kinds.specs.Written.{StandsOnLine, escape-stands, string-escape, printable-stands, hex-stands, dotted-stands, listed-stands, canonical-stands, with-length-stands}
 use Rattle.kinds.specs.declared.Kind.{Kind}
 use Rattle.rules.specs.Tables.{keysOf, kindOf}
 use Rattle.rules.specs.GoodValues.{value-faultless}
@@ -95,6 +99,20 @@ pub netmask-row : (n : ℕ) → 1 ≤ n → n ≤ 32 → GoodRow Iwd Ipv4 (word 
 unfolding keysOf isKeyByte typed
 netmask-row n h g =
     row-good (record { long = refl; bytes = refl; listed = refl }) (dotted-stands (maskBytes n) (mask-address n g)) refl (ap (mapped T.maskLength) (netmask-dotted n h g))
+
+-- ---- IPv6 addresses
+
+pub ipv6-address-row : (a : List ℕ) (n : ℕ) → isIpv6 a ≡ true → 1 ≤ n → n ≤ 128 → GoodRow Iwd Ipv6 (word "Address", lengthened a n)
+unfolding keysOf isKeyByte typed
+ipv6-address-row a n h l g =
+    row-good (record { long = refl; bytes = refl; listed = refl }) (with-length-stands a n h g) refl (ap (mapped T.withLength) (with-length-written a n h l g))
+
+pub ipv6-gateway-row : (a : List ℕ) → isIpv6 a ≡ true → GoodRow Iwd Ipv6 (word "Gateway", canonical a)
+unfolding keysOf isKeyByte typed
+ipv6-gateway-row a h =
+    row-good (record { long = refl; bytes = refl; listed = refl }) (canonical-stands a h) refl (ap (mapped T.address) (ipv6-canonical a h))
+
+-- ---- lists of addresses
 
 pub servers-listed : (a : List ℕ) (l : List (List ℕ)) → GoodServers (a ∷ l) →
     addresses Spaces (listed Spaces (a ∷ l)) ≡ some (a ∷ l)

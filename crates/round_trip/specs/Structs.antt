@@ -19,7 +19,7 @@ use Rattle.round_trip.specs.RoundTrip.{round-trip-record, round-trip-ser
 -- what is written: the struct is formed, its record has a place in iwd, and its name and file are a and b
 record WrittenFrom (r : JoinRecord) (s : List (List ℕ)) (a b : List ℕ) : Type 0 where
   good : formed r s ≡ true
-  placed : hasPlace (joined r s .ipv4) ≡ true
+  placed : hasPlace (joined r s) ≡ true
   name : nameText (joined r s) ≡ a
   file : fileText (joined r s) ≡ b
 
@@ -30,7 +30,7 @@ written-from : (r : JoinRecord) (s : List (List ℕ)) (n f : List ℕ) {a b : Li
     WrittenFrom r s a b
 written-from r s n f {a} {b} e = go (writing r s n f) (writing-is r s n f) e
   where
-    roomed : formed r s ≡ true → hasPlace (joined r s .ipv4) ≡ true → (m : Writing) → RoomIs (joined r s) n f m →
+    roomed : formed r s ≡ true → hasPlace (joined r s) ≡ true → (m : Writing) → RoomIs (joined r s) n f m →
         m ≡ writes a b → WrittenFrom r s a b
     roomed p q m (enough x y) k = record { good = p; placed = q; name = cc; file = cc }
     roomed p q m short k = refused-writes k

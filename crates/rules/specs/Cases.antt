@@ -13,7 +13,9 @@ use Rattle.escapes.specs.Escapes.{unescapeFrom}
 use Rattle.hex.specs.Hex.{nibble, unhex}
 use Rattle.addresses.specs.Addresses.{decimalValue, number, address, prefixLength, lengthUpTo, maskLength, netmask, addresses}
 use Rattle.named_words.specs.NamedWords.{flag, wordOf}
+use Rattle.ipv6.specs.Ipv6.{hexValue, group, groups, side, halves, ipv6}
 use Rattle.connman_ipv4.specs.ConnmanIpv4.{ipv4}
+use Rattle.ipv6_values.specs.Ipv6Values.{connmanIpv6, withLength}
 use Rattle.hex_values.specs.HexValues.{colonPairs, mac, preSharedKey, ssid}
 use Rattle.entry_lists.specs.EntryLists.{entries}
 use Rattle.kinds.specs.Kinds.{string}
@@ -62,6 +64,11 @@ cases =
     ∷ (ConnMan, "a.config", "[service_a]\nType=wifi\nName=a\nPassphrase=1234567\\s \t", accepted 3 1)
     ∷ (ConnMan, "a.config", "[service_a]\nType=wifi\nName=a\nPassphrase=123456\\s", refused 12 4)
     ∷ (ConnMan, "a.config", "[service_a]\nType=wifi\nName=a\nSearchDomains=a\\b\nTimeservers=a\\", accepted 4 1)
+    ∷ (ConnMan, "a.config", "[service_a]\nType=wifi\nName=a\nIPv6=2001:db8::2/64/2001:db8::1", accepted 3 1)
+    ∷ (ConnMan, "a.config", "[service_a]\nType=wifi\nName=a\nIPv6=2001:db8::2", refused 12 4)
+    ∷ (Iwd, "Desk.open", "[IPv6]\nAddress=2001:db8::2\nGateway=2001:db8::1/64", refused 12 3)
+    ∷ (Iwd, "Desk.open", "[IPv6]\nAddress=2001:db8::2/064\nGateway=2001:db8::1", refused 12 2)
+    ∷ (Iwd, "Desk.open", "[IPv6]\nNetmask=255.0.0.0", refused 9 2)
     ∷ (Iwd, "Desk.psk", "[Security]\nPassphrase=1234567", refused 12 2)
     ∷ (Iwd, "Desk.psk", "[Security]\nPassphrase=12345678", accepted 1 0)
     ∷ (Iwd, "Desk.psk", "[Security]\nPassphrase=1234567 ", accepted 1 0)
@@ -76,6 +83,23 @@ cases =
     ∷ (Iwd, "Desk.open", "[IPv4]\nBroadcast=10.0.0.2", refused 14 0)
     ∷ (Iwd, "Desk.open", "[Security]\nPassphrase=12345678", refused 15 0)
     ∷ (Iwd, "Desk.psk", "[IPv4]\nNetmask=255.0.255.0", refused 12 2)
+    -- request 2026-03: "iwd Gateway without Address or the reverse 14", each group by itself
+    ∷ (Iwd, "Desk.open", "[IPv6]\nAddress=fd00::2/64\nGateway=fd00::1", accepted 2 0)
+    ∷ (Iwd, "Desk.open", "[IPv6]\nAddress=fd00::2/64", refused 14 0)
+    ∷ (Iwd, "Desk.open", "[IPv6]\nGateway=fd00::1", refused 14 0)
+    ∷ (Iwd, "Desk.open", "[IPv4]\nAddress=10.0.0.2\nGateway=10.0.0.1\n[IPv6]\nGateway=fd00::1", refused 14 0)
+    ∷ (Iwd, "Desk.open", "[IPv6]\nAddress=fd00::2/64\nGateway=fd00::1\n[IPv4]\nGateway=10.0.0.1", refused 14 0)
+    ∷ (Iwd, "Desk.open", "[IPv4]\nGateway=10.0.0.1\n[IPv6]\nAddress=fd00::2/64", refused 14 0)
+    -- "iwd Enabled false beside Address 15"
+    ∷ (Iwd, "Desk.open", "[IPv6]\nEnabled=false\nAddress=fd00::2/64\nGateway=fd00::1", refused 15 0)
+    ∷ (Iwd, "Desk.open", "[IPv6]\nGateway=fd00::1\nAddress=fd00::2/64\nEnabled=0", refused 15 0)
+    ∷ (Iwd, "Desk.open", "[IPv6]\nEnabled=true\nAddress=fd00::2/64\nGateway=fd00::1", accepted 3 0)
+    ∷ (Iwd, "Desk.open", "[IPv6]\nEnabled=1\nAddress=fd00::2/64\nGateway=fd00::1", accepted 3 0)
+    ∷ (Iwd, "Desk.open", "[IPv6]\nEnabled=false\n[IPv4]\nAddress=10.0.0.2\nGateway=10.0.0.1", accepted 3 0)
+    -- 14 before 15
+    ∷ (Iwd, "Desk.open", "[IPv6]\nEnabled=false\nAddress=fd00::2/64", refused 14 0)
+    ∷ (Iwd, "Desk.open", "[Security]\nPassphrase=12345678\n[IPv6]\nGateway=fd00::1", refused 14 0)
+    ∷ (Iwd, "Desk.psk", "[IPv6]\nEnabled=0\nAddress=fd00::2/64\nGateway=fd00::1", refused 14 0)
     ∷ []
 
 abbrev of : Case → Seen
@@ -85,5 +109,5 @@ abbrev answer : Case → Seen
 answer c = c .3
 
 pub table : map of cases ≡ map answer cases
-unfolding reading lineFault grown sectionsOf serviceFault fileFault fault withLine isService groupOf keysOf nameOf networkOf isKeyByte isPlain bracketOf settingOf lineOf valueStart typed kindJudged judged flag wordOf ipv4 entries colonPairs mac preSharedKey ssid string decimalValue number address prefixLength lengthUpTo maskLength netmask addresses nibble unhex unescapeFrom follow utf8From text
+unfolding reading lineFault grown sectionsOf serviceFault fileFault fault withLine isService groupOf keysOf nameOf networkOf isKeyByte isPlain bracketOf settingOf lineOf valueStart typed kindJudged judged flag wordOf hexValue group groups side halves ipv6 ipv4 connmanIpv6 withLength entries colonPairs mac preSharedKey ssid string decimalValue number address prefixLength lengthUpTo maskLength netmask addresses nibble unhex unescapeFrom follow utf8From text
 table = refl

@@ -2,12 +2,15 @@
 use Prim.Native.Nat.{ℕ}
 use Prim.Native.String.{String}
 use mathlib.Core.Path.{_≡_}
+use mathlib.Core.Bool.{false}
 use mathlib.Core.List.{List, [], _∷_, _++_}
 use mathlib.Core.Logic.{_⊎_}
 use Rattle.text.specs.Words.{word}
 use Rattle.text.specs.Relations.{Some}
 use Rattle.text.specs.Occurrences.{Everywhere, FirstBad}
 use Rattle.text.specs.declared.Dialect.{Dialect}
+use Rattle.text.specs.declared.Dialect.the-variants.{Iwd}
+use Rattle.named_words.specs.WordRules.{Means, flagRows}
 use Rattle.lines.specs.Lines.{Line, blank, comment, header, setting, broken}
 use Rattle.names.specs.declared.Suffix.{Suffix}
 use Rattle.names.specs.declared.Suffix.the-variants as S
@@ -69,27 +72,43 @@ FaultyService d before l rest r =
 
 -- ---- an iwd file
 
--- in the group with a name, one of the lines gives the key
-pub record In (group key : String) (ls : List Line) : Type 0 where
+-- a group with this name stands among the lines, and its own lines are so
+pub record InGroup (group : String) (So : List Line → Type 0) (ls : List Line) : Type 0 where
   pub before : List Line
   pub rest : List Line
   pub is : ls ≡ before ++ header (word group) ∷ rest
-  pub gives : Has key (groupLines rest)
+  pub so : So (groupLines rest)
+
+-- one of its lines gives the key; one of them gives it as no: `false` or `0`
+abbrev pub In : String → String → List Line → Type 0
+In group key ls = InGroup group (Has key) ls
+
+abbrev pub GivesNo : List ℕ → Line → Type 0
+GivesNo key l = SettingThat (λ k v. (key ≡ k) × Means (flagRows Iwd) v false) l
+
+abbrev pub InAsNo : String → String → List Line → Type 0
+InAsNo group key ls = InGroup group (λ own. Some (GivesNo (word key)) own) ls
 
 -- "either key"
 abbrev pub EitherKey : List Line → Type 0
 EitherKey ls = In "Security" "Passphrase" ls ⊎ In "Security" "PreSharedKey" ls
 
--- "iwd 14: .psk with neither key ..; Address without Gateway; Gateway, Netmask or Broadcast without Address."
+-- "iwd 14: .psk with neither key ..; Address without Gateway; Gateway, Netmask or Broadcast without Address.", and by request
+-- 2026-03 of IPv6 "Gateway without Address or the reverse"
+abbrev pub Gatewayless : String → List Line → Type 0
+Gatewayless group ls = In group "Address" ls × (¬ In group "Gateway" ls)
+
 abbrev pub FileLacks : Suffix → List Line → Type 0
 FileLacks s ls =
     ((s ≡ S.Psk) × (¬ EitherKey ls))
-    ⊎ ((In "IPv4" "Address" ls × (¬ In "IPv4" "Gateway" ls))
+    ⊎ ((Gatewayless "IPv4" ls
     ⊎ ((In "IPv4" "Gateway" ls ⊎ (In "IPv4" "Netmask" ls ⊎ In "IPv4" "Broadcast" ls)) × (¬ In "IPv4" "Address" ls)))
+    ⊎ ((In "IPv6" "Gateway" ls × (¬ In "IPv6" "Address" ls))
+    ⊎ Gatewayless "IPv6" ls))
 
--- "iwd 15: .open with either key."
+-- "iwd 15: .open with either key.", and by request 2026-03 "Enabled false beside Address"
 abbrev pub FileClashes : Suffix → List Line → Type 0
-FileClashes s ls = (s ≡ S.Open) × EitherKey ls
+FileClashes s ls = ((s ≡ S.Open) × EitherKey ls) ⊎ (InAsNo "IPv6" "Enabled" ls × In "IPv6" "Address" ls)
 
 -- ---- all groups of a file
 

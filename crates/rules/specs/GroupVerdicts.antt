@@ -4,7 +4,7 @@ use Prim.Native.Nat.{ℕ}
 use Prim.Native.String.{String}
 use native.Mathlib.Omega.{arith}
 use mathlib.Core.Path.{_≡_, refl, ap, sym, _∙_}
-use mathlib.Core.Bool.{Bool, true, false, cond, not}
+use mathlib.Core.Bool.{Bool, true, false, cond, not, false≢true}
 use mathlib.Core.List.{List, [], _∷_, _++_, append-assoc, append-nil, reverse, reverse-cons}
 use mathlib.Core.Logic.{_⊎_, inl, inr}
 use mathlib.Core.Option.{Option, none, some}
@@ -15,22 +15,26 @@ use Rattle.text.specs.Relations.{Each, Some}
 use Rattle.text.specs.RelationLaws.{each-at}
 use Rattle.text.specs.Occurrences.{Everywhere, FirstBad}
 use Rattle.text.specs.OccurrenceLaws.{Compared, alike, later, sooner, compare}
-use Rattle.text.specs.Decides.{Decides, holds, fails, decides-not, decides-alike, decides-and, decides-or, same-decides}
+use Rattle.text.specs.Decides.{Decides, holds, fails, decides, decides-not, decides-alike, decides-and, decides-or, same-decides}
 use Rattle.text.specs.declared.Dialect.{Dialect}
+use Rattle.text.specs.declared.Dialect.the-variants.{Iwd}
+use Rattle.named_words.specs.NamedWords.{flag}
+use Rattle.named_words.specs.WordRules.{Means, flagRows}
+use Rattle.named_words.specs.WordRuleLaws.{flag-means, means-flag}
 use Rattle.lines.specs.Lines.{Line, blank, comment, header, setting, broken}
 use Rattle.names.specs.declared.Suffix.{Suffix}
 use Rattle.names.specs.declared.Suffix.the-variants as S
 use Rattle.rules.specs.Sections.{Section, entriesIn}
 use Rattle.rules.specs.Faults.{Fault, faultAt}
-use Rattle.rules.specs.Groups.{lackOrClash, serviceFault, sectionFault, servicesFault, has, hasSecret, isOpen, fileLacks, fileClashes, fileFault}
+use Rattle.rules.specs.Groups.{lackOrClash, serviceFault, sectionFault, servicesFault, has, hasSecret, isOpen, gatewaylessBy, isNo, ipv6Disabled, fileLacks, fileClashes, fileFault}
 use Rattle.rules.specs.Reading.{Name, iwdName, connmanFile, groupsFault}
 use Rattle.rules.specs.GroupKeys.{GroupIs}
-use Rattle.rules.specs.LineOrder.{IsHeader, NamesGroup, GivesKey, LinesAllowed}
-use Rattle.rules.specs.GroupRules.{groupLines, ServiceLacks, ServiceClashes, SoundService, FaultyService, In, EitherKey, FileLacks, FileClashes, GroupsSound, FaultyGroup}
+use Rattle.rules.specs.LineOrder.{SettingThat, IsHeader, NamesGroup, LinesAllowed}
+use Rattle.rules.specs.GroupRules.{groupLines, ServiceLacks, ServiceClashes, SoundService, FaultyService, InGroup, In, InAsNo, EitherKey, Gatewayless, FileLacks, FileClashes, GroupsSound, FaultyGroup}
 use Rattle.rules.specs.TableLaws.{serves-tells}
 use Rattle.rules.specs.HereLaws.{that-header}
-use Rattle.rules.specs.SectionLaws.{entryPairs, linePairs, pairs-tell, given-tells, SectionRead, SectionsRead}
-use Rattle.rules.specs.ServiceVerdicts.{Ruled, ruled, service-ruled}
+use Rattle.rules.specs.SectionLaws.{Once, entryPairs, linePairs, pairs-tell, given-tells, SectionRead, SectionsRead}
+use Rattle.rules.specs.ServiceVerdicts.{value-tells, Ruled, ruled, service-ruled}
 use Rattle.rules.specs.declared.Group.the-variants.{Service}
 use Rattle.rules.specs.declared.Refusal.{Refusal}
 
@@ -219,12 +223,28 @@ entries-lines d n (g ∷ gs) before s hs tail e q =
     go true = s .2 .entries ∙ ap linePairs (sym (group-lines-headless (s .1) tail (s .2 .latest) e))
     go false = q ∙ ap linePairs (sym (lines-in-headless n (s .1) tail (s .2 .latest)))
 
-module _ (g k : String) where
-  in-more : (l : Line) (ls : List Line) → In g k ls → In g k (l ∷ ls)
-  in-more l ls h =
-      record { before = l ∷ h .before; rest = h .rest; is = ap (λ (r : List Line). l ∷ r) (h .is); gives = h .gives }
+-- no key is given twice among them
+entries-once : (d : Dialect) (n : List ℕ) (gs : List Section) (before : List Line) → SectionsRead d gs before →
+    (hs : List Section) → Once (entryPairs (entriesIn n hs)) → Once (entryPairs (entriesIn n (reverse gs ++ hs)))
+entries-once d n [] before s hs o = o
+entries-once d n (g ∷ gs) before s hs o =
+    rw (reverse-cons g gs, append-assoc (reverse gs) (g ∷ []) hs)
+    (entries-once d n gs (s .0) (s .3) (g ∷ hs) (go (same n (g .name))))
+  where
+    go : (b : Bool) → Once (entryPairs (cond b (g .entries) (entriesIn n hs)))
+    go true = rw (s .2 .entries) (s .2 .once)
+    go false = o
 
-  lines-in : (ls : List Line) → Some (GivesKey (word k)) (linesIn (word g) ls) → In g k ls
+module _ (g : String) (P : List ℕ → List ℕ → Type 0) where
+  -- a group with the name g has a setting that is so
+  abbrev InThat : List Line → Type 0
+  InThat ls = InGroup g (λ own. Some (SettingThat P) own) ls
+
+  in-more : (l : Line) (ls : List Line) → InThat ls → InThat (l ∷ ls)
+  in-more l ls h =
+      record { before = l ∷ h .before; rest = h .rest; is = ap (λ (r : List Line). l ∷ r) (h .is); so = h .so }
+
+  lines-in : (ls : List Line) → Some (SettingThat P) (linesIn (word g) ls) → InThat ls
   lines-in [] h = absurd h
   lines-in (blank ∷ ls) h = in-more blank ls (lines-in ls h)
   lines-in (comment ∷ ls) h = in-more comment ls (lines-in ls h)
@@ -232,25 +252,44 @@ module _ (g k : String) where
   lines-in (broken b ∷ ls) h = in-more (broken b) ls (lines-in ls h)
   lines-in (header m ∷ ls) h = go (same-decides (word g) m) (lines-in ls) h
     where
-      go : {b : Bool} → Decides (word g ≡ m) b → (Some (GivesKey (word k)) (linesIn (word g) ls) → In g k ls) →
-          Some (GivesKey (word k)) (cond b (groupLines ls) (linesIn (word g) ls)) → In g k (header m ∷ ls)
-      go (holds e) f h = record { before = []; rest = ls; is = ap (λ (n : List ℕ). header n ∷ ls) (sym e); gives = h }
+      go : {b : Bool} → Decides (word g ≡ m) b → (Some (SettingThat P) (linesIn (word g) ls) → InThat ls) →
+          Some (SettingThat P) (cond b (groupLines ls) (linesIn (word g) ls)) → InThat (header m ∷ ls)
+      go (holds e) f h = record { before = []; rest = ls; is = ap (λ (n : List ℕ). header n ∷ ls) (sym e); so = h }
       go (fails e) f h = in-more (header m) ls (f h)
 
-module _ (d : Dialect) (gs : List Section) (ls : List Line) (s : SectionsRead d gs ls) (allowed : LinesAllowed d ls) where
-  in-lines : (g k : String) → In g k ls → Some (GivesKey (word k)) (linesIn (word g) ls)
-  in-lines g k h =
-      let once = allowed (h .before) (header (word g)) (h .rest) (h .is) .once in
-      rw (h .is, lines-in-first (word g) (h .before) (h .rest) once) (h .gives)
+-- a no in iwd: what the reading gives is what the rows of the rules say
+no-tells : (u : List ℕ) → Decides (Means (flagRows Iwd) u false) (isNo (flag Iwd u))
+no-tells u = decides (isNo (flag Iwd u)) (λ e. flag-means Iwd u (no-is (flag Iwd u) e)) (λ h. ap isNo (means-flag Iwd u h))
+  where
+    no-is : (o : Option Bool) → isNo o ≡ true → o ≡ some false
+    no-is none e = absurd (false≢true e)
+    no-is (some true) e = absurd (false≢true e)
+    no-is (some false) e = refl
 
+module _ (d : Dialect) (gs : List Section) (ls : List Line) (s : SectionsRead d gs ls) (allowed : LinesAllowed d ls) where
   entries-whole : (n : List ℕ) → entryPairs (entriesIn n (reverse gs)) ≡ linePairs (linesIn n ls)
   entries-whole n = rw (append-nil (reverse gs), append-nil ls) at (entries-lines d n gs ls s [] [] refl refl)
 
+  module _ (g : String) (P : List ℕ → List ℕ → Type 0) where
+    in-lines : InThat g P ls → Some (SettingThat P) (linesIn (word g) ls)
+    in-lines h =
+        let once = allowed (h .before) (header (word g)) (h .rest) (h .is) .once in
+        rw (h .is, lines-in-first (word g) (h .before) (h .rest) once) (h .so)
+
+    in-group-tells : {b : Bool} → Decides (Some (λ p. P (p .0) (p .1)) (entryPairs (entriesIn (word g) (reverse gs)))) b →
+        Decides (InThat g P ls) b
+    in-group-tells t =
+        decides-alike (lines-in g P ls) in-lines
+        (pairs-tell P (entriesIn (word g) (reverse gs)) (linesIn (word g) ls) (entries-whole (word g)) t)
+
   in-tells : (g k : String) → Decides (In g k ls) (has (word g) (word k) (reverse gs))
-  in-tells g k =
-      decides-alike (lines-in g k ls) (in-lines g k)
-      (pairs-tell (λ j u. word k ≡ j) (entriesIn (word g) (reverse gs)) (linesIn (word g) ls) (entries-whole (word g))
-      (given-tells (word k) (entriesIn (word g) (reverse gs))))
+  in-tells g k = in-group-tells g (λ j u. word k ≡ j) (given-tells (word k) (entriesIn (word g) (reverse gs)))
+
+  disabled-tells : Decides (InAsNo "IPv6" "Enabled" ls) (ipv6Disabled (reverse gs))
+  disabled-tells =
+      in-group-tells "IPv6" (λ j u. (word "Enabled" ≡ j) × Means (flagRows Iwd) u false)
+      (value-tells (flag Iwd) isNo refl (λ u. Means (flagRows Iwd) u false) no-tells (word "Enabled")
+      (entriesIn (word "IPv6") (reverse gs)) (rw (append-nil (reverse gs)) at (entries-once d (word "IPv6") gs ls s [] tt)))
 
   either-tells : Decides (EitherKey ls) (hasSecret (reverse gs))
   either-tells = decides-or (in-tells "Security" "Passphrase") (in-tells "Security" "PreSharedKey")
@@ -263,15 +302,22 @@ module _ (d : Dialect) (gs : List Section) (ls : List Line) (s : SectionsRead d 
   psk-tells S.Open = fails (λ e. let z : _≡_ {A = ℕ} 0 1 = cc in omega arith)
   psk-tells S.Psk = holds refl
 
+  gatewayless-tells : (g : String) → Decides (Gatewayless g ls) (gatewaylessBy (λ k. has (word g) k (reverse gs)))
+  gatewayless-tells g = decides-and (in-tells g "Address") (decides-not (in-tells g "Gateway"))
+
   lacks-tells : (x : Suffix) → Decides (FileLacks x ls) (fileLacks x (reverse gs))
   lacks-tells x =
       decides-or (decides-and (psk-tells x) (decides-not either-tells))
-      (decides-or (decides-and (in-tells "IPv4" "Address") (decides-not (in-tells "IPv4" "Gateway")))
+      (decides-or
+      (decides-or (gatewayless-tells "IPv4")
       (decides-and (decides-or (in-tells "IPv4" "Gateway") (decides-or (in-tells "IPv4" "Netmask") (in-tells "IPv4" "Broadcast")))
       (decides-not (in-tells "IPv4" "Address"))))
+      (decides-or (decides-and (in-tells "IPv6" "Gateway") (decides-not (in-tells "IPv6" "Address")))
+      (gatewayless-tells "IPv6")))
 
   clashes-tells : (x : Suffix) → Decides (FileClashes x ls) (fileClashes x (reverse gs))
-  clashes-tells x = decides-and (open-tells x) either-tells
+  clashes-tells x =
+      decides-or (decides-and (open-tells x) either-tells) (decides-and disabled-tells (in-tells "IPv6" "Address"))
 
 -- ---- the groups of a file
 

@@ -5,7 +5,8 @@ use mathlib.Core.List.{List, [], _∷_}
 use mathlib.Core.Option.{Option, none, some}
 use Rattle.text.specs.Words.{word}
 use Rattle.text.specs.Options.{andThen, orElse}
-use Rattle.named_words.specs.NamedWords.{wordOf}
+use Rattle.text.specs.declared.Dialect.the-variants.{Iwd}
+use Rattle.named_words.specs.NamedWords.{flag, wordOf}
 use Rattle.named_words.specs.declared.Word.{Word}
 use Rattle.named_words.specs.declared.Word.the-variants.{Wifi, Ethernet, Psk, None}
 use Rattle.named_words.specs.declared.WordList.{WordList}
@@ -90,35 +91,54 @@ abbrev pub isOpen : Suffix → Bool
 isOpen S.Open = true
 isOpen S.Psk = false
 
--- "iwd 14: .psk with neither key ..; Address without Gateway; Gateway, Netmask or Broadcast without Address."
--- Of the groups Security and IPv4 is told which keys are given.
+-- "iwd 14: .psk with neither key ..; Address without Gateway; Gateway, Netmask or Broadcast without Address.", and by request
+-- 2026-03 of IPv6 "Gateway without Address or the reverse".
+-- Of the groups Security, IPv4 and IPv6, each by itself, is told which keys are given.
 abbrev pub secretBy : (List ℕ → Bool) → Bool
 secretBy security = security (word "Passphrase") || security (word "PreSharedKey")
 
 abbrev pub gatewaylessBy : (List ℕ → Bool) → Bool
-gatewaylessBy ipv4 = ipv4 (word "Address") && not (ipv4 (word "Gateway"))
+gatewaylessBy group = group (word "Address") && not (group (word "Gateway"))
 
 abbrev pub addresslessBy : (List ℕ → Bool) → Bool
 addresslessBy ipv4 =
     (ipv4 (word "Gateway") || (ipv4 (word "Netmask") || ipv4 (word "Broadcast"))) && not (ipv4 (word "Address"))
 
-abbrev pub fileLacksBy : Suffix → (List ℕ → Bool) → (List ℕ → Bool) → Bool
-fileLacksBy s security ipv4 =
-    (not (isOpen s) && not (secretBy security)) || (gatewaylessBy ipv4 || addresslessBy ipv4)
+abbrev pub unpairedBy : (List ℕ → Bool) → Bool
+unpairedBy ipv6 = (ipv6 (word "Gateway") && not (ipv6 (word "Address"))) || gatewaylessBy ipv6
 
--- "iwd 15: .open with either key."
-abbrev pub fileClashesBy : Suffix → (List ℕ → Bool) → Bool
-fileClashesBy s security = isOpen s && secretBy security
+abbrev pub fileLacksBy : Suffix → (List ℕ → Bool) → (List ℕ → Bool) → (List ℕ → Bool) → Bool
+fileLacksBy s security ipv4 ipv6 =
+    (not (isOpen s) && not (secretBy security)) || ((gatewaylessBy ipv4 || addresslessBy ipv4) || unpairedBy ipv6)
+
+-- "iwd 15: .open with either key.", and by request 2026-03 "Enabled false beside Address".
+-- Of IPv6 is told, too, whether Enabled is false.
+abbrev pub fileClashesBy : Suffix → (List ℕ → Bool) → (List ℕ → Bool) → Bool → Bool
+fileClashesBy s security ipv6 disabled = (isOpen s && secretBy security) || (disabled && ipv6 (word "Address"))
 
 -- by the settings
 abbrev pub hasSecret : List Section → Bool
 hasSecret gs = secretBy (λ k. has (word "Security") k gs)
 
+-- whether a yes/no is given and is a no
+abbrev pub isNo : Option Bool → Bool
+isNo none = false
+isNo (some b) = not b
+
+-- the yes/no that the setting with a key gives, in iwd
+abbrev pub flagGiven : List ℕ → List Entry → Option Bool
+flagGiven k es = andThen (entryOf k es) (λ x. flag Iwd (x .value))
+
+abbrev pub ipv6Disabled : List Section → Bool
+ipv6Disabled gs = isNo (flagGiven (word "Enabled") (entriesIn (word "IPv6") gs))
+
 abbrev pub fileLacks : Suffix → List Section → Bool
-fileLacks s gs = fileLacksBy s (λ k. has (word "Security") k gs) (λ k. has (word "IPv4") k gs)
+fileLacks s gs =
+    fileLacksBy s (λ k. has (word "Security") k gs) (λ k. has (word "IPv4") k gs) (λ k. has (word "IPv6") k gs)
 
 abbrev pub fileClashes : Suffix → List Section → Bool
-fileClashes s gs = fileClashesBy s (λ k. has (word "Security") k gs)
+fileClashes s gs =
+    fileClashesBy s (λ k. has (word "Security") k gs) (λ k. has (word "IPv6") k gs) (ipv6Disabled gs)
 
 -- "iwd 0": the line
 unfoldable pub fileFault : Suffix → List Section → Option Fault

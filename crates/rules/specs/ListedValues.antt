@@ -10,11 +10,13 @@ use Rattle.text.specs.declared.Dialect.{Dialect}
 use Rattle.text.specs.declared.Dialect.the-variants.{Iwd, ConnMan}
 use Rattle.addresses.specs.Addresses as A
 use Rattle.named_words.specs.NamedWords as NamedWords
+use Rattle.ipv6.specs.Ipv6 as IPv6
 use Rattle.connman_ipv4.specs.ConnmanIpv4 as ConnmanIpv4
+use Rattle.ipv6_values.specs.Ipv6Values as Ipv6Values
 use Rattle.hex_values.specs.HexValues as HexValues
 use Rattle.entry_lists.specs.EntryLists as EntryLists
 use Rattle.kinds.specs.Kinds as K
-use Rattle.connman_ipv4.specs.ConnmanIpv4.{IPv4}
+use Rattle.addressing.specs.Addressing.{Addressing}
 use Rattle.named_words.specs.declared.Word.{Word}
 use Rattle.kinds.specs.declared.Kind.{Kind}
 use Rattle.kinds.specs.declared.Kind.the-variants as Kind
@@ -24,13 +26,17 @@ use Rattle.rules.specs.Asking.{readAs}
 use Rattle.rules.specs.declared.Group.{Group}
 use Rattle.rules.specs.declared.Group.the-variants.{Settings, Security, Ipv4, Ipv6, Global, Service}
 
--- what a value of each kind is: a yes/no, a word, a mask's length, an address, a list, numbers of a network, or bytes
+-- what a value of each kind is: a yes/no, a word, a mask's length, an address, alone or with its length, a list, numbers of a network, or
+-- bytes
 abbrev pub KindValue : Kind → Type 0
 KindValue Kind.Flag = Bool
 KindValue (Kind.Named w) = Word
 KindValue Kind.Address = List ℕ
 KindValue Kind.Netmask = ℕ
-KindValue Kind.Ipv4 = IPv4
+KindValue Kind.Ipv4 = Addressing
+KindValue Kind.Ipv6 = Addressing
+KindValue Kind.Ipv6Address = List ℕ
+KindValue Kind.Ipv6WithLength = Ipv6Values.WithLength
 KindValue (Kind.Addresses sep) = List (List ℕ)
 KindValue Kind.Entries = List (List ℕ)
 KindValue Kind.Mac = List ℕ
@@ -46,6 +52,9 @@ valued d (Kind.Named w) = NamedWords.wordOf w
 valued d Kind.Address = A.address
 valued d Kind.Netmask = A.netmask
 valued d Kind.Ipv4 = ConnmanIpv4.ipv4
+valued d Kind.Ipv6 = Ipv6Values.connmanIpv6
+valued d Kind.Ipv6Address = IPv6.ipv6
+valued d Kind.Ipv6WithLength = Ipv6Values.withLength
 valued d (Kind.Addresses sep) = A.addresses sep
 valued d Kind.Entries = EntryLists.entries
 valued d Kind.Mac = HexValues.mac

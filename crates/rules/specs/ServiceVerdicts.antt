@@ -69,31 +69,33 @@ spelled-tells w v (row ∷ t) h u = go (same-decides (row .0) v) (same-decides u
         subst (Decides (u ≡ v)) (sym (not-true (isWord w (some (row .1))) (e .0))) (fails (λ i. p (sym q ∙ i)))
     go (fails p) (fails q) h k = k (and-true (not (isWord w (some (row .1)))) (spelled w v t) h .1)
 
--- ---- whether a key is given a word
+-- ---- whether a key is given a value that a test tells
 
--- one of the pairs is the key with the value
-abbrev Said : List ℕ → List ℕ → List KeyValue → Type 0
-Said k v ps = Some (λ p. (k ≡ p .0) × (v ≡ p .1)) ps
+-- one of the pairs is the key with such a value
+abbrev Said : List ℕ → (List ℕ → Type 0) → List KeyValue → Type 0
+Said k So ps = Some (λ p. (k ≡ p .0) × So (p .1)) ps
 
-module _ (w : Word) (t : WordList) (v : List ℕ) (f : (u : List ℕ) → Decides (u ≡ v) (isWord w (wordOf t u))) (k : List ℕ) where
-  word-tells : (es : List Entry) → Once (entryPairs es) →
-      Decides (Said k v (entryPairs es)) (isWord w (wordGiven t k es))
-  word-tells [] o = fails (λ z. z)
-  word-tells (x ∷ es) o = go (same-decides k (x .key)) (word-tells es (o .1))
+module _ {A : Type 0} (f : List ℕ → Option A) (test : Option A → Bool) (absent : test none ≡ false)
+    (So : List ℕ → Type 0) (tells : (u : List ℕ) → Decides (So u) (test (f u))) (k : List ℕ) where
+  pub value-tells : (es : List Entry) → Once (entryPairs es) →
+      Decides (Said k So (entryPairs es)) (test (andThen (entryOf k es) (λ x. f (x .value))))
+  value-tells [] o = rw absent (fails (λ z. z))
+  value-tells (x ∷ es) o = go (same-decides k (x .key)) (value-tells es (o .1))
     where
-      first : k ≡ x .key → Said k v (entryPairs (x ∷ es)) → x .value ≡ v
-      first e (inl h) = sym (h .1)
+      first : k ≡ x .key → Said k So (entryPairs (x ∷ es)) → So (x .value)
+      first e (inl h) = h .1
       first e (inr h) =
-          let value : (p : KeyValue) → (k ≡ p .0) × (v ≡ p .1) → x .key ≡ p .0 = λ p i. sym e ∙ i .0 in
-          absurd (o .0 (some-weaken (λ (p : KeyValue). (k ≡ p .0) × (v ≡ p .1)) (λ (p : KeyValue). x .key ≡ p .0) value (entryPairs es) h))
+          let value : (p : KeyValue) → (k ≡ p .0) × So (p .1) → x .key ≡ p .0 = λ p i. sym e ∙ i .0 in
+          absurd (o .0 (some-weaken (λ (p : KeyValue). (k ≡ p .0) × So (p .1)) (λ (p : KeyValue). x .key ≡ p .0) value (entryPairs es) h))
 
-      further : ¬ (k ≡ x .key) → Said k v (entryPairs (x ∷ es)) → Said k v (entryPairs es)
+      further : ¬ (k ≡ x .key) → Said k So (entryPairs (x ∷ es)) → Said k So (entryPairs es)
       further n (inl h) = absurd (n (h .0))
       further n (inr h) = h
 
-      go : {b : Bool} → Decides (k ≡ x .key) b → Decides (Said k v (entryPairs es)) (isWord w (wordGiven t k es)) →
-          Decides (Said k v (entryPairs (x ∷ es))) (isWord w (andThen (cond b (some x) (entryOf k es)) (λ y. wordOf t (y .value))))
-      go (holds e) r = decides-alike (λ i. inl (e, sym i)) (first e) (f (x .value))
+      go : {b : Bool} → Decides (k ≡ x .key) b →
+          Decides (Said k So (entryPairs es)) (test (andThen (entryOf k es) (λ y. f (y .value)))) →
+          Decides (Said k So (entryPairs (x ∷ es))) (test (andThen (cond b (some x) (entryOf k es)) (λ y. f (y .value))))
+      go (holds e) r = decides-alike (λ i. inl (e, i)) (first e) (tells (x .value))
       go (fails n) r = decides-alike (λ h. inr h) (further n) r
 
 -- ---- a rule over a group
@@ -129,7 +131,8 @@ module _ (es : List Entry) (ls : List Line) (q : entryPairs es ≡ linePairs ls)
   unfolding wordOf
   has-value k v w t h =
       pairs-tell (λ j u. (word k ≡ j) × (word v ≡ u)) es ls q
-      (word-tells w t (word v) (spelled-tells w (word v) (wordsOf t) h) (word k) es (rw q o))
+      (value-tells (wordOf t) (isWord w) refl (λ u. word v ≡ u) (λ u. decides-alike sym sym (spelled-tells w (word v) (wordsOf t) h u))
+      (word k) es (rw q o))
 
   lacks-tells : Decides (ServiceLacks ls) (lacks es)
   lacks-tells =

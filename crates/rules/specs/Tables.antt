@@ -31,7 +31,7 @@ unfoldable pub groupOf : Dialect → List ℕ → Option Group
 groupOf Iwd n = named n iwdGroups
 groupOf ConnMan n = cond (same n (word "global")) (some Global) (only (isService n) (some Service))
 
--- the keys of each group, with their kinds
+-- the keys of each group, with their kinds; by request 2026-03 "iwd's group gains Address (length 128 if left off) and Gateway"
 unfoldable pub keysOf : Group → List (List ℕ × Kind)
 keysOf Settings =
     (word "AutoConnect", K.Flag) ∷ (word "Hidden", K.Flag) ∷ (word "AlwaysRandomizeAddress", K.Flag) ∷ (word "AddressOverride", K.Mac) ∷ []
@@ -45,12 +45,12 @@ keysOf Ipv4 =
     ∷ (word "DomainName", K.Text 1 253)
     ∷ (word "SendHostname", K.Flag)
     ∷ []
-keysOf Ipv6 = (word "Enabled", K.Flag) ∷ []
+keysOf Ipv6 = (word "Enabled", K.Flag) ∷ (word "Address", K.Ipv6WithLength) ∷ (word "Gateway", K.Ipv6Address) ∷ []
 keysOf Global = (word "Name", K.Text 1 253) ∷ (word "Description", K.Text 1 253) ∷ []
 keysOf Service =
     (word "Type", K.Named W.ServiceType)
     ∷ (word "IPv4", K.Ipv4)
-    ∷ (word "IPv6", K.Named W.Ipv6Method)
+    ∷ (word "IPv6", K.Ipv6)
     ∷ (word "IPv6.Privacy", K.Named W.Privacy)
     ∷ (word "MAC", K.Mac)
     ∷ (word "Nameservers", K.Addresses Comma)

@@ -9,7 +9,7 @@ use Rattle.text.specs.declared.Dialect.the-variants.{Iwd}
 use Rattle.addresses.specs.Addresses.{addresses, rows}
 use Rattle.addresses.specs.declared.Separator.the-variants.{Spaces}
 use Rattle.rules.specs.Tables.{groupOf, keysOf}
-use Rattle.rules.specs.Sections.{entryOf, entriesIn}
+use Rattle.rules.specs.Sections.{entriesIn}
 use Rattle.rules.specs.Reading.{sectionsOf, reading}
 use Rattle.rules.specs.Asking.{asked}
 use Rattle.rules.specs.declared.Group.the-variants as G
@@ -17,34 +17,31 @@ use Rattle.rules.specs.declared.Answer.the-variants.{Good, Refused}
 use Rattle.rules.specs.declared.Reading.{Reading}
 use Rattle.rules.specs.declared.Reading.the-variants as R
 use Rattle.rules.specs.declared.Refusal.{Refusal}
-use Rattle.places.specs.KeySlots.{keySlot, bytesOf, ValueInFile}
+use Rattle.places.specs.KeySlots.{bytesOf, ValueInFile}
 use Rattle.places.specs.declared.KeyName.the-variants as N
-use Rattle.places.proofs.RowKeys.{row-key}
 use Rattle.pass.specs.Pass.{Found, ReadsFile}
 use Rattle.pass.proofs.Walking.{empty-row}
 use Rattle.pass.proofs.Asking.{found-group}
 use Rattle.settings.specs.Rows.{IwdRowsGive}
 use Rattle.values.specs.Rows.{RowGives, FourRows, IwdRows}
 use Rattle.settings.specs.Asked.{iwdAnswered, iwdServersAfter}
-use Rattle.values.specs.Codes.{choiceBy}
-use Rattle.settings.specs.Settings.{generalSettingsOf, securitySettingsOf, ipv4SettingsOf}
-use Rattle.values.specs.declared.Choice.{Choice}
+use Rattle.settings.specs.Settings.{generalSettingsOf, securitySettingsOf, ipv4SettingsOf, ipv6SettingsOf}
 use Rattle.settings.specs.declared.GeneralSettings.{GeneralSettings}
 use Rattle.settings.specs.declared.SecuritySettings.{SecuritySettings}
 use Rattle.settings.specs.declared.Ipv4Settings.{Ipv4Settings}
+use Rattle.settings.specs.declared.Ipv6Settings.{Ipv6Settings}
 use Rattle.settings.specs.declared.IwdSettings.{IwdSettings}
-use Rattle.values.proofs.KeptValues.{row-of, key-in, row-read, flag-by, addresses-none}
+use Rattle.values.proofs.KeptValues.{row-of, key-in, row-read, addresses-none}
 use Rattle.places.specs.Store.{tableLength}
 use Rattle.places.specs.History.{base}
 
 -- ---- the rows
 
 module _ {file x : List ℕ} where
-  pub iwd-typed : {a : GeneralSettings} {b : SecuritySettings} {c : Ipv4Settings} {e : Choice} → RowGives Iwd file x (base G.Settings 0) G.Settings generalSettingsOf a → RowGives Iwd file x (base G.Security 0) G.Security securitySettingsOf b → RowGives Iwd file x (base G.Ipv4 0) G.Ipv4 ipv4SettingsOf c → e ≡ choiceBy (keySlot x (base G.Ipv6 0) N.Enabled .code) → IwdRowsGive file x (record { general = a; security = b; ipv4 = c; enabled = e })
-  unfolding keysOf
+  pub iwd-typed : {a : GeneralSettings} {b : SecuritySettings} {c : Ipv4Settings} {e : Ipv6Settings} → RowGives Iwd file x (base G.Settings 0) G.Settings generalSettingsOf a → RowGives Iwd file x (base G.Security 0) G.Security securitySettingsOf b → RowGives Iwd file x (base G.Ipv4 0) G.Ipv4 ipv4SettingsOf c → RowGives Iwd file x (base G.Ipv6 0) G.Ipv6 ipv6SettingsOf e → IwdRowsGive file x (record { general = a; security = b; ipv4 = c; ipv6 = e })
   iwd-typed p q r s =
       record {
-        is = λ es h. rw (p .is (es (word "Settings")) (h .general), q .is (es (word "Security")) (h .security), r .is (es (word "IPv4")) (h .ipv4), s ∙ flag-by Iwd file (keySlot x (base G.Ipv6 0) N.Enabled) (entryOf (word "Enabled") (es (word "IPv6"))) (row-key N.Enabled (h .ipv6)));
+        is = λ es h. rw (p .is (es (word "Settings")) (h .general), q .is (es (word "Security")) (h .security), r .is (es (word "IPv4")) (h .ipv4), s .is (es (word "IPv6")) (h .ipv6));
       }
 
 pub found-rows : {file y : List ℕ} → Found Iwd file y → FourRows file y (λ n. entriesIn n (sectionsOf Iwd file))

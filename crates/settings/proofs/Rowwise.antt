@@ -10,15 +10,22 @@ use Rattle.text.specs.declared.Dialect.the-variants.{Iwd, ConnMan}
 use Rattle.addresses.specs.Addresses.{address, addresses, addressAnswer}
 use Rattle.addresses.specs.declared.Address.{Address}
 use Rattle.addresses.specs.declared.Separator.the-variants.{Spaces, Comma}
+use Rattle.ipv6.specs.Ipv6.{ipv6}
 use Rattle.connman_ipv4.specs.ConnmanIpv4.{ipv4}
+use Rattle.ipv6_values.specs.Ipv6Values.{connmanIpv6, withLength}
 use Rattle.hex_values.specs.HexValues.{mac, ssid, preSharedKey}
 use Rattle.entry_lists.specs.EntryLists.{entries}
+use Rattle.ipv6.specs.Answers as Plain
 use Rattle.connman_ipv4.specs.Answers.{ipv4Answer}
+use Rattle.ipv6_values.specs.Answers.{connmanIpv6Answer, withLengthAnswer}
 use Rattle.hex_values.specs.Answers.{macAnswer, ssidAnswer, preSharedKeyAnswer}
 use Rattle.entry_lists.specs.Answers.{entriesAnswer}
 use Rattle.named_words.specs.declared.WordList.the-variants as L
 use Rattle.entry_lists.specs.declared.Entries.{Entries}
+use Rattle.ipv6.specs.declared.Address.{Address as Ipv6Address}
 use Rattle.connman_ipv4.specs.declared.Ipv4.{Ipv4}
+use Rattle.ipv6_values.specs.declared.Ipv6.{Ipv6}
+use Rattle.ipv6_values.specs.declared.WithLength.{WithLength}
 use Rattle.hex_values.specs.declared.PreSharedKey.{PreSharedKey}
 use Rattle.hex_values.specs.declared.Mac.{Mac}
 use Rattle.hex_values.specs.declared.Ssid.{Ssid}
@@ -33,8 +40,8 @@ use Rattle.values.specs.Codes.{choiceBy, chosenBy}
 use Rattle.values.specs.Rows.{RowGives}
 use Rattle.values.specs.declared.Choice.{Choice}
 use Rattle.values.specs.declared.Chosen.{Chosen}
-use Rattle.values.proofs.KeptValues.{address-none, addresses-none, ipv4-none, entries-none, mac-none, key-none, ssid-none, row-read, row-line, row-start, word-by, flag-by, row-mask}
-use Rattle.settings.specs.Settings.{generalSettingsOf, securitySettingsOf, ipv4SettingsOf, networkSettingsOf, addressSettingsOf}
+use Rattle.values.proofs.KeptValues.{address-none, addresses-none, ipv4-none, ipv6-none, connman-ipv6-none, with-length-none, entries-none, mac-none, key-none, ssid-none, row-read, row-line, row-start, word-by, flag-by, row-mask}
+use Rattle.settings.specs.Settings.{generalSettingsOf, securitySettingsOf, ipv4SettingsOf, ipv6SettingsOf, networkSettingsOf, addressSettingsOf}
 
 -- ---- iwd's groups
 
@@ -72,6 +79,18 @@ module _ {file x : List ℕ} where
             );
       }
 
+  pub ipv6-typed : {e : Choice} {a : WithLength} {g : Ipv6Address} → e ≡ choiceBy (keySlot x (base G.Ipv6 0) N.Enabled .code) → a ≡ withLengthAnswer (withLength (bytesOf file x (base G.Ipv6 0) N.Ipv6Address)) → g ≡ Plain.ipv6Answer (ipv6 (bytesOf file x (base G.Ipv6 0) N.Ipv6Gateway)) → RowGives Iwd file x (base G.Ipv6 0) G.Ipv6 ipv6SettingsOf (record { enabled = e; address = a; gateway = g })
+  unfolding keysOf
+  ipv6-typed p q r =
+      record {
+        is = λ es h.
+            rw (
+              p ∙ flag-by Iwd file (keySlot x (base G.Ipv6 0) N.Enabled) (entryOf (word "Enabled") es) (row-key N.Enabled h),
+              q ∙ ap withLengthAnswer (row-read N.Ipv6Address h withLength with-length-none),
+              r ∙ ap Plain.ipv6Answer (row-read N.Ipv6Gateway h ipv6 ipv6-none),
+            );
+      }
+
 -- ---- a service
 
 module _ {file x : List ℕ} {b : ℕ} where
@@ -90,14 +109,14 @@ module _ {file x : List ℕ} {b : ℕ} where
             );
       }
 
-  pub address-typed : {a : Ipv4} {c e : Chosen} {m : Mac} {n : ℕ} {s t : Entries} {l : ℕ} → a ≡ ipv4Answer (ipv4 (bytesOf file x b N.Ipv4)) → c ≡ chosenBy (keySlot x b N.Ipv6 .code) → e ≡ chosenBy (keySlot x b N.Privacy .code) → m ≡ macAnswer (mac (bytesOf file x b N.Mac)) → n ≡ length (orEmpty (addresses Comma (bytesOf file x b N.Nameservers))) → s ≡ entriesAnswer (keySlot x b N.SearchDomains .start) (entries (bytesOf file x b N.SearchDomains)) → t ≡ entriesAnswer (keySlot x b N.Timeservers .start) (entries (bytesOf file x b N.Timeservers)) → l ≡ keySlot x b N.Domain .line → RowGives ConnMan file x b G.Service addressSettingsOf (record { ipv4 = a; ipv6 = c; privacy = e; mac = m; nameservers = n; «search_domains» = s; timeservers = t; domain = l })
+  pub address-typed : {a : Ipv4} {c : Ipv6} {e : Chosen} {m : Mac} {n : ℕ} {s t : Entries} {l : ℕ} → a ≡ ipv4Answer (ipv4 (bytesOf file x b N.Ipv4)) → c ≡ connmanIpv6Answer (connmanIpv6 (bytesOf file x b N.Ipv6)) → e ≡ chosenBy (keySlot x b N.Privacy .code) → m ≡ macAnswer (mac (bytesOf file x b N.Mac)) → n ≡ length (orEmpty (addresses Comma (bytesOf file x b N.Nameservers))) → s ≡ entriesAnswer (keySlot x b N.SearchDomains .start) (entries (bytesOf file x b N.SearchDomains)) → t ≡ entriesAnswer (keySlot x b N.Timeservers .start) (entries (bytesOf file x b N.Timeservers)) → l ≡ keySlot x b N.Domain .line → RowGives ConnMan file x b G.Service addressSettingsOf (record { ipv4 = a; ipv6 = c; privacy = e; mac = m; nameservers = n; «search_domains» = s; timeservers = t; domain = l })
   unfolding keysOf
   address-typed p q r s t u v w =
       record {
         is = λ es h.
             rw (
               p ∙ ap ipv4Answer (row-read N.Ipv4 h ipv4 ipv4-none),
-              q ∙ word-by ConnMan L.Ipv6Method file (keySlot x b N.Ipv6) (entryOf (word "IPv6") es) (row-key N.Ipv6 h),
+              q ∙ ap connmanIpv6Answer (row-read N.Ipv6 h connmanIpv6 connman-ipv6-none),
               r ∙ word-by ConnMan L.Privacy file (keySlot x b N.Privacy) (entryOf (word "IPv6.Privacy") es) (row-key N.Privacy h),
               s ∙ ap macAnswer (row-read N.Mac h mac mac-none),
               t ∙ ap (λ (o : Option (List (List ℕ))). length (orEmpty o)) (row-read N.Nameservers h (addresses Comma) (addresses-none Comma)),

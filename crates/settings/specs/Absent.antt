@@ -7,7 +7,8 @@ use Rattle.addresses.specs.Addresses.{noAddress}
 use Rattle.addresses.specs.declared.Address.{Address}
 use Rattle.entry_lists.specs.declared.Entries.{Entries}
 use Rattle.hex_values.specs.declared.Mac.{Mac}
-use Rattle.connman_ipv4.specs.declared.Method.the-variants.{Dhcp}
+use Rattle.addressing.specs.declared.Method.the-variants.{Auto}
+use Rattle.ipv6.specs.Answers.{noIpv6}
 use Rattle.rules.specs.Tables.{keysOf}
 use Rattle.settings.specs.Settings.{iwdSettings, serviceSettings}
 use Rattle.values.specs.declared.Choice.the-variants as Choice
@@ -46,7 +47,12 @@ zeroIwdSettings =
             «domain_name» = 0;
             «send_hostname» = Choice.Absent;
           };
-      enabled = Choice.Absent;
+      ipv6 =
+          record {
+            enabled = Choice.Absent;
+            address = record { ok = false; address = noIpv6; length = 0 };
+            gateway = record { ok = false; bytes = noIpv6 };
+          };
     }
 
 abbrev pub zeroServiceSettings : ServiceSettings
@@ -66,13 +72,21 @@ zeroServiceSettings =
             ipv4 =
                 record {
                   ok = false;
-                  method = Dhcp;
+                  method = Auto;
                   address = noAddress;
                   length = 0;
                   «has_gateway» = false;
                   gateway = noAddress;
                 };
-            ipv6 = Chosen.Absent;
+            ipv6 =
+                record {
+                  ok = false;
+                  method = Auto;
+                  address = noIpv6;
+                  length = 0;
+                  «has_gateway» = false;
+                  gateway = noIpv6;
+                };
             privacy = Chosen.Absent;
             mac = absentMac;
             nameservers = 0;

@@ -14,7 +14,7 @@ use Rattle.values.specs.declared.Chosen.the-variants as W
 use Rattle.settings.specs.declared.IwdSettings.{IwdSettings}
 use Rattle.settings.specs.declared.ServiceSettings.{ServiceSettings}
 
--- whether a yes/no and a word are there; an address, a MAC, a key, an SSID and ConnMan's IPv4 have `ok`
+-- whether a yes/no and a word are there; an address, a MAC, a key, an SSID, and ConnMan's IPv4 and IPv6 have `ok`
 abbrev pub choiceGiven : Choice → Bool
 choiceGiven C.Absent = false
 choiceGiven C.No = true
@@ -45,7 +45,9 @@ pub record IwdGiven (gs : List Section) (s : IwdSettings) : Type 0 where
   pub dns : nonzero (s .ipv4 .dns) ≡ has (word "IPv4") (word "DNS") gs
   pub domain-name : nonzero (s .ipv4 .«domain_name») ≡ has (word "IPv4") (word "DomainName") gs
   pub send-hostname : choiceGiven (s .ipv4 .«send_hostname») ≡ has (word "IPv4") (word "SendHostname") gs
-  pub enabled : choiceGiven (s .enabled) ≡ has (word "IPv6") (word "Enabled") gs
+  pub enabled : choiceGiven (s .ipv6 .enabled) ≡ has (word "IPv6") (word "Enabled") gs
+  pub ipv6-address : s .ipv6 .address .ok ≡ has (word "IPv6") (word "Address") gs
+  pub ipv6-gateway : s .ipv6 .gateway .ok ≡ has (word "IPv6") (word "Gateway") gs
 
 -- the settings s of a service whose settings in the file are es
 pub record ServiceGiven (es : List Entry) (s : ServiceSettings) : Type 0 where
@@ -56,7 +58,7 @@ pub record ServiceGiven (es : List Entry) (s : ServiceSettings) : Type 0 where
   pub security : chosenGiven (s .network .security) ≡ given (word "Security") es
   pub hidden : choiceGiven (s .network .hidden) ≡ given (word "Hidden") es
   pub ipv4 : s .addresses .ipv4 .ok ≡ given (word "IPv4") es
-  pub ipv6 : chosenGiven (s .addresses .ipv6) ≡ given (word "IPv6") es
+  pub ipv6 : s .addresses .ipv6 .ok ≡ given (word "IPv6") es
   pub privacy : chosenGiven (s .addresses .privacy) ≡ given (word "IPv6.Privacy") es
   pub mac : s .addresses .mac .ok ≡ given (word "MAC") es
   pub nameservers : nonzero (s .addresses .nameservers) ≡ given (word "Nameservers") es

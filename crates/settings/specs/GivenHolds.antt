@@ -15,9 +15,10 @@ use Rattle.text.specs.declared.Dialect.the-variants.{Iwd, ConnMan}
 use Rattle.addresses.specs.Addresses.{netmask, addresses, addressAnswer}
 use Rattle.addresses.specs.declared.Separator.{Separator}
 use Rattle.addresses.specs.declared.Separator.the-variants.{Spaces, Comma}
-use Rattle.connman_ipv4.specs.ConnmanIpv4.{IPv4, dhcp, off, static}
+use Rattle.ipv6.specs.Answers as Plain
+use Rattle.ipv6_values.specs.Ipv6Values.{WithLength}
 use Rattle.entry_lists.specs.EntryLists.{entry, entries}
-use Rattle.connman_ipv4.specs.Answers.{ipv4Answer}
+use Rattle.ipv6_values.specs.Answers.{withLengthAnswer}
 use Rattle.hex_values.specs.Answers.{macAnswer, preSharedKeyAnswer, ssidAnswer}
 use Rattle.addresses.specs.Laws.{addresses-good}
 use Rattle.addresses.specs.MaskRuleLaws.{netmask-good}
@@ -65,12 +66,13 @@ ssid-given : (o : Option (List ℕ)) → ssidAnswer o .ok ≡ isSome o
 ssid-given none = refl
 ssid-given (some b) = refl
 
-ipv4-given : (o : Option IPv4) → ipv4Answer o .ok ≡ isSome o
-ipv4-given none = refl
-ipv4-given (some dhcp) = refl
-ipv4-given (some off) = refl
-ipv4-given (some (static a n none)) = refl
-ipv4-given (some (static a n (some g))) = refl
+ipv6-given : (o : Option (List ℕ)) → Plain.ipv6Answer o .ok ≡ isSome o
+ipv6-given none = refl
+ipv6-given (some a) = refl
+
+with-length-given : (o : Option WithLength) → withLengthAnswer o .ok ≡ isSome o
+with-length-given none = refl
+with-length-given (some w) = refl
 
 -- a number that is not 0
 positive : (n : ℕ) → 1 ≤ n → nonzero n ≡ true
@@ -142,6 +144,8 @@ module _ (name file : List ℕ) (a : asked (reading Iwd name file) ≡ Good) whe
         domain-name = string-given (word "IPv4") (word "DomainName");
         send-hostname = choice-given (groupValue Ipv4 at (word "SendHostname")) ∙ value-given Ipv4 refl (word "SendHostname");
         enabled = choice-given (groupValue Ipv6 at (word "Enabled")) ∙ value-given Ipv6 refl (word "Enabled");
+        ipv6-address = with-length-given (groupValue Ipv6 at (word "Address")) ∙ value-given Ipv6 refl (word "Address");
+        ipv6-gateway = ipv6-given (groupValue Ipv6 at (word "Gateway")) ∙ value-given Ipv6 refl (word "Gateway");
       })
 
 -- ---- a service
@@ -171,8 +175,8 @@ module _ (name file : List ℕ) (w : ℕ) (a : askedOf w (reading ConnMan name f
         passphrase = key-string-given (word "Passphrase");
         security = chosen-given (valueOf Service of (word "Security")) ∙ key-value-given (word "Security");
         hidden = choice-given (valueOf Service of (word "Hidden")) ∙ key-value-given (word "Hidden");
-        ipv4 = ipv4-given (valueOf Service of (word "IPv4")) ∙ key-value-given (word "IPv4");
-        ipv6 = chosen-given (valueOf Service of (word "IPv6")) ∙ key-value-given (word "IPv6");
+        ipv4 = key-value-given (word "IPv4");
+        ipv6 = key-value-given (word "IPv6");
         privacy = chosen-given (valueOf Service of (word "IPv6.Privacy")) ∙ key-value-given (word "IPv6.Privacy");
         mac = mac-given (valueOf Service of (word "MAC")) ∙ key-value-given (word "MAC");
         nameservers = addresses-given Comma (of (word "Nameservers")) ∙ key-value-given (word "Nameservers");

@@ -7,7 +7,9 @@ use lib.ListN.{length}
 use Rattle.text.specs.Words.{word}
 use Rattle.text.specs.Options.{orEmpty}
 use Rattle.addresses.specs.Addresses.{addressAnswer, rows}
+use Rattle.ipv6.specs.Answers as Plain
 use Rattle.connman_ipv4.specs.Answers.{ipv4Answer}
+use Rattle.ipv6_values.specs.Answers.{connmanIpv6Answer, withLengthAnswer}
 use Rattle.hex_values.specs.Answers.{macAnswer, preSharedKeyAnswer, ssidAnswer}
 use Rattle.entry_lists.specs.Answers.{entriesAnswer}
 use Rattle.rules.specs.Tables.{keysOf}
@@ -19,6 +21,7 @@ use Rattle.values.specs.Values.{choice, chosen, lengthOr0}
 use Rattle.settings.specs.declared.GeneralSettings.{GeneralSettings}
 use Rattle.settings.specs.declared.SecuritySettings.{SecuritySettings}
 use Rattle.settings.specs.declared.Ipv4Settings.{Ipv4Settings}
+use Rattle.settings.specs.declared.Ipv6Settings.{Ipv6Settings}
 use Rattle.settings.specs.declared.IwdSettings.{IwdSettings}
 use Rattle.settings.specs.declared.NetworkSettings.{NetworkSettings}
 use Rattle.settings.specs.declared.AddressSettings.{AddressSettings}
@@ -64,15 +67,25 @@ ipv4SettingsOf at =
       «send_hostname» = choice (value (word "SendHostname"));
     }
 
--- the settings of an iwd file, at giving the setting with a key in the group with a name; "IPv6: Enabled (bool)"
-abbrev pub iwdSettings : (List ℕ → List ℕ → Option Entry) → IwdSettings
+-- "IPv6: Enabled (bool)", and by request 2026-03 "Address (length 128 if left off) and Gateway"
+abbrev pub ipv6SettingsOf : (List ℕ → Option Entry) → Ipv6Settings
 unfolding keysOf
+ipv6SettingsOf at =
+    let value = valueOf Ipv6 at in
+    record {
+      enabled = choice (value (word "Enabled"));
+      address = withLengthAnswer (value (word "Address"));
+      gateway = Plain.ipv6Answer (value (word "Gateway"));
+    }
+
+-- the settings of an iwd file, at giving the setting with a key in the group with a name
+abbrev pub iwdSettings : (List ℕ → List ℕ → Option Entry) → IwdSettings
 iwdSettings at =
     record {
       general = generalSettingsOf (at (word "Settings"));
       security = securitySettingsOf (at (word "Security"));
       ipv4 = ipv4SettingsOf (at (word "IPv4"));
-      enabled = choice (groupValue Ipv6 at (word "Enabled"));
+      ipv6 = ipv6SettingsOf (at (word "IPv6"));
     }
 
 abbrev pub iwdServers : (List ℕ → List ℕ → Option Entry) → List (List ℕ)
@@ -96,7 +109,7 @@ networkSettingsOf at =
       hidden = choice (value (word "Hidden"));
     }
 
--- "IPv4, IPv6 (off, auto), IPv6.Privacy (..), MAC, Nameservers (1 to 4 addresses ..), SearchDomains and Timeservers (1
+-- "IPv4, IPv6 (off, auto)", which by request 2026-03 "gains address/length with an optional gateway", "IPv6.Privacy (..), MAC, Nameservers (1 to 4 addresses ..), SearchDomains and Timeservers (1
 -- to 4 entries ..), Domain (string, 1 to 253)"
 abbrev pub addressSettingsOf : (List ℕ → Option Entry) → AddressSettings
 unfolding keysOf
@@ -104,7 +117,7 @@ addressSettingsOf at =
     let value = valueOf Service at in
     record {
       ipv4 = ipv4Answer (value (word "IPv4"));
-      ipv6 = chosen (value (word "IPv6"));
+      ipv6 = connmanIpv6Answer (value (word "IPv6"));
       privacy = chosen (value (word "IPv6.Privacy"));
       mac = macAnswer (value (word "MAC"));
       nameservers = length (orEmpty (value (word "Nameservers")));

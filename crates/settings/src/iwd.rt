@@ -8,7 +8,6 @@ use crate::IwdSettings;
 use crate::rows;
 use addresses::Separator;
 use places::IPV4_ROW;
-use places::IPV6_ROW;
 use places::KeyName;
 use places::PLACES;
 use places::Places;
@@ -25,7 +24,7 @@ fn iwd_rows(file: &[u8], x: &Places) -> IwdSettings
         general: rows::general_settings(file, x),
         security: rows::security_settings(file, x),
         ipv4: rows::ipv4_settings(file, x),
-        enabled: values::choice_at(x, IPV6_ROW, KeyName::Enabled),
+        ipv6: rows::ipv6_settings(file, x),
     }
 }
 

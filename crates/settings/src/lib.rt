@@ -13,6 +13,8 @@ use entry_lists::Entries;
 use hex_values::Mac;
 use hex_values::PreSharedKey;
 use hex_values::Ssid;
+use ipv6_values::Ipv6;
+use ipv6_values::WithLength;
 use rules::Answer;
 use values::Choice;
 use values::Chosen;
@@ -42,12 +44,19 @@ pub struct Ipv4Settings {
     pub send_hostname: Choice,
 }
 
+// iwd's group IPv6.
+pub struct Ipv6Settings {
+    pub enabled: Choice,
+    pub address: WithLength,
+    pub gateway: ipv6::Address,
+}
+
 // The settings of an iwd file, by its groups. An absent address, MAC or key is not ok; an absent mask, list or string is 0.
 pub struct IwdSettings {
     pub general: GeneralSettings,
     pub security: SecuritySettings,
     pub ipv4: Ipv4Settings,
-    pub enabled: Choice,
+    pub ipv6: Ipv6Settings,
 }
 
 // Which network a ConnMan service joins, and how.
@@ -63,7 +72,7 @@ pub struct NetworkSettings {
 // The addresses of a ConnMan service. The entries of a list stand at places in the file.
 pub struct AddressSettings {
     pub ipv4: Ipv4,
-    pub ipv6: Chosen,
+    pub ipv6: Ipv6,
     pub privacy: Chosen,
     pub mac: Mac,
     pub nameservers: usize,

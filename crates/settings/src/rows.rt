@@ -1,14 +1,16 @@
 // The typed settings of a row in the table of places: one function for each group of iwd, two for a ConnMan service.
 ghost use Rattle.places.specs.History.{base};
-ghost use Rattle.settings.specs.Settings.{generalSettingsOf, securitySettingsOf, ipv4SettingsOf, networkSettingsOf, addressSettingsOf};
+ghost use Rattle.settings.specs.Settings.{generalSettingsOf, securitySettingsOf, ipv4SettingsOf, ipv6SettingsOf, networkSettingsOf, addressSettingsOf};
 ghost use Rattle.values.specs.Rows.{RowOf, RowGives};
 use crate::AddressSettings;
 use crate::GeneralSettings;
 use crate::Ipv4Settings;
+use crate::Ipv6Settings;
 use crate::NetworkSettings;
 use crate::SecuritySettings;
 use addresses::Separator;
 use places::IPV4_ROW;
+use places::IPV6_ROW;
 use places::KeyName;
 use places::Places;
 use places::SECURITY_ROW;
@@ -58,6 +60,17 @@ pub fn ipv4_settings(file: &[u8], x: &Places) -> Ipv4Settings
     }
 }
 
+pub fn ipv6_settings(file: &[u8], x: &Places) -> Ipv6Settings
+    requires { ⌜ RowOf Dialect.Iwd (now file) (now x) (base Group.Ipv6 0) Group.Ipv6 ⌝ }
+    ensures { λ r. ⌜ RowGives Dialect.Iwd (now (file .entry)) (now (x .entry)) (base Group.Ipv6 0) Group.Ipv6 ipv6SettingsOf r ⌝ }
+{
+    Ipv6Settings {
+        enabled: values::choice_at(x, IPV6_ROW, KeyName::Enabled),
+        address: values::with_length_at(file, x, IPV6_ROW, KeyName::Ipv6Address),
+        gateway: values::ipv6_address_at(file, x, IPV6_ROW, KeyName::Ipv6Gateway),
+    }
+}
+
 // Of a service, by its row: which network it joins, and how.
 pub fn network_settings(file: &[u8], x: &Places, row: usize) -> NetworkSettings
     requires { ⌜ RowOf Dialect.ConnMan (now file) (now x) row Group.Service ⌝ }
@@ -80,7 +93,7 @@ pub fn address_settings(file: &[u8], x: &Places, row: usize) -> AddressSettings
 {
     AddressSettings {
         ipv4: values::ipv4_at(file, x, row, KeyName::Ipv4),
-        ipv6: values::chosen_at(x, row, KeyName::Ipv6),
+        ipv6: values::ipv6_at(file, x, row, KeyName::Ipv6),
         privacy: values::chosen_at(x, row, KeyName::Privacy),
         mac: values::mac_at(file, x, row, KeyName::Mac),
         nameservers: values::count_at(Separator::Comma, file, x, row, KeyName::Nameservers),

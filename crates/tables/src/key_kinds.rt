@@ -50,6 +50,8 @@ fn ipv6_kind(n: usize) -> KindAt
 {
     match n {
         1 => KindAt::Is(Kind::Flag),
+        2 => KindAt::Is(Kind::Ipv6WithLength),
+        3 => KindAt::Is(Kind::Ipv6Address),
         _ => KindAt::Unknown,
     }
 }
@@ -70,7 +72,7 @@ fn service_kind(n: usize) -> KindAt
     match n {
         1 => KindAt::Is(Kind::Named(WordList::ServiceType)),
         2 => KindAt::Is(Kind::Ipv4),
-        3 => KindAt::Is(Kind::Named(WordList::Ipv6Method)),
+        3 => KindAt::Is(Kind::Ipv6),
         4 => KindAt::Is(Kind::Named(WordList::Privacy)),
         5 => KindAt::Is(Kind::Mac),
         6 => KindAt::Is(Kind::Addresses(Separator::Comma)),

@@ -39,7 +39,7 @@ fn ipv4_place(key: &[u8]) -> usize
 fn ipv6_place(key: &[u8]) -> usize
     ensures { λ r. ⌜ r ≡ place (now (key .entry)) (keyNames Group.Ipv6) ⌝ }
 {
-    word_place(b"\x07Enabled", key)
+    word_place(b"\x07Enabled\x07Address\x07Gateway", key)
 }
 
 fn global_place(key: &[u8]) -> usize

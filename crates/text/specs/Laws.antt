@@ -9,7 +9,7 @@ use mathlib.Core.Bool.{Bool, true, false, cond, not, _&&_, false≢true, true≢
 use mathlib.Core.List.{List, [], _∷_, _++_}
 use lib.Dec.{eqb, leb}
 use lib.ListN.{length, take, drop, set, getD, replicate, drop-of-length-le, length-append, length-take, length-drop}
-use lib.Seq.{drop-cons, set-at, append-snoc, drop-drop, take-take, take-nil}
+use lib.Seq.{drop-cons, set-at, append-snoc, drop-drop, take-add, take-take, take-nil}
 use Rattle.text.specs.Bytes.{between, other, inLine}
 use Rattle.text.specs.Parts.{lead, front, after, all, onto, lines, pieces, part, empty, padded}
 use Rattle.text.specs.Words.{same}
@@ -86,6 +86,13 @@ module _ (p : ℕ → Bool) where
   pub all-append : (a b : List ℕ) → all p a ≡ true → all p b ≡ true → all p (a ++ b) ≡ true
   all-append [] b ha hb = hb
   all-append (x ∷ a) b ha hb = rw (all-cons x a ha .0) (all-append a b (all-cons x a ha .1) hb)
+
+  pub all-parts : (a b : List ℕ) → all p (a ++ b) ≡ true → (all p a ≡ true) × (all p b ≡ true)
+  all-parts [] b h = (refl, h)
+  all-parts (x ∷ a) b h =
+      let c = all-cons x (a ++ b) h in
+      let d = all-parts a b (c .1) in
+      (rw (c .0) (d .0), d .1)
 
   pub all-weaken : (q : ℕ → Bool) → ((x : ℕ) → p x ≡ true → q x ≡ true) → (l : List ℕ) → all p l ≡ true → all q l ≡ true
   all-weaken q f [] h = refl
@@ -226,6 +233,18 @@ view-end s i e = drop-of-length-le s {i = i} (omega arith)
 
 pub view-more : (s : List ℕ) (i : ℕ) → i < length s → drop i s ≡ getD s i 0 ∷ drop (i + 1) s
 view-more s i h = rw (add-one, drop-cons s i 0)
+
+-- a part is its first byte and the rest, or two parts
+pub part-next : (s : List ℕ) (i e : ℕ) → i < e → i < length s → part i e s ≡ getD s i 0 ∷ part (i + 1) e s
+part-next s i e h k =
+    let n : e - i ≡ suc (e - (i + 1)) = omega arith in
+    rw (n, view-more s i k)
+
+pub part-add : (s : List ℕ) (a i e : ℕ) → a ≤ i → i ≤ e → part a e s ≡ part a i s ++ part i e s
+part-add s a i e h k =
+    let n : e - a ≡ i - a + (e - i) = omega arith in
+    let m : a + (i - a) ≡ i = omega arith in
+    ap (λ (j : ℕ). take j (drop a s)) n ∙ take-add (i - a) (e - i) (drop a s) ∙ rw (drop-drop (i - a) a s, m)
 
 pub part-none : (s : List ℕ) (a : ℕ) → part a a s ≡ []
 part-none s a = ap (λ (n : ℕ). take n (drop a s)) (sub-self a)

@@ -1,12 +1,12 @@
 -- What a reading that succeeds says of its parts.
-use mathlib.Core.Path.{_≡_, refl, sym, subst}
+use mathlib.Core.Path.{_≡_, refl, ap, sym, subst}
 use mathlib.Core.Bool.{Bool, true, false, cond, true≢false, false≢true}
-use mathlib.Core.List.{List, [], _∷_}
+use mathlib.Core.List.{List, [], _∷_, _++_, append-assoc}
 use mathlib.Core.Option.{Option, none, some, Option·some-injective, Option·none-ne-some}
 use Prim.Native.Nat.{ℕ}
 use lib.ListN.{length}
 use Rattle.text.specs.Bytes.{between}
-use Rattle.text.specs.Options.{isSome, mapped, andThen, only, sized, prepend, each}
+use Rattle.text.specs.Options.{isSome, mapped, andThen, only, sized, prepend, glue, each}
 use Rattle.text.specs.Relations.{Sized, Pairwise}
 use Rattle.text.specs.Laws.{inside, between-low, between-high}
 
@@ -63,6 +63,29 @@ module _ {A : Type 0} where
       (u : List A) × (o ≡ some u) × (x ∷ u ≡ t)
   prepend-some x none {t} e = absurd (Option·none-ne-some t e)
   prepend-some x (some u) {t} e = (u, refl, Option·some-injective (x ∷ u) t e)
+
+-- what was read, in front of a list that is read
+module _ {A : Type 0} where
+  pub glue-some : (t : List A) (o : Option (List A)) {l : List A} → glue t o ≡ some l →
+      (u : List A) × (o ≡ some u) × (t ++ u ≡ l)
+  glue-some t none {l} e = absurd (Option·none-ne-some l e)
+  glue-some t (some u) {l} e = (u, refl, Option·some-injective (t ++ u) l e)
+
+  pub glue-prepend : (t : List A) (x : A) (o : Option (List A)) → glue t (prepend x o) ≡ glue (t ++ (x ∷ [])) o
+  glue-prepend t x none = refl
+  glue-prepend t x (some u) = ap some (sym (append-assoc t (x ∷ []) u))
+
+  pub glue-cons : (x : A) (t : List A) (o : Option (List A)) → prepend x (glue t o) ≡ glue (x ∷ t) o
+  glue-cons x t none = refl
+  glue-cons x t (some u) = refl
+
+  pub glue-glue : (t u : List A) (o : Option (List A)) → glue t (glue u o) ≡ glue (t ++ u) o
+  glue-glue t u none = refl
+  glue-glue t u (some v) = ap some (sym (append-assoc t u v))
+
+  pub glue-nil : (o : Option (List A)) → glue [] o ≡ o
+  glue-nil none = refl
+  glue-nil (some u) = refl
 
 -- what is read on from a list of a right length is read of that list
 pub sized-then : {A B : Type 0} (m n : ℕ) (f : List A → Option B) (t : List A) {b : B} →

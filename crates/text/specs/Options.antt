@@ -1,7 +1,7 @@
 -- A reading that may be broken: `none`, or `some` of what was read.
 use Prim.Native.Nat.{ℕ, _≤_}
 use mathlib.Core.Bool.{Bool, true, false, cond}
-use mathlib.Core.List.{List, [], _∷_}
+use mathlib.Core.List.{List, [], _∷_, _++_}
 use mathlib.Core.Option.{Option, none, some}
 use lib.ListN.{length}
 use Rattle.text.specs.Bytes.{between}
@@ -14,6 +14,11 @@ isSome (some a) = true
 abbrev pub prepend : {A : Type 0} → A → Option (List A) → Option (List A)
 prepend x none = none
 prepend x (some t) = some (x ∷ t)
+
+-- what was read, in front of a list that is read
+abbrev pub glue : {A : Type 0} → List A → Option (List A) → Option (List A)
+glue t none = none
+glue t (some u) = some (t ++ u)
 
 -- what is read, and then read on
 abbrev pub andThen : {A B : Type 0} → Option A → (A → Option B) → Option B

@@ -13,14 +13,16 @@ use Rattle.addresses.specs.Addresses.{address, number, decimalValue, netmask, a
 use Rattle.addresses.specs.declared.Separator.{Separator}
 use Rattle.addresses.specs.declared.Separator.the-variants.{Spaces, Comma}
 use Rattle.named_words.specs.NamedWords.{flag, wordOf}
+use Rattle.ipv6.specs.Ipv6.{side, halves, ipv6}
 use Rattle.connman_ipv4.specs.ConnmanIpv4.{ipv4}
+use Rattle.ipv6_values.specs.Ipv6Values.{connmanIpv6, withLength}
 use Rattle.hex_values.specs.HexValues.{mac, ssid, preSharedKey}
 use Rattle.entry_lists.specs.EntryLists.{entries}
 use Rattle.addresses.specs.MaskRuleLaws.{netmask-good}
 use Rattle.kinds.specs.declared.Kind.{Kind}
 use Rattle.kinds.specs.declared.Kind.the-variants.{Flag, Named, Netmask}
 use Rattle.named_words.specs.declared.Word.{Word}
-use Rattle.named_words.specs.declared.Word.the-variants.{Wifi, Ethernet, Off, Auto, Disabled, Enabled, Preferred, Psk, Ieee8021x, None, Wep}
+use Rattle.named_words.specs.declared.Word.the-variants.{Wifi, Ethernet, Disabled, Enabled, Preferred, Psk, Ieee8021x, None, Wep}
 use Rattle.named_words.specs.declared.WordList.{WordList}
 use Rattle.rules.specs.WordNumbers.{isWord, wordNumber}
 use Rattle.rules.specs.Asking.{readAs, entryLine, entryStart}
@@ -53,6 +55,18 @@ addresses-none Comma = refl
 pub ipv4-none : ipv4 [] ≡ none
 unfolding ipv4
 ipv4-none = refl
+
+pub ipv6-none : ipv6 [] ≡ none
+unfolding ipv6 halves side
+ipv6-none = refl
+
+pub connman-ipv6-none : connmanIpv6 [] ≡ none
+unfolding connmanIpv6
+connman-ipv6-none = refl
+
+pub with-length-none : withLength [] ≡ none
+unfolding withLength
+with-length-none = rw ipv6-none
 
 pub entries-none : entries [] ≡ none
 unfolding entries
@@ -107,8 +121,6 @@ word-back : (u : Word) → chosenBy (wordNumber u) ≡ chosen (some u)
 unfolding chosenBy
 word-back Wifi = refl
 word-back Ethernet = refl
-word-back Off = refl
-word-back Auto = refl
 word-back Disabled = refl
 word-back Enabled = refl
 word-back Preferred = refl

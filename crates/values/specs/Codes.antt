@@ -4,7 +4,7 @@ use mathlib.Core.Bool.{true, false, cond}
 use mathlib.Core.List.{List, [], _∷_}
 use lib.Dec.{eqb}
 use Rattle.named_words.specs.declared.Word.{Word}
-use Rattle.named_words.specs.declared.Word.the-variants.{Wifi, Ethernet, Off, Auto, Disabled, Enabled, Preferred, Psk, Ieee8021x, None, Wep}
+use Rattle.named_words.specs.declared.Word.the-variants.{Wifi, Ethernet, Disabled, Enabled, Preferred, Psk, Ieee8021x, None, Wep}
 use Rattle.rules.specs.WordNumbers.{wordNumber}
 use Rattle.places.specs.Holds.{flagCode}
 use Rattle.values.specs.declared.Choice.{Choice}
@@ -22,4 +22,4 @@ wordBy n (w ∷ ws) = cond (eqb n (wordNumber w)) (W.Is w) (wordBy n ws)
 
 unfoldable pub chosenBy : ℕ → Chosen
 chosenBy n =
-    wordBy n (Wifi ∷ Ethernet ∷ Off ∷ Auto ∷ Disabled ∷ Enabled ∷ Preferred ∷ Psk ∷ Ieee8021x ∷ None ∷ Wep ∷ [])
+    wordBy n (Wifi ∷ Ethernet ∷ Disabled ∷ Enabled ∷ Preferred ∷ Psk ∷ Ieee8021x ∷ None ∷ Wep ∷ [])

@@ -5,10 +5,14 @@
 ghost use mathlib.Core.Path.{_≡_};
 ghost use lib.ListN.{length};
 ghost use Rattle.addresses.specs.Addresses.{address, addresses, addressAnswer, rows};
+ghost use Rattle.ipv6.specs.Ipv6.{ipv6};
 ghost use Rattle.connman_ipv4.specs.ConnmanIpv4.{ipv4};
+ghost use Rattle.ipv6_values.specs.Ipv6Values.{connmanIpv6, withLength};
 ghost use Rattle.hex_values.specs.HexValues.{mac, ssid, preSharedKey};
 ghost use Rattle.entry_lists.specs.EntryLists.{entries};
+ghost use Rattle.ipv6.specs.Answers as Plain;
 ghost use Rattle.connman_ipv4.specs.Answers.{ipv4Answer};
+ghost use Rattle.ipv6_values.specs.Answers.{connmanIpv6Answer, withLengthAnswer};
 ghost use Rattle.hex_values.specs.Answers.{macAnswer, ssidAnswer, preSharedKeyAnswer};
 ghost use Rattle.entry_lists.specs.Answers.{entriesAnswer};
 ghost use Rattle.places.specs.KeySlots.{keySlot, bytesOf, RowInTable, ValueInFile};
@@ -22,6 +26,8 @@ use entry_lists::Entries;
 use hex_values::Mac;
 use hex_values::PreSharedKey;
 use hex_values::Ssid;
+use ipv6_values::Ipv6;
+use ipv6_values::WithLength;
 use named_words::Word;
 use places::KeyName;
 use places::Places;
@@ -64,15 +70,13 @@ pub fn chosen_at(x: &Places, row: usize, k: KeyName) -> Chosen
     match n {
         1 => Chosen::Is(Word::Wifi),
         2 => Chosen::Is(Word::Ethernet),
-        3 => Chosen::Is(Word::Off),
-        4 => Chosen::Is(Word::Auto),
-        5 => Chosen::Is(Word::Disabled),
-        6 => Chosen::Is(Word::Enabled),
-        7 => Chosen::Is(Word::Preferred),
-        8 => Chosen::Is(Word::Psk),
-        9 => Chosen::Is(Word::Ieee8021x),
-        10 => Chosen::Is(Word::None),
-        11 => Chosen::Is(Word::Wep),
+        3 => Chosen::Is(Word::Disabled),
+        4 => Chosen::Is(Word::Enabled),
+        5 => Chosen::Is(Word::Preferred),
+        6 => Chosen::Is(Word::Psk),
+        7 => Chosen::Is(Word::Ieee8021x),
+        8 => Chosen::Is(Word::None),
+        9 => Chosen::Is(Word::Wep),
         _ => Chosen::Absent,
     }
 }
@@ -97,6 +101,27 @@ pub fn ipv4_at(file: &[u8], x: &Places, row: usize, k: KeyName) -> Ipv4
     ensures { λ r. ⌜ r ≡ ipv4Answer (ipv4 (bytesOf (now (file .entry)) (now (x .entry)) row k)) ⌝ }
 {
     connman_ipv4::read_ipv4(value_of(file, x, row, k))
+}
+
+pub fn ipv6_at(file: &[u8], x: &Places, row: usize, k: KeyName) -> Ipv6
+    requires { ⌜ ValueInFile (now file) (now x) row k ⌝ }
+    ensures { λ r. ⌜ r ≡ connmanIpv6Answer (connmanIpv6 (bytesOf (now (file .entry)) (now (x .entry)) row k)) ⌝ }
+{
+    ipv6_values::read_ipv6(value_of(file, x, row, k))
+}
+
+pub fn ipv6_address_at(file: &[u8], x: &Places, row: usize, k: KeyName) -> ipv6::Address
+    requires { ⌜ ValueInFile (now file) (now x) row k ⌝ }
+    ensures { λ r. ⌜ r ≡ Plain.ipv6Answer (ipv6 (bytesOf (now (file .entry)) (now (x .entry)) row k)) ⌝ }
+{
+    ipv6::reading::read_address(value_of(file, x, row, k))
+}
+
+pub fn with_length_at(file: &[u8], x: &Places, row: usize, k: KeyName) -> WithLength
+    requires { ⌜ ValueInFile (now file) (now x) row k ⌝ }
+    ensures { λ r. ⌜ r ≡ withLengthAnswer (withLength (bytesOf (now (file .entry)) (now (x .entry)) row k)) ⌝ }
+{
+    ipv6_values::read_with_length(value_of(file, x, row, k))
 }
 
 pub fn mac_at(file: &[u8], x: &Places, row: usize, k: KeyName) -> Mac

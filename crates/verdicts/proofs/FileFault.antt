@@ -2,17 +2,20 @@
 use Prim.Native.Nat.{ℕ}
 use mathlib.Core.Path.{_≡_, refl}
 use mathlib.Core.List.{List, reverse}
+use Rattle.text.specs.Words.{word}
 use Rattle.text.specs.declared.Dialect.the-variants.{Iwd}
 use Rattle.names.specs.declared.Suffix.{Suffix}
 use Rattle.rules.specs.Tables.{groupOf}
-use Rattle.rules.specs.Sections.{Section}
+use Rattle.rules.specs.Sections.{Section, entryOf, entriesIn}
 use Rattle.rules.specs.Faults.{faultAt}
 use Rattle.rules.specs.Groups.{fileFault}
-use Rattle.rules.specs.declared.Group.the-variants.{Security, Ipv4}
+use Rattle.rules.specs.declared.Group.the-variants.{Security, Ipv4, Ipv6}
 use Rattle.places.specs.Holds.{TableKeeps}
+use Rattle.places.specs.History.{base}
+use Rattle.places.specs.KeySlots.{keySlot}
 use Rattle.verdicts.specs.FileRule.{slotsFile}
 use Rattle.places.specs.declared.KeyName.the-variants as N
-use Rattle.places.proofs.RowKeys.{taken-given}
+use Rattle.places.proofs.RowKeys.{row-key, taken-given, kept-no}
 use Rattle.places.proofs.GroupRows.{group-row}
 
 module _ {file : List ℕ} {x : List ℕ} {gs : List Section} (t : TableKeeps Iwd file x gs) where
@@ -26,4 +29,7 @@ module _ {file : List ℕ} {x : List ℕ} {gs : List Section} (t : TableKeeps Iw
         taken-given N.Gateway (group-row t Ipv4 refl refl),
         taken-given N.Broadcast (group-row t Ipv4 refl refl),
         taken-given N.Netmask (group-row t Ipv4 refl refl),
+        taken-given N.Ipv6Address (group-row t Ipv6 refl refl),
+        taken-given N.Ipv6Gateway (group-row t Ipv6 refl refl),
+        kept-no Iwd file (keySlot x (base Ipv6 0) N.Enabled) (entryOf (word "Enabled") (entriesIn (word "IPv6") (reverse gs))) (row-key N.Enabled (group-row t Ipv6 refl refl)),
       )

@@ -3,12 +3,11 @@ use Prim.Native.Nat.{ℕ, _≤_, _<_}
 use native.Mathlib.Omega.{arith}
 use mathlib.Core.Path.{_≡_, refl, ap, sym, _∙_, subst}
 use mathlib.Core.Bool.{Bool, true, false, not}
-use mathlib.Core.List.{List}
+use mathlib.Core.List.{List, []}
 use borrow.Author.Tests.{le-leb, lt-leb, not-true, not-false}
 use lib.ListN.{length, take}
 use Rattle.put.specs.Put.{Wrote}
 use Rattle.put.specs.Laws.{wrote-front}
-use Rattle.connman_ipv4.specs.declared.Ipv4.{Ipv4}
 use Rattle.names.specs.Names.{fileName}
 use Rattle.names.specs.declared.Suffix.{Suffix}
 use Rattle.rules.specs.declared.Answer.the-variants.{Good}
@@ -17,7 +16,7 @@ use Rattle.records.specs.Record.{joined}
 use Rattle.records.specs.Formed.{formed}
 use Rattle.records.specs.declared.JoinRecord.{JoinRecord}
 use Rattle.written.specs.Written.{hasPlace, nameText, fileText}
-use Rattle.written.specs.RecordParts.{recordIpv4, numbersIn, SuffixOf}
+use Rattle.written.specs.RecordParts.{SuffixOf}
 use Rattle.writer.specs.Writing.{room, refuses, writingOf, writing, writtenAnswer, Writes}
 use Rattle.writer.specs.declared.Written.{Written}
 
@@ -56,17 +55,14 @@ module _ (r : JoinRecord) (s : List (List ℕ)) (n f : List ℕ) {t : Bool} (e :
   unfolding writing
   malformed l {a} g = rw (sym e ∙ not-true t l) (record { answer = g; name = refl; file = refl })
 
-  module _ (l : not t ≡ false) {i : Ipv4} (k : i ≡ recordIpv4 r) {p : Bool} (d : p ≡ hasPlace (numbersIn i)) where
+  module _ (l : not t ≡ false) {p : Bool} (d : p ≡ hasPlace (joined r [])) where
     pub well-formed : formed r s ≡ true
     well-formed = sym e ∙ not-false t l
 
-    placed-is : p ≡ hasPlace (joined r s .ipv4)
-    placed-is = d ∙ ap (λ (x : Ipv4). hasPlace (numbersIn x)) k
-
     pub unplaced : not p ≡ true → {a : Written} → a ≡ writtenAnswer (refuses NoPlace 0) → Writes (writing r s n f) n f n f a
     unfolding writing
-    unplaced q {a} g = rw (well-formed, sym placed-is ∙ not-true p q) (record { answer = g; name = refl; file = refl })
+    unplaced q {a} g = rw (well-formed, sym d ∙ not-true p q) (record { answer = g; name = refl; file = refl })
 
     pub placed : not p ≡ false → {x y : List ℕ} {a : Written} → Writes (writingOf (joined r s) n f) n f x y a → Writes (writing r s n f) n f x y a
     unfolding writing
-    placed q w = rw (well-formed, sym placed-is ∙ not-false p q) w
+    placed q w = rw (well-formed, sym d ∙ not-false p q) w

@@ -9,9 +9,9 @@ use lib.Dec.{eqb}
 use lib.ListN.{take, drop}
 use Rattle.text.specs.Bytes.{between}
 use Rattle.text.specs.Laws.{and-true, between-high}
-use Rattle.connman_ipv4.specs.declared.Method.{Method}
-use Rattle.connman_ipv4.specs.declared.Method.the-variants.{Dhcp, Off, Static}
-use Rattle.records.specs.Formed.{passphraseText, zeros, zeroRows, held, credentialFormed, unaddressed, ipv4Formed, serversFormed, formed}
+use Rattle.addressing.specs.declared.Method.{Method}
+use Rattle.addressing.specs.declared.Method.the-variants.{Auto, Off, Static}
+use Rattle.records.specs.Formed.{passphraseText, zeros, zeroRows, held, credentialFormed, unaddressed, addressingFormed, serversFormed, formed}
 use Rattle.records.specs.Laws.{formed-parts}
 use Rattle.records.specs.declared.Credential.{Credential}
 use Rattle.records.specs.declared.Credential.the-variants as C
@@ -33,8 +33,8 @@ unaddressed-most a n h g e =
     let q = and-true (zeros a && eqb n 0) (not h && zeros g) e .0 in
     omega (arith, eqb-true n 0 (and-true (zeros a) (eqb n 0) q .1))
 
-ipv4-most : (m : Method) (a : List ℕ) (n : ℕ) (h : Bool) (g : List ℕ) → ipv4Formed m a n h g ≡ true → n ≤ 32
-ipv4-most Dhcp a n h g e = unaddressed-most a n h g e
+ipv4-most : (m : Method) (a : List ℕ) (n : ℕ) (h : Bool) (g : List ℕ) → addressingFormed 32 m a n h g ≡ true → n ≤ 32
+ipv4-most Auto a n h g e = unaddressed-most a n h g e
 ipv4-most Off a n h g e = unaddressed-most a n h g e
 ipv4-most Static a n h g e = between-high {x = n} 1 32 (and-true (between 1 32 n) (h || zeros g) e .0)
 

@@ -67,13 +67,13 @@ ample-writes j n f w a =
 pub data WritingIs (r : JoinRecord) (s : List (List ℕ)) (n f : List ℕ) : Writing → Type 0 where
   malformed : WritingIs r s n f (refuses Malformed 0)
   no-place : WritingIs r s n f (refuses NoPlace 0)
-  placed : formed r s ≡ true → hasPlace (joined r s .ipv4) ≡ true → WritingIs r s n f (writingOf (joined r s) n f)
+  placed : formed r s ≡ true → hasPlace (joined r s) ≡ true → WritingIs r s n f (writingOf (joined r s) n f)
 
 pub writing-is : (r : JoinRecord) (s : List (List ℕ)) (n f : List ℕ) → WritingIs r s n f (writing r s n f)
 unfolding writing
-writing-is r s n f = go (formed r s) refl (hasPlace (joined r s .ipv4)) refl
+writing-is r s n f = go (formed r s) refl (hasPlace (joined r s)) refl
   where
-    go : (b : Bool) → formed r s ≡ b → (p : Bool) → hasPlace (joined r s .ipv4) ≡ p →
+    go : (b : Bool) → formed r s ≡ b → (p : Bool) → hasPlace (joined r s) ≡ p →
         WritingIs r s n f (cond b (cond p (writingOf (joined r s) n f) (refuses NoPlace 0)) (refuses Malformed 0))
     go true e true q = placed e q
     go true e false q = no-place
@@ -91,7 +91,7 @@ writing-never-17 r s n f a h = go (writing r s n f) (writing-is r s n f)
 
 -- ---- a record that is laid out
 
-pub laid-writing : (j : Join) (n f : List ℕ) → WellFormed j → hasPlace (j .ipv4) ≡ true →
+pub laid-writing : (j : Join) (n f : List ℕ) → WellFormed j → hasPlace j ≡ true →
     writing (laid j) (laidServers j) n f ≡ writingOf j n f
 unfolding writing
 laid-writing j n f w p =

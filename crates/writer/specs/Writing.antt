@@ -36,7 +36,7 @@ writingOf j n f = cond (room (nameText j) n && room (fileText j) f) (writes (nam
 
 -- 16, before 17
 abbrev pub writingPlaced : Join → List ℕ → List ℕ → Writing
-writingPlaced j n f = cond (hasPlace (j .ipv4)) (writingOf j n f) (refuses NoPlace 0)
+writingPlaced j n f = cond (hasPlace j) (writingOf j n f) (refuses NoPlace 0)
 
 -- 19, before both
 unfoldable pub writing : JoinRecord → List (List ℕ) → List ℕ → List ℕ → Writing

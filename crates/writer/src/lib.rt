@@ -74,7 +74,7 @@ pub fn write_iwd(r: JoinRecord, servers: [[u8; 4]; 4], name: &mut [u8], file: &m
     if !records::is_well_formed(r, servers) {
         return refused(Refusal::Malformed, 0);
     }
-    if !parts::has_place(parts::numbers(r)) {
+    if !parts::has_place(r) {
         return refused(Refusal::NoPlace, 0);
     }
     write_placed(r, servers, name, file)

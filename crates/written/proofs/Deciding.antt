@@ -1,15 +1,17 @@
--- Whether the IPv4 group has a setting, whether iwd has a place for an IPv4, and a credential's suffix, by their cases.
+-- Whether the IPv4 group has a setting, and whether iwd has a place for an address and for a record, by their cases.
 use Prim.Native.Nat.{ℕ, zero, suc}
 use native.Mathlib.Omega.{arith}
-use mathlib.Core.Path.{_≡_, refl, sym}
+use mathlib.Core.Path.{_≡_, refl, sym, _∙_}
 use mathlib.Core.Bool.{Bool, true, false}
 use mathlib.Core.List.{List, [], _∷_, _++_}
 use lib.ListN.{length, take}
-use Rattle.connman_ipv4.specs.ConnmanIpv4.{IPv4}
+use Rattle.addressing.specs.Addressing.{Addressing, static, gatewayIf}
 use Rattle.connman_ipv4.specs.declared.Ipv4.{Ipv4}
-use Rattle.connman_ipv4.specs.declared.Method.the-variants.{Dhcp, Off, Static}
-use Rattle.written.specs.Written.{WrittenRow, numberRows, serverRows, domainRows, ipv4Rows, hasPlace}
-use Rattle.written.specs.RecordParts.{numbersIn}
+use Rattle.addressing.specs.declared.Method.the-variants.{Auto, Off, Static}
+use Rattle.records.specs.Record.{joined}
+use Rattle.records.specs.declared.JoinRecord.{JoinRecord}
+use Rattle.written.specs.Written.{WrittenRow, numberRows, serverRows, domainRows, ipv4Rows, routed, ipv4Placed, ipv6Placed, hasPlace}
+use Rattle.written.specs.RecordParts.{numbersIn, PlacedBy}
 use Rattle.written.specs.Texts.{someRow}
 
 some-behind : (a b : List WrittenRow) → someRow b ≡ true → someRow (a ++ b) ≡ true
@@ -29,7 +31,7 @@ domain-row : (d : List ℕ) → (length d ≡ 0 → ⊥) → someRow (domainRows
 domain-row [] h = absurd (h refl)
 domain-row (c ∷ d) h = refl
 
-module _ (i : IPv4) (l : List (List ℕ)) (d : List ℕ) where
+module _ (i : Addressing) (l : List (List ℕ)) (d : List ℕ) where
   pub some-servers : (n : ℕ) → (n ≡ 0 → ⊥) → length l ≡ 4 → true ≡ someRow (ipv4Rows i (take n l) d)
   some-servers n h e = sym (some-front (numberRows i ++ serverRows (take n l)) (domainRows d) (some-behind (numberRows i) (serverRows (take n l)) (server-row n l h e)))
 
@@ -42,7 +44,7 @@ no-domain (c ∷ d) e = absurd (omega (arith, e))
 
 -- with neither servers nor domain the method decides
 module _ (i : Ipv4) (l : List (List ℕ)) {n : ℕ} (d : List ℕ) (p : n ≡ 0) (q : length d ≡ 0) where
-  pub dhcp-row : i .method ≡ Dhcp → false ≡ someRow (ipv4Rows (numbersIn i) (take n l) d)
+  pub dhcp-row : i .method ≡ Auto → false ≡ someRow (ipv4Rows (numbersIn i) (take n l) d)
   dhcp-row e = rw (p, e, no-domain d q)
 
   pub off-row : i .method ≡ Off → false ≡ someRow (ipv4Rows (numbersIn i) (take n l) d)
@@ -51,16 +53,18 @@ module _ (i : Ipv4) (l : List (List ℕ)) {n : ℕ} (d : List ℕ) (p : n ≡ 0)
   pub static-row : i .method ≡ Static → true ≡ someRow (ipv4Rows (numbersIn i) (take n l) d)
   static-row e = rw e
 
-module _ (i : Ipv4) where
-  pub dhcp-place : i .method ≡ Dhcp → true ≡ hasPlace (numbersIn i)
-  dhcp-place e = rw e
+-- a static address has a place where it has a gateway
+pub static-routed : (a : List ℕ) (n : ℕ) (h : Bool) (g : List ℕ) → h ≡ routed (static a n (gatewayIf h g))
+static-routed a n true g = refl
+static-routed a n false g = refl
 
-  pub off-place : i .method ≡ Off → false ≡ hasPlace (numbersIn i)
-  off-place e = rw e
+-- a record has a place where both its IPv4 and its IPv6 have one
+module _ (r : JoinRecord) {p : Bool} (u : PlacedBy ipv4Placed (r .ipv4) (r .«has_gateway») p) where
+  first : p ≡ ipv4Placed (joined r [] .ipv4)
+  first = u .is (r .address) (r .length) (r .gateway)
 
-  pub static-place : i .method ≡ Static → i .«has_gateway» ≡ hasPlace (numbersIn i)
-  static-place e = rw e (go (i .«has_gateway»))
-    where
-      go : (h : Bool) → h ≡ hasPlace (Rattle.connman_ipv4.specs.ConnmanIpv4.static (i .address) (i .length) (Rattle.records.specs.Record.gatewayIf h (i .gateway)))
-      go true = refl
-      go false = refl
+  pub both-placed : p ≡ true → {q : Bool} → PlacedBy ipv6Placed (r .ipv6) (r .«has_ipv6_gateway») q → q ≡ hasPlace (joined r [])
+  both-placed e v = rw (sym first ∙ e) (v .is (r .«ipv6_address») (r .«ipv6_length») (r .«ipv6_gateway»))
+
+  pub ipv4-unplaced : p ≡ false → p ≡ hasPlace (joined r [])
+  ipv4-unplaced e = rw (sym first ∙ e) e

@@ -22,7 +22,7 @@ settingsRoom = (word "[Settings]", 0) ∷ (word "Hidden=", length (word "true"))
 abbrev pub securityRoom : List LineRoom
 securityRoom = (word "[Security]", 0) ∷ (word "Passphrase=", 2 * 63) ∷ []
 
--- the greatest length of an address or a netmask
+-- the greatest length of an IPv4 address or a netmask
 abbrev pub addressMax : ℕ
 addressMax = length (word "255.255.255.255")
 
@@ -40,8 +40,13 @@ domainRoom = (word "DomainName=", 2 * 253) ∷ []
 abbrev pub ipv4Room : List LineRoom
 ipv4Room = (word "[IPv4]", 0) ∷ numberRoom ++ serverRoom ++ domainRoom
 
+-- the greatest length of an IPv6 address
+abbrev pub ipv6Max : ℕ
+ipv6Max = length (word "ffff:ffff:ffff:ffff:ffff:ffff:ffff:ffff")
+
+-- an address and its length; `Enabled=false`, which stands in its place, is shorter
 abbrev pub ipv6Room : List LineRoom
-ipv6Room = (word "[IPv6]", 0) ∷ (word "Enabled=", length (word "false")) ∷ []
+ipv6Room = (word "[IPv6]", 0) ∷ (word "Address=", ipv6Max + length (word "/128")) ∷ (word "Gateway=", ipv6Max) ∷ []
 
 abbrev pub fileRoom : List LineRoom
 fileRoom = settingsRoom ++ securityRoom ++ ipv4Room ++ ipv6Room

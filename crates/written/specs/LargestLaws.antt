@@ -7,6 +7,7 @@ use Rattle.utf8.specs.Utf8.{follow, utf8From, text}
 use Rattle.escapes.specs.Escapes.{escapeFrom}
 use Rattle.hex.specs.Hex.{hex}
 use Rattle.addresses.specs.Addresses.{decimal, dotted, maskBytes}
+use Rattle.ipv6.specs.Ipv6.{groupDigits, longest, canonical}
 use Rattle.names.specs.Names.{NetworkName, stem, nameMax}
 use Rattle.records.specs.Formed.{WellFormed}
 use Rattle.written.specs.Written.{nameText, fileText}
@@ -25,6 +26,7 @@ file-good =
       ipv4 = record { address = refl; low = omega arith; high = omega arith; gateway = refl };
       servers = record { high = omega arith; addresses = refl };
       domain = record { high = omega arith; text = refl };
+      ipv6 = record { address = refl; low = omega arith; high = omega arith; gateway = refl };
     }
 
 name-good : WellFormed largestName
@@ -36,11 +38,12 @@ name-good =
       ipv4 = tt;
       servers = record { high = omega arith; addresses = refl };
       domain = record { high = omega arith; text = refl };
+      ipv6 = tt;
     }
 
 -- the name is one byte shorter than another can be
 pub largest-file : Takes largestFile (nameMax - 1) fileMax
-unfolding nameText fileText stem isPlain hex escapeFrom dotted decimal maskBytes
+unfolding nameText fileText stem isPlain hex escapeFrom dotted decimal maskBytes groupDigits longest canonical
 largest-file = record { good = file-good; placed = refl; name = refl; file = refl }
 
 pub largest-name : Takes largestName nameMax 0

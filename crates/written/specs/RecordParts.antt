@@ -1,14 +1,15 @@
 -- A record's parts as the code has them, and the settings that they give.
 use Prim.Native.Nat.{ℕ, _≤_}
 use mathlib.Core.Path.{_≡_}
-use mathlib.Core.Bool.{true}
+use mathlib.Core.Bool.{Bool, true}
 use mathlib.Core.List.{List, _∷_}
 use Rattle.text.specs.Words.{word}
 use Rattle.addresses.specs.Addresses.{dotted, maskBytes}
-use Rattle.connman_ipv4.specs.ConnmanIpv4.{IPv4}
+use Rattle.addressing.specs.Addressing.{Addressing, gatewayIf, addressingIn}
+use Rattle.addressing.specs.declared.Method.{Method}
 use Rattle.connman_ipv4.specs.declared.Ipv4.{Ipv4}
 use Rattle.names.specs.declared.Suffix.{Suffix}
-use Rattle.records.specs.Record.{gatewayIf, secretOf, ipv4In}
+use Rattle.records.specs.Record.{secretOf}
 use Rattle.records.specs.declared.Credential.{Credential}
 use Rattle.records.specs.declared.JoinRecord.{JoinRecord}
 use Rattle.written.specs.Written.{WrittenRow, gatewayRows, suffixFor}
@@ -17,12 +18,16 @@ use Rattle.written.specs.Written.{WrittenRow, gatewayRows, suffixFor}
 abbrev pub recordIpv4 : JoinRecord → Ipv4
 recordIpv4 r = record { ok = true; method = r .ipv4; address = r .address; length = r .length; «has_gateway» = r .«has_gateway»; gateway = r .gateway }
 
-abbrev pub numbersIn : Ipv4 → IPv4
-numbersIn i = ipv4In (i .method) (i .address) (i .length) (i .«has_gateway») (i .gateway)
+abbrev pub numbersIn : Ipv4 → Addressing
+numbersIn i = addressingIn (i .method) (i .address) (i .length) (i .«has_gateway») (i .gateway)
 
 -- the settings of one that is static
 abbrev pub staticRows : Ipv4 → List WrittenRow
-staticRows i = (word "Address", dotted (i .address)) ∷ (word "Netmask", dotted (maskBytes (i .length))) ∷ gatewayRows (gatewayIf (i .«has_gateway») (i .gateway))
+staticRows i = (word "Address", dotted (i .address)) ∷ (word "Netmask", dotted (maskBytes (i .length))) ∷ gatewayRows dotted (gatewayIf (i .«has_gateway») (i .gateway))
+
+-- r is what place says of an address by its method m and by h, whether it has a gateway
+pub record PlacedBy (place : Addressing → Bool) (m : Method) (h r : Bool) : Type 0 where
+  pub is : (a : List ℕ) (n : ℕ) (g : List ℕ) → r ≡ place (addressingIn m a n h g)
 
 -- the suffix by the credential alone
 pub record SuffixOf (c : Credential) (r : Suffix) : Type 0 where

@@ -7,7 +7,7 @@ ghost use Rattle.written.specs.GreatestLengths.{fileMax};
 // How many bytes the longest name has, and the longest file.
 pub const NAME_MAX: usize = 70;
 
-pub const FILE_MAX: usize = 858;
+pub const FILE_MAX: usize = 944;
 
 pub type NewName = [u8; NAME_MAX];
 

@@ -1,13 +1,13 @@
 // The parts of a record that decide what is written.
 ghost use mathlib.Core.Path.{_≡_};
-ghost use Prim.Native.Nat.{_≤_};
+ghost use mathlib.Core.List.{[]};
 ghost use lib.ListN.{take};
-ghost use Rattle.records.specs.Record.{secretOf, ipv4In};
-ghost use Rattle.written.specs.Written.{ipv4Rows, suffixFor, hasPlace};
+ghost use Rattle.records.specs.Record.{joined};
+ghost use Rattle.written.specs.Written.{ipv4Rows, ipv4Placed, ipv6Placed, hasPlace};
 ghost use Rattle.written.specs.Texts.{someRow};
-ghost use Rattle.written.specs.RecordParts.{recordIpv4, numbersIn, SuffixOf};
+ghost use Rattle.written.specs.RecordParts.{recordIpv4, numbersIn, PlacedBy, SuffixOf};
+use addressing::Method;
 use connman_ipv4::Ipv4;
-use connman_ipv4::Method;
 use names::Suffix;
 use records::Credential;
 use records::JoinRecord;
@@ -41,15 +41,34 @@ pub fn numbers(r: JoinRecord) -> Ipv4
 }
 
 // Whether iwd has a place for an IPv4: it has none for `off`, and none for an address without a gateway.
-pub fn has_place(i: Ipv4) -> bool
-    ensures { λ r. ⌜ r ≡ hasPlace (numbersIn i) ⌝ }
+pub fn ipv4_placed(method: Method, routed: bool) -> bool
+    ensures { λ r. ⌜ PlacedBy ipv4Placed method routed r ⌝ }
 {
-    let method = i.method;
     match method {
-        Method::Dhcp => true,
+        Method::Auto => true,
         Method::Off => false,
-        Method::Static => i.has_gateway,
+        Method::Static => routed,
     }
+}
+
+// Whether iwd has a place for an IPv6: it has none for an address without a gateway.
+pub fn ipv6_placed(method: Method, routed: bool) -> bool
+    ensures { λ r. ⌜ PlacedBy ipv6Placed method routed r ⌝ }
+{
+    match method {
+        Method::Auto => true,
+        Method::Off => true,
+        Method::Static => routed,
+    }
+}
+
+// Whether iwd has a place for a record, whatever its name servers.
+pub fn has_place(r: JoinRecord) -> bool
+    ensures { λ p. ⌜ p ≡ hasPlace (joined r []) ⌝ }
+{
+    let ipv4 = r.ipv4;
+    let ipv6 = r.ipv6;
+    ipv4_placed(ipv4, r.has_gateway) && ipv6_placed(ipv6, r.has_ipv6_gateway)
 }
 
 // Whether the IPv4 group has a setting.
@@ -64,7 +83,7 @@ pub fn has_ipv4(i: Ipv4, servers: [[u8; 4]; 4], count: usize, domain: &[u8]) -> 
         return true;
     }
     match method {
-        Method::Dhcp => false,
+        Method::Auto => false,
         Method::Off => false,
         Method::Static => true,
     }

@@ -5,7 +5,7 @@
 //! the line `nothing` for its places.
 
 use crate::ask::{read, read_service};
-use crate::show::{flag, hex_front, is_zero, servers, text_front, unused, word, Ipv4, Lines};
+use crate::show::{flag, hex_front, is_zero, servers, text_front, unused, word, Addressing, Lines};
 use crate::written::{decoded, hex, number, parts};
 use qewaris::raw;
 
@@ -35,18 +35,23 @@ pub fn answer(case: &[u8]) -> Result<Vec<u8>, String> {
 /// Every place but the name servers.
 fn places(lines: &mut Lines, record: &raw::Record) {
     let passphrase = text_front(&record.passphrase, record.passphrase_len.into());
-    let ipv4 = Ipv4 {
-        method: record.ipv4,
+    let ipv4 = Addressing {
         address: record.address,
         prefix_length: record.prefix_length,
         has_gateway: record.has_gateway,
         gateway: record.gateway,
     };
+    let ipv6 = Addressing {
+        address: record.ipv6_address,
+        prefix_length: record.ipv6_prefix_length,
+        has_gateway: record.has_ipv6_gateway,
+        gateway: record.ipv6_gateway,
+    };
     let domain = text_front(&record.domain, record.domain_len.into());
     lines.key("name", &hex_front(&record.name, record.name_len.into()));
     lines.key("credential", &(credential(record) + &passphrase));
     lines.key("hidden", &flag(record.hidden));
-    lines.key("IPv4", &ipv4.shown());
+    lines.key("IPv4", &ipv4.of_record(record.ipv4));
     lines.key("name servers", &record.server_count.to_string());
     lines.key(
         "domain",
@@ -56,7 +61,7 @@ fn places(lines: &mut Lines, record: &raw::Record) {
             domain
         }),
     );
-    lines.key("IPv6", &word(record.ipv6, &["auto", "off"]));
+    lines.key("IPv6", &ipv6.of_record(record.ipv6));
 }
 
 /// The credential and its key; a key that is not in use is zero.

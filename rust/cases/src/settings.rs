@@ -5,7 +5,7 @@
 //! number, line and bytes. A refusal whose other places are all zero has the line `nothing` for its keys.
 
 use crate::ask::{read, read_service, zero};
-use crate::show::{dotted, hex_front, is_zero, servers, unused, word, Ipv4, Lines};
+use crate::show::{dotted, grouped, hex_front, is_zero, servers, unused, word, Addressing, Lines};
 use crate::written::{decoded, encoded, hex, number, parts};
 use qewaris::raw;
 
@@ -40,7 +40,7 @@ fn iwd(lines: &mut Lines, name: &[u8], file: &[u8]) {
 }
 
 fn iwd_keys(lines: &mut Lines, found: &raw::IwdSettings) {
-    let (general, security, ipv4) = (&found.general, &found.security, &found.ipv4);
+    let (general, security, ipv4, ipv6) = (&found.general, &found.security, &found.ipv4, &found.ipv6);
     lines.key("AutoConnect", &choice(general.auto_connect));
     lines.key("Hidden", &choice(general.hidden));
     lines.key("AlwaysRandomizeAddress", &choice(general.always_randomize_address));
@@ -57,7 +57,17 @@ fn iwd_keys(lines: &mut Lines, found: &raw::IwdSettings) {
     lines.key("DNS", &counted(ipv4.dns_count));
     lines.key("DomainName", &string(ipv4.domain_name_line));
     lines.key("SendHostname", &choice(ipv4.send_hostname));
-    lines.key("Enabled", &choice(found.ipv6_enabled));
+    lines.key("Enabled", &choice(ipv6.enabled));
+    lines.key("IPv6 Address", &ipv6_address(ipv6));
+    lines.key("IPv6 Gateway", &given(ipv6.has_gateway, &ipv6.gateway, |_| grouped(ipv6.gateway)));
+}
+
+/// The address of iwd's group IPv6, with its length.
+pub(crate) fn ipv6_address(ipv6: &raw::IwdIpv6) -> String {
+    match ipv6.has_address {
+        1 => format!("{}/{}", grouped(ipv6.address), ipv6.prefix_length),
+        has => given(has, &ipv6.address, hex) + unused(ipv6.prefix_length == 0),
+    }
 }
 
 /// The settings of a ConnMan service.
@@ -77,7 +87,7 @@ fn connman(lines: &mut Lines, name: &[u8], file: &[u8], service: usize) {
 fn connman_keys(lines: &mut Lines, network: &raw::ServiceNetwork, addresses: &raw::ServiceAddresses) {
     lines.key("Type", &word(network.service_type, &["absent", "wifi", "ethernet"]));
     lines.key("IPv4", &ipv4(addresses));
-    lines.key("IPv6", &word(addresses.ipv6, &["absent", "off", "auto"]));
+    lines.key("IPv6", &ipv6(addresses));
     lines.key(
         "IPv6.Privacy",
         &word(addresses.privacy, &["absent", "disabled", "enabled", "preferred"]),
@@ -148,17 +158,23 @@ fn ssid(network: &raw::ServiceNetwork) -> String {
 }
 
 pub(crate) fn ipv4(addresses: &raw::ServiceAddresses) -> String {
-    let shown = Ipv4 {
-        method: addresses.ipv4.saturating_sub(1),
+    let ipv4 = Addressing {
         address: addresses.address,
         prefix_length: addresses.prefix_length,
         has_gateway: addresses.has_gateway,
         gateway: addresses.gateway,
     };
-    match addresses.ipv4 {
-        0 => format!("absent{}", unused(shown.is_unnumbered())),
-        _ => shown.shown(),
-    }
+    ipv4.of_service(addresses.ipv4)
+}
+
+pub(crate) fn ipv6(addresses: &raw::ServiceAddresses) -> String {
+    let ipv6 = Addressing {
+        address: addresses.ipv6_address,
+        prefix_length: addresses.ipv6_prefix_length,
+        has_gateway: addresses.has_ipv6_gateway,
+        gateway: addresses.ipv6_gateway,
+    };
+    ipv6.of_service(addresses.ipv6)
 }
 
 /// How many entries there are, and where in the file each of them stands.

@@ -57,6 +57,11 @@ pub fn dotted(address: [u8; 4]) -> String {
     address.map(|byte| byte.to_string()).join(".")
 }
 
+/// Sixteen bytes as eight groups, each with its four digits.
+pub fn grouped(address: [u8; 16]) -> String {
+    address.chunks(2).map(hex).collect::<Vec<_>>().join(":")
+}
+
 /// The four addresses of sixteen bytes.
 pub fn four(bytes: &[u8; 16]) -> [[u8; 4]; 4] {
     std::array::from_fn(|place| std::array::from_fn(|byte| bytes[4 * place + byte]))
@@ -78,33 +83,54 @@ pub fn word(code: u8, words: &[&str]) -> String {
         .map_or_else(|| format!("code {code}"), |word| word.to_string())
 }
 
-/// An IPv4: a method, and of a static one the address, the length of its mask and perhaps a gateway.
-pub struct Ipv4 {
-    /// 0 dhcp, 1 off, 2 static.
-    pub method: u8,
-    pub address: [u8; 4],
+/// An IPv4 or an IPv6: of a static one the address, its length and perhaps a gateway.
+pub struct Addressing<const N: usize> {
+    pub address: [u8; N],
     pub prefix_length: u8,
     pub has_gateway: u8,
-    pub gateway: [u8; 4],
+    pub gateway: [u8; N],
 }
 
-impl Ipv4 {
+impl<const N: usize> Addressing<N> {
     /// Whether it holds no address, length or gateway.
-    pub fn is_unnumbered(&self) -> bool {
+    fn is_unnumbered(&self) -> bool {
         is_zero(&self.address) && self.prefix_length == 0 && self.has_gateway == 0 && is_zero(&self.gateway)
     }
 
-    pub fn shown(&self) -> String {
-        match self.method {
-            2 => {
-                let address = format!("{}/{}", dotted(self.address), self.prefix_length);
-                match self.has_gateway {
-                    0 => address + unused(is_zero(&self.gateway)),
-                    1 => address + " via " + &dotted(self.gateway),
-                    code => format!("{address} code {code}"),
-                }
-            }
-            method => word(method, &["dhcp", "off"]) + unused(self.is_unnumbered()),
+    /// It as it is shown under a code: one of these words, or behind them a static one, whose addresses are shown by `text`.
+    fn shown(&self, code: u8, words: &[&str], text: fn([u8; N]) -> String) -> String {
+        if usize::from(code) != words.len() {
+            return word(code, words) + unused(self.is_unnumbered());
         }
+        let address = format!("{}/{}", text(self.address), self.prefix_length);
+        match self.has_gateway {
+            0 => address + unused(is_zero(&self.gateway)),
+            1 => address + " via " + &text(self.gateway),
+            code => format!("{address} code {code}"),
+        }
+    }
+}
+
+impl Addressing<4> {
+    /// A record's IPv4.
+    pub fn of_record(&self, code: u8) -> String {
+        self.shown(code, &["dhcp", "off"], dotted)
+    }
+
+    /// A service's IPv4, which may be absent.
+    pub fn of_service(&self, code: u8) -> String {
+        self.shown(code, &["absent", "dhcp", "off"], dotted)
+    }
+}
+
+impl Addressing<16> {
+    /// A record's IPv6.
+    pub fn of_record(&self, code: u8) -> String {
+        self.shown(code, &["auto", "off"], grouped)
+    }
+
+    /// A service's IPv6, which may be absent.
+    pub fn of_service(&self, code: u8) -> String {
+        self.shown(code, &["absent", "auto", "off"], grouped)
     }
 }

@@ -61,7 +61,16 @@ fn a_case_of_another_form_is_an_error() {
         ),
         (settings::answer, &["Desk.open", "shop.config one [service_a]", "shop.config -1"]),
         (records::answer, &["Desk.open", "shop.config +1", "shop.config"]),
-        (writing::answer, &["Desk.open 9", "Desk.open 9 x", "!new 9 0", "Desk.psk 9 0"]),
+        (
+            writing::answer,
+            &[
+                "Desk.open 9",
+                "Desk.open 9 x",
+                "!new 9 0",
+                "!ipv6-auto+ipv6-length-256 9 0",
+                "Desk.psk 9 0",
+            ],
+        ),
         (moving::answer, &["shop.config 1 10", "shop.config 1 10 x", "shop.config - 10 167"]),
     ];
     for (answer, rows) in forms {

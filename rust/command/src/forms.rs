@@ -11,7 +11,7 @@ use std::ffi::OsStr;
 use std::os::unix::ffi::OsStrExt;
 use std::path::{Path, PathBuf};
 
-const FORMAT: usize = 3;
+const FORMAT: usize = 4;
 
 /// How a file came out.
 pub enum State<'a> {

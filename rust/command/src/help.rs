@@ -103,10 +103,10 @@ Usage:
   qewaris list [OPTION]... PATH...
 
 A row tells the file, the network, its key or that it is OPEN, whether it is
-hidden, its address, whether it moves to iwd, and what to do. What only several
-files can tell stands above: one network with two different keys, one address on
-two tills, a network that is open in one file and has a key in another. No
-secret is told, nor how long one is.
+hidden, its addresses, whether it moves to iwd, and what to do. What only
+several files can tell stands above: one network with two different keys, one
+address on two tills, a network that is open in one file and has a key in
+another. No secret is told, nor how long one is.
 
 Options:
       --json             for programs; the man page tells the form

@@ -2,6 +2,7 @@
 //!
 //! What is good and what is not the library says; this is the tool around it.
 
+mod addressing;
 mod advice;
 mod arguments;
 mod check;

@@ -97,7 +97,11 @@ fn padded_field(name: &str, bytes: &[u8]) -> Field {
 
 fn iwd_settings_fields(settings: &raw::IwdSettings) -> Vec<Field> {
     let raw::IwdSettings {
-        general, security, ipv4, ..
+        general,
+        security,
+        ipv4,
+        ipv6,
+        ..
     } = settings;
     [
         members!(settings, number, line),
@@ -112,7 +116,8 @@ fn iwd_settings_fields(settings: &raw::IwdSettings) -> Vec<Field> {
         members!(security, passphrase_line, has_pre_shared_key, pre_shared_key, reserved),
         members!(ipv4, domain_name_line, dns_count, dns, has_address, address, has_gateway, gateway),
         members!(ipv4, has_broadcast, broadcast, netmask_length, send_hostname, reserved),
-        members!(settings, ipv6_enabled, reserved),
+        members!(ipv6, enabled, has_address, address, prefix_length, has_gateway, gateway),
+        members!(settings, reserved),
     ]
     .concat()
 }
@@ -133,14 +138,14 @@ fn service_settings_fields(settings: &raw::ServiceSettings) -> Vec<Field> {
             reserved
         ),
         members!(addresses, domain_line, search_domains, timeservers, nameserver_count, nameservers),
+        members!(addresses, ipv4, address, prefix_length, has_gateway, gateway),
         members!(
             addresses,
-            ipv4,
-            address,
-            prefix_length,
-            has_gateway,
-            gateway,
             ipv6,
+            ipv6_address,
+            ipv6_prefix_length,
+            has_ipv6_gateway,
+            ipv6_gateway,
             privacy,
             has_mac,
             mac,
@@ -168,6 +173,10 @@ pub fn record_fields(record: &raw::Record) -> Vec<Field> {
         servers,
         domain_len,
         ipv6,
+        ipv6_address,
+        ipv6_prefix_length,
+        has_ipv6_gateway,
+        ipv6_gateway,
     );
     fields.push(padded_field("name", &record.name));
     fields.push(padded_field("passphrase", &record.passphrase));

@@ -1,9 +1,10 @@
 //! How often each entry point gave each answer, and whether every answer that can occur did; then how large what was written was, and
-//! which escapes were met.
+//! which escapes and which IPv6 addresses were met.
 
 use crate::case::Case;
 use crate::entry::{Entry, ENTRIES};
 use crate::escapes::Escapes;
+use crate::ipv6::Addresses;
 use crate::judged::Answers;
 use crate::sizes::Sizes;
 use std::fmt::Write;
@@ -17,6 +18,7 @@ pub struct Table {
     counts: [[u64; NUMBERS]; ENTRIES.len()],
     sizes: Sizes,
     escapes: Escapes,
+    addresses: Addresses,
 }
 
 impl Table {
@@ -24,6 +26,7 @@ impl Table {
     pub fn add(&mut self, case: &Case, answers: &Answers) {
         self.sizes.add(answers);
         self.escapes.add(case, answers);
+        self.addresses.add(case, answers);
         for (entry, outcome) in answers {
             if let Some(count) = self.counts[*entry as usize].get_mut(usize::from(outcome.answer.number())) {
                 *count += 1;
@@ -35,6 +38,7 @@ impl Table {
     pub fn merge(&mut self, other: &Table) {
         self.sizes.merge(&other.sizes);
         self.escapes.merge(&other.escapes);
+        self.addresses.merge(&other.addresses);
         let pairs = self.counts.iter_mut().flatten().zip(other.counts.iter().flatten());
         pairs.for_each(|(count, more)| *count += more);
     }
@@ -61,10 +65,10 @@ impl Table {
                 let _ = write!(text, "{cell:>8}");
             }
         }
-        [text, self.sizes.print(), self.escapes.print()].join("\n\n")
+        [text, self.sizes.print(), self.escapes.print(), self.addresses.print()].join("\n\n")
     }
 
-    /// The answers that can occur and did not, those that cannot and did, and the faults of the sizes and of the escapes.
+    /// The answers that can occur and did not, those that cannot and did, and the faults of the sizes, the escapes and the addresses.
     pub fn faults(&self) -> Vec<String> {
         let cells = ENTRIES.iter().flat_map(|&entry| (0..NUMBERS).map(move |number| (entry, number)));
         let wrong = cells.filter(|&(entry, number)| entry.can_answer(number) != (self.count(entry, number) > 0));
@@ -72,6 +76,7 @@ impl Table {
             .map(|(entry, number)| format!("{} answered {number} {} times", entry.name(), self.count(entry, number)))
             .chain(self.sizes.faults())
             .chain(self.escapes.faults())
+            .chain(self.addresses.faults())
             .collect()
     }
 }

@@ -3,7 +3,7 @@
 //! A file case is a header line, the name's line, and the file as it stands:
 //!
 //! ```text
-//! file 1 70 858 0
+//! file 1 70 944 0
 //! shop.config
 //! [service_till]
 //! Type = wifi
@@ -11,10 +11,10 @@
 //!
 //! The numbers are the service, the lengths of the buffers for the name and for the file, and the dirt (see `case::Buffers`). In
 //! the name's line `\n` is byte 10 and `\\` is a backslash; any other byte is itself. A record case is a header line and the
-//! record's 414 bytes in the order of the header file:
+//! record's 448 bytes in the order of the header file:
 //!
 //! ```text
-//! record 70 858 0
+//! record 70 944 0
 //! ```
 //!
 //! Every byte string is some case: a first line that begins with `r` is a record's, any other a file's; numbers that are
@@ -103,9 +103,12 @@ fn decode_name(line: &[u8]) -> Vec<u8> {
     name
 }
 
+/// How many bytes a record has.
+pub const RECORD_LENGTH: usize = 448;
+
 /// A record's bytes in the order of the header file.
 pub fn record_bytes(record: &raw::Record) -> Vec<u8> {
-    let parts: [&[u8]; 17] = [
+    let parts: [&[u8]; 21] = [
         &[record.name_len],
         &record.name,
         &[record.credential],
@@ -123,6 +126,10 @@ pub fn record_bytes(record: &raw::Record) -> Vec<u8> {
         &[record.domain_len],
         &record.domain,
         &[record.ipv6],
+        &record.ipv6_address,
+        &[record.ipv6_prefix_length],
+        &[record.has_ipv6_gateway],
+        &record.ipv6_gateway,
     ];
     parts.concat()
 }
@@ -148,6 +155,10 @@ pub fn record_of_bytes(bytes: &[u8]) -> raw::Record {
         domain_len: take::<1>(&mut rest)[0],
         domain: take(&mut rest),
         ipv6: take::<1>(&mut rest)[0],
+        ipv6_address: take(&mut rest),
+        ipv6_prefix_length: take::<1>(&mut rest)[0],
+        has_ipv6_gateway: take::<1>(&mut rest)[0],
+        ipv6_gateway: take(&mut rest),
     }
 }
 

@@ -5,8 +5,9 @@
 //! `shrink` makes a differing case small. `one` is for fuzzers.
 //!
 //! `cargo test -p judge --test million` runs a million cases and prints how often each entry point gave each answer, and what else the
-//! cases met; the other tests try the judge itself: `papers`, `open_points` and `backslashes` on the papers' own examples, `reach` what
-//! the generators reach, `shrinking` and `encodings` what their names say.
+//! cases met. `cargo test -p judge --test standard` compares IPv6 addresses, the judge's and the library's, with Rust's standard library.
+//! The other tests try the judge itself: `papers`, `open_points`, `backslashes` and `ipv6` on the papers' own examples, `reach` what the
+//! generators reach, `shrinking` and `encodings` what their names say.
 
 #![deny(unsafe_code)]
 
@@ -19,6 +20,7 @@ pub mod encoding;
 pub mod entry;
 pub mod escapes;
 pub mod generate;
+pub mod ipv6;
 pub mod judged;
 pub mod layout;
 pub mod library;

@@ -26,6 +26,11 @@ impl Met {
         }
     }
 
+    /// A table of things that are each met or not, with one column; they are counted with no bytes.
+    pub fn events(title: &'static str, events: &[&'static str]) -> Met {
+        Met::new(title, events.to_vec(), vec![("times", |_| true)])
+    }
+
     /// Counts the signs that the bytes at a place have.
     pub fn add(&mut self, place: usize, bytes: &[u8]) {
         for (count, (_, holds)) in self.counts[place].iter_mut().zip(&self.signs) {
@@ -41,12 +46,12 @@ impl Met {
 
     /// The table in print.
     pub fn print(&self) -> String {
-        let mut text = format!("{:<28}", self.title);
+        let mut text = format!("{:<34}", self.title);
         for (sign, _) in &self.signs {
             let _ = write!(text, "{sign:>14}");
         }
         for (place, row) in self.places.iter().zip(&self.counts) {
-            let _ = write!(text, "\n{place:<28}");
+            let _ = write!(text, "\n{place:<34}");
             for count in row {
                 let _ = write!(text, "{count:>14}");
             }

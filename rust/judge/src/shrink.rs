@@ -9,8 +9,8 @@ const TRIES: usize = 30_000;
 /// The plainest names.
 const PLAIN_NAMES: [&[u8]; 3] = [b"a.open", b"a.psk", b"a.config"];
 
-/// The parts of a record's bytes: credential with its places, hidden, IPv4 with its places, servers, domain, IPv6.
-const RECORD_PARTS: [std::ops::Range<usize>; 6] = [33..130, 130..131, 131..142, 142..159, 159..413, 413..414];
+/// The parts of a record's bytes: credential with its places, hidden, IPv4 with its places, servers, domain, IPv6 with its places.
+const RECORD_PARTS: [std::ops::Range<usize>; 6] = [33..130, 130..131, 131..142, 142..159, 159..413, 413..448];
 
 /// A smaller case that fails as well; `fails` says whether a case does.
 pub fn shrink(case: &Case, fails: &dyn Fn(&Case) -> bool) -> Case {

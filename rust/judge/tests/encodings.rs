@@ -65,10 +65,10 @@ fn seed_files_can_be_written_by_hand() {
 }
 
 #[test]
-fn a_record_is_its_414_bytes() {
-    let bytes: Vec<u8> = Random::new(1).bytes(414);
+fn a_record_is_its_448_bytes() {
+    let bytes: Vec<u8> = Random::new(1).bytes(448);
     assert_eq!(record_bytes(&record_of_bytes(&bytes)), bytes);
-    assert_eq!(record_bytes(&record_of_bytes(&[7])), [&[7][..], &[0; 413]].concat());
+    assert_eq!(record_bytes(&record_of_bytes(&[7])), [&[7][..], &[0; 447]].concat());
     let Case::Record(case) = decode(&[b"record 1 2 3\n", &bytes[..], b"more"].concat()) else {
         panic!("a record")
     };
@@ -96,7 +96,7 @@ fn a_lifted_record_is_laid_out_as_it_was() {
 fn the_library_agrees_at_seeds_and_at_any_bytes() {
     one(b"");
     one(b"file 1 10 167 1\nshop.config\n[service_till]\nType = wifi\nName = Desk 4\n");
-    one(b"record 70 858 0\n\x01a");
+    one(b"record 70 944 0\n\x01a");
     let mut random = Random::new(9);
     for _ in 0..500 {
         let length = random.below(600);
@@ -148,6 +148,28 @@ fn seeds_of_the_worked_move_are_one_another() {
 }
 
 #[test]
+fn seeds_write_addresses_as_they_are_to_be_written() {
+    let rows: [(&str, &[u8]); 4] = [
+        (
+            "connman-static-ipv6",
+            b"[IPv6]\nAddress=2001:db8::1:0:0:14/64\nGateway=fe80::c000:201\n",
+        ),
+        (
+            "connman-ipv6-forms",
+            b"[IPv6]\nAddress=::ffff:c000:201/128\nGateway=::ffff:8190:3426\n",
+        ),
+        ("record-static-ipv6", b"[IPv6]\nAddress=2001:db8::14/64\nGateway=fe80::1\n"),
+        (
+            "record-equal-runs",
+            b"[IPv6]\nAddress=2001:db8::1:0:0:1/128\nGateway=::ffff:c000:201\n",
+        ),
+    ];
+    for (name, end) in rows {
+        assert!(written_of(name).1.ends_with(end), "{name}");
+    }
+}
+
+#[test]
 fn seeds_have_the_answers_that_their_names_say() {
     let rows = [
         ("connman-every-key", Entry::CheckConnman, (0, 0)),
@@ -156,6 +178,23 @@ fn seeds_have_the_answers_that_their_names_say() {
         ("connman-bad-escape", Entry::CheckConnman, (11, 4)),
         ("connman-lists-with-backslashes", Entry::CheckConnman, (0, 0)),
         ("connman-short-passphrase", Entry::CheckConnman, (12, 4)),
+        ("connman-static-ipv6", Entry::MoveService, (0, 0)),
+        ("connman-ipv6-forms", Entry::MoveService, (0, 0)),
+        ("connman-ipv6-without-gateway", Entry::CheckConnman, (0, 0)),
+        ("connman-ipv6-without-gateway", Entry::MoveService, (16, 4)),
+        ("connman-bad-ipv6", Entry::CheckConnman, (12, 4)),
+        ("connman-bad-ipv6-length", Entry::CheckConnman, (12, 4)),
+        ("iwd-static-ipv6", Entry::CheckIwd, (0, 0)),
+        ("iwd-ipv6-length-left-off", Entry::CheckIwd, (0, 0)),
+        ("iwd-bad-ipv6", Entry::CheckIwd, (12, 3)),
+        ("iwd-bad-dotted-tail", Entry::CheckIwd, (12, 2)),
+        ("iwd-ipv6-gateway-alone", Entry::CheckIwd, (14, 0)),
+        ("iwd-ipv6-off-beside-address", Entry::CheckIwd, (15, 0)),
+        ("record-static-ipv6", Entry::WriteIwd, (0, 0)),
+        ("record-equal-runs", Entry::WriteIwd, (0, 0)),
+        ("record-ipv6-without-gateway", Entry::WriteIwd, (16, 0)),
+        ("record-ipv6-of-length-129", Entry::WriteIwd, (19, 0)),
+        ("record-ipv6-off-with-address", Entry::WriteIwd, (19, 0)),
         ("iwd-empty", Entry::CheckIwd, (0, 0)),
         ("iwd-every-key", Entry::CheckIwd, (0, 0)),
         ("buffers-one-short", Entry::MoveService, (17, 0)),
@@ -165,7 +204,7 @@ fn seeds_have_the_answers_that_their_names_say() {
         let answer = match own::answer(&answers, entry) {
             Some(Answer::Reading(reading)) => (reading.number, reading.line),
             Some(Answer::Written { written, .. }) => (written.number, written.line),
-            _ => panic!("{name} is put to a check or to the move"),
+            _ => panic!("{name} is put to a check, to the writer or to the move"),
         };
         assert_eq!(answer, expected, "{name}");
     }

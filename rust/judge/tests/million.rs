@@ -1,9 +1,9 @@
 //! A million cases, each put to every entry point that applies to it, against the reference.
 //!
 //! The cases depend on the seed alone, not on the threads. `QEWARIS_SEED` and `QEWARIS_CASES` choose another run, `QEWARIS_FIRST`
-//! the number of its first case. Prints how often each entry point gave each answer and wrote the largest name and file, and how often
-//! each string met each escape; fails where the library differs from the paper, an answer that can occur did not, a largest length
-//! was not met or was passed, or an escape was not met.
+//! the number of its first case. Prints how often each entry point gave each answer and wrote the largest name and file, how often
+//! each string met each escape, and how often each setting met each sort of IPv6 address; fails where the library differs from the paper,
+//! an answer that can occur did not, a largest length was not met or was passed, or an escape or a sort of address was not met.
 
 use judge::case::Case;
 use judge::compare::{try_case, Difference};
@@ -49,7 +49,7 @@ fn main() {
     assert!(findings.count == 0, "{} cases differ", findings.count);
     assert!(
         cases < CASES || missing.is_empty(),
-        "the cases do not meet the answers, the largest lengths and the escapes that can occur"
+        "the cases do not meet the answers, the largest lengths, the escapes and the addresses that can occur"
     );
 }
 

@@ -1,11 +1,11 @@
 //! The reference on document 01's own examples: the twelve cases of the one table, the worked move as request 2026-02 has it, and what
-//! 01 leaves to tests; and on the two largest records of request 2026-01.
+//! 01 leaves to tests; and on the two largest records of request 2026-01, its file figure as request 2026-03 has it.
 
 use judge::reference::file_name::{write_iwd, Suffix};
-use judge::reference::kind::{Ipv4, Kind};
+use judge::reference::kind::Kind;
 use judge::reference::text::{escape, unescape};
 use judge::reference::writer::{write, Room, ENOUGH, FILE_MAX, NAME_MAX};
-use judge::reference::{connman, iwd, moving, Credential, Ipv6, Record, Refusal};
+use judge::reference::{connman, iwd, moving, Credential, Ipv4, Ipv6, Record, Refusal};
 
 /// The number and line of an answer; 0 and 0 when it is accepted.
 fn answer<T>(result: Result<T, Refusal>) -> (u8, usize) {
@@ -27,7 +27,7 @@ fn moved(file: &[u8], service: usize) -> (u8, usize) {
 #[test]
 fn case_1_an_empty_open_file_is_accepted() {
     let record = iwd::read(b"Desk.open", b"").expect("accepted").record();
-    assert_eq!((record.credential, record.ipv4), (Credential::None, Ipv4::Dhcp));
+    assert_eq!((record.credential, record.ipv4), (Credential::None, Ipv4::Auto));
 }
 
 #[test]
@@ -199,7 +199,11 @@ fn largest_file() -> Record {
         },
         servers: vec![wide; 4],
         domain: vec![b'\\'; 253],
-        ipv6: Ipv6::Off,
+        ipv6: Ipv6::Static {
+            address: [255; 16],
+            prefix_length: 128,
+            gateway: Some([255; 16]),
+        },
     }
 }
 
@@ -213,6 +217,7 @@ fn largest_name() -> Record {
 
 #[test]
 fn the_largest_file_and_the_largest_name_fill_their_buffers() {
+    assert_eq!((NAME_MAX, FILE_MAX), (70, 944));
     let security_group = b"[Security]\nPassphrase=\n".len() + 2 * 63;
     let rows = [
         (largest_file(), NAME_MAX - 1, FILE_MAX),

@@ -1,4 +1,5 @@
-//! What the generators reach, by the reference alone: every answer that can occur, every escape, and every key in every way.
+//! What the generators reach, by the reference alone: every answer that can occur, every escape, every sort of IPv6 address, and every key
+//! in every way.
 
 use judge::blamed::blamed;
 use judge::case::Case;
@@ -17,7 +18,7 @@ const SEED: u64 = 11;
 const CASES: u64 = 150_000;
 
 #[test]
-fn every_answer_and_every_escape_that_can_occur_does() {
+fn every_answer_escape_and_address_that_can_occur_does() {
     let mut table = Table::default();
     for index in 0..CASES {
         let case = generate::case(SEED, index);
@@ -87,7 +88,7 @@ fn every_key_is_accepted_and_refused_in_every_way() {
         }
     }
     keys.iter().for_each(|(key, reached)| println!("{key:?}: {reached:?}"));
-    assert_eq!(keys.len(), 14 + 2 + 14);
+    assert_eq!(keys.len(), 16 + 2 + 14);
     for (key, reached) in keys {
         let least = reached.accepted.min(reached.repeated).min(reached.text).min(reached.kind);
         assert!(least >= 15, "{key:?} is met too seldom: {reached:?}");

@@ -87,7 +87,12 @@ fn a_wrong_line_is_left_with_the_group_and_the_two_settings() {
     let case = file_of(smallest(wrong_line, 400));
     let lines: Vec<&[u8]> = case.file.split(|&byte| byte == b'\n').filter(|line| !line.is_empty()).collect();
     assert_eq!(lines.len(), 3, "{}", case.file.escape_ascii());
-    assert!(case.file.len() <= 40 && case.name == b"a.config", "{}", case.file.escape_ascii());
+    let longest = "[service_a]\nIPv6.Privacy=enabled\nIPv6.Privacy=".len();
+    assert!(
+        case.file.len() <= longest && case.name == b"a.config",
+        "{}",
+        case.file.escape_ascii()
+    );
 }
 
 #[test]
@@ -103,7 +108,7 @@ fn a_wrong_buffer_is_left_with_one_byte_of_buffer() {
 
 #[test]
 fn a_refused_record_is_left_with_zeros_where_it_can_be() {
-    let Case::Record(case) = smallest(wrong_servers, 414) else {
+    let Case::Record(case) = smallest(wrong_servers, 448) else {
         panic!("a record case stays one")
     };
     assert_eq!(
@@ -113,6 +118,10 @@ fn a_refused_record_is_left_with_zeros_where_it_can_be() {
     assert_eq!(
         (case.record.domain_len, case.record.credential, case.record.ipv4, case.record.hidden),
         (0, 0, 0, 0)
+    );
+    assert_eq!(
+        (case.record.ipv6, case.record.ipv6_address, case.record.ipv6_gateway),
+        (0, [0; 16], [0; 16])
     );
 }
 

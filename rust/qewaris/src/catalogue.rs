@@ -44,7 +44,12 @@ pub enum Kind {
     /// 1 to 253 bytes.
     Text,
     Type,
+    /// ConnMan's IPv6.
     Ipv6,
+    /// iwd's Address of IPv6.
+    Ipv6Address,
+    /// iwd's Gateway of IPv6.
+    Ipv6Gateway,
     Privacy,
     Security,
 }
@@ -104,7 +109,14 @@ pub const IWD: &[(&str, Keys)] = &[
             ("SendHostname", Kind::YesNo),
         ],
     ),
-    ("IPv6", &[("Enabled", Kind::YesNo)]),
+    (
+        "IPv6",
+        &[
+            ("Enabled", Kind::YesNo),
+            ("Address", Kind::Ipv6Address),
+            ("Gateway", Kind::Ipv6Gateway),
+        ],
+    ),
 ];
 
 /// The keys of ConnMan's group `global`.
@@ -128,12 +140,12 @@ pub const SERVICE: Keys = &[
     ("Hidden", Kind::YesNo),
 ];
 
-/// Whether the papers about a dialect have a key in a group and it is not taken here: keys of extended logins, of IPv6 addresses, and
-/// what iwd sets by itself.
+/// Whether the papers about a dialect have a key in a group and it is not taken here: keys of extended logins, of IPv6's name servers
+/// and domain, and what iwd sets by itself.
 pub fn is_of_paper(dialect: Dialect, group: &[u8], key: &[u8]) -> bool {
     let within = |keys: &[&str]| keys.iter().any(|name| name.as_bytes() == key);
     match (dialect, group) {
-        (Dialect::Iwd, b"IPv6") => within(&["Address", "Gateway", "DNS", "DomainName"]),
+        (Dialect::Iwd, b"IPv6") => within(&["DNS", "DomainName"]),
         (Dialect::Iwd, _) => key.starts_with(b"EAP-") || within(&IWD_ONLY),
         (Dialect::Connman, _) => within(&CONNMAN_ONLY),
     }
@@ -182,9 +194,15 @@ pub fn kind_in(keys: Keys, key: &[u8]) -> Option<Kind> {
     keys.iter().find(|(name, _)| name.as_bytes() == key).map(|(_, kind)| *kind)
 }
 
-/// The kind of a key in whichever group it stands.
-pub fn kind_anywhere(key: &[u8]) -> Option<Kind> {
-    all_keys().find(|(name, _)| name.as_bytes() == key).map(|(_, kind)| kind)
+/// The kinds of a key in whichever groups it stands; none where it is no key.
+pub fn kinds_anywhere(key: &[u8]) -> impl Iterator<Item = Kind> + '_ {
+    all_keys().filter(move |(name, _)| name.as_bytes() == key).map(|(_, kind)| kind)
+}
+
+/// The groups of iwd that have a key: Address and Gateway stand in two.
+pub fn iwd_groups_of(key: &[u8]) -> impl Iterator<Item = &'static str> + '_ {
+    let has = move |keys: Keys| kind_in(keys, key).is_some();
+    IWD.iter().filter(move |(_, keys)| has(keys)).map(|(name, _)| *name)
 }
 
 /// Every key of every group.

@@ -28,6 +28,7 @@ pub mod diagnosis;
 pub mod escapes;
 mod files;
 pub mod hex;
+mod ipv6;
 pub mod layout;
 mod messages;
 pub mod raw;
@@ -40,11 +41,12 @@ mod strings;
 pub mod visible;
 
 pub use files::{move_service, move_service_into, write_iwd, write_iwd_into, IwdFile, Written, FILE_MAX, NAME_MAX};
+pub use ipv6::ipv6_text;
 pub use reading::{check_connman, check_iwd, Counts};
-pub use record::{iwd_record, service_record, Credential, Ipv4, Ipv6, JoinRecord, StaticIpv4};
+pub use record::{iwd_record, service_record, Credential, Ipv4, Ipv6, JoinRecord, StaticAddress, StaticIpv4, StaticIpv6};
 pub use refusal::{Reason, Refusal};
 pub use settings::{
-    iwd_settings, service_settings, Ipv6Method, IwdGeneral, IwdIpv4, IwdSecurity, IwdSettings, Privacy, Security, ServiceAddresses,
+    iwd_settings, service_settings, IwdGeneral, IwdIpv4, IwdIpv6, IwdSecurity, IwdSettings, Privacy, Security, ServiceAddresses,
     ServiceNetwork, ServiceSettings, ServiceType,
 };
 pub use strings::{

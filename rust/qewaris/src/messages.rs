@@ -81,7 +81,9 @@ table! {
     TrailingBlank, 12, "{key} has a blank behind its value; the line must end with the value";
     YesNoOfIwd, 12, "{key} is {found}; it must be true, false, 1 or 0";
     YesNoOfConnman, 12, "{key} is {found}; it must be true or false";
-    Address, 12, "{key} is {found}; it must be an address, four numbers from 0 to 255 such as 10.20.0.14";
+    Address, 12, "{key} is {found}; it must be an IPv4 address, four numbers from 0 to 255 such as 10.20.0.14";
+    Ipv6ForIpv4, 12, "{key} is an IPv6 address, which belongs to {allowed}; it must be an IPv4 address such as 10.20.0.14";
+    Ipv6AmongIpv4, 12, "{key} has an IPv6 address in it; only IPv4 addresses such as 10.20.0.14 are taken";
     Mask, 12, "{key} is {found}; it must be a mask, ones and then zeros, such as 255.255.255.0";
     Ipv4, 12, "{key} is {found}; it must be off, dhcp, or an address with its mask and perhaps a gateway, such as 10.20.0.14/24/10.20.0.1";
     SpacedAddresses, 12, "{key} is {found}; it must be 1 to 4 addresses with spaces between";
@@ -95,7 +97,30 @@ table! {
     NetworkName, 12, "{key} has {found}; it needs 1 to 32";
     Text, 12, "{key} has {found}; it needs 1 to 253";
     Type, 12, "{key} is {found}; it must be wifi or ethernet";
-    Ipv6, 12, "{key} is {found}; it must be off or auto";
+    Ipv6, 12, "{key} is {found}; it must be off, auto, or an IPv6 address with its length and perhaps a gateway, such as 2001:db8::14/64/2001:db8::1";
+    Ipv6Address, 12, "{key} is {found}; it must be an IPv6 address, perhaps with its length, such as 2001:db8::14/64";
+    Ipv6Gateway, 12, "{key} is {found}; it must be an IPv6 address such as 2001:db8::1";
+    Ipv4ForIpv6, 12, "{key} is an IPv4 address, which belongs to {allowed}; it must be an IPv6 address such as 2001:db8::14";
+    Ipv6FewParts, 12, "{key} has {found}; it needs 8 with colons between, or fewer and one :: for those that are zero";
+    Ipv6ManyParts, 12, "{key} has more than 8 parts; it needs 8 with colons between";
+    Ipv6LongPart, 12, "{key} has a part of {found}; a part has 1 to 4";
+    Ipv6Byte, 12, "{key} has {found} in it; its parts have only 0 to 9 and a to f";
+    Ipv6Blank, 12, "{key} has {found} in it; no blanks may stand there";
+    Ipv6Zone, 12, "{key} has a % and an interface behind it; it must stand without them";
+    Ipv6Bracket, 12, "{key} has a bracket in it; it must stand without brackets";
+    Ipv6ColonFirst, 12, "{key} begins with one colon; it must begin with a part or with ::";
+    Ipv6ColonLast, 12, "{key} ends with one colon; it must end with a part or with ::";
+    Ipv6Colons, 12, "{key} has {found} in a row; between parts stands one colon, or once :: for those that are zero";
+    Ipv6GapTwice, 12, "{key} has :: twice; it may stand once, for the parts that are zero";
+    Ipv6GapOfNone, 12, "{key} has :: beside all 8 parts; it must stand for one part or more that is zero";
+    Ipv6DottedEarly, 12, "{key} has a dot before its last part; only the end may be an IPv4 address, as in 64:ff9b::10.20.0.14";
+    Ipv6DottedCount, 12, "{key} ends in {found} with dots; the IPv4 address at its end needs four";
+    Ipv6DottedNumber, 12, "{key} ends in an IPv4 address whose {which} number is {found}; it must be 0 to 255 without a leading zero";
+    Ipv6Length, 12, "The length in {key} is {found}; it must be a number from 1 to 128 without a leading zero";
+    Ipv6WithoutLength, 12, "{key} has no length; ConnMan needs one behind the address, such as 2001:db8::14/64";
+    Ipv6AddressForLength, 12, "{key} has an address where its length should stand; ConnMan needs the length, as in 2001:db8::14/64/2001:db8::1";
+    Ipv6BehindLength, 12, "{key} has something else than a length behind it; a gateway stands on a line of its own, such as Gateway=2001:db8::1";
+    Ipv6BehindGateway, 12, "{key} has a / behind it; a gateway stands alone, without a length";
     Privacy, 12, "{key} is {found}; it must be disabled, enabled or preferred";
     Security, 12, "{key} is {found}; it must be psk, ieee8021x, none or wep";
 
@@ -107,10 +132,10 @@ table! {
     WifiWithoutName, 14, "[{group}] has neither Name nor SSID; wifi needs one of them";
     PskWithoutPassphrase, 14, "[{group}] has Security = psk and no Passphrase; psk needs one";
     PskFileWithoutKey, 14, "The file has neither Passphrase nor PreSharedKey; a .psk file needs one of them";
-    AddressWithoutGateway, 14, "Address stands on line {first} and there is no Gateway; an Address needs one";
-    GatewayWithoutAddress, 14, "Gateway stands on line {first} and there is no Address; a Gateway needs one";
-    NetmaskWithoutAddress, 14, "Netmask stands on line {first} and there is no Address; a Netmask needs one";
-    BroadcastWithoutAddress, 14, "Broadcast stands on line {first} and there is no Address; a Broadcast needs one";
+    AddressWithoutGateway, 14, "[{group}] has Address on line {first} and no Gateway; an Address needs one";
+    GatewayWithoutAddress, 14, "[{group}] has Gateway on line {first} and no Address; a Gateway needs one";
+    NetmaskWithoutAddress, 14, "[{group}] has Netmask on line {first} and no Address; a Netmask needs one";
+    BroadcastWithoutAddress, 14, "[{group}] has Broadcast on line {first} and no Address; a Broadcast needs one";
 
     AnyContradiction, 15, "Two settings contradict each other; only one of them can stand";
     EthernetWithName, 15, "[{group}] is ethernet and has Name on line {first}; only wifi takes a Name";
@@ -121,19 +146,21 @@ table! {
     NoneWithPassphrase, 15, "[{group}] has Security = none and a Passphrase on line {first}; only one of them can stand";
     OpenFileWithPassphrase, 15, "Passphrase stands on line {first}; an .open file has no key, and a network with one needs a .psk file";
     OpenFileWithKey, 15, "PreSharedKey stands on line {first}; an .open file has no key, and a network with one needs a .psk file";
+    DisabledWithAddress, 15, "[{group}] has Enabled={found} on line {first} and Address on line {second}; only one of them can stand";
 
     AnyNoPlace, 16, "iwd has no place for the service; a line of it cannot be moved";
     NoPlaceForEthernet, 16, "[{group}] is ethernet, which has no place in iwd; only wifi moves";
     NoPlaceForWep, 16, "[{group}] has Security = wep, which has no place in iwd; only psk and none move";
     NoPlaceForLogin, 16, "[{group}] has Security = ieee8021x, which has no place in iwd; only psk and none move";
     NoPlaceForIpv4Off, 16, "[{group}] has IPv4 = off, which has no place in iwd; dhcp and an address with a gateway move";
-    NoPlaceWithoutGateway, 16, "[{group}] has an address without a gateway, which has no place in iwd; an address with a gateway moves";
+    NoPlaceWithoutGateway, 16, "[{group}] has an IPv4 address without a gateway, which has no place in iwd; an address with a gateway moves";
+    NoPlaceWithoutIpv6Gateway, 16, "[{group}] has an IPv6 address without a gateway, which has no place in iwd; an address with a gateway moves";
     NoPlaceForMac, 16, "[{group}] has MAC, which picks an interface and has no place in iwd; a service without it moves";
     NoPlaceForPrivacy, 16, "[{group}] has IPv6.Privacy, which has no place in iwd; a service without it moves";
     NoPlaceForSearchDomains, 16, "[{group}] has SearchDomains, which has no place in iwd; a service without it moves";
     NoPlaceForTimeservers, 16, "[{group}] has Timeservers, which has no place in iwd; a service without it moves";
 
-    AnyShortBuffer, 17, "A buffer is too short for what must be written; 70 bytes for the name and 858 for the file are always enough";
+    AnyShortBuffer, 17, "A buffer is too short for what must be written; 70 bytes for the name and 944 for the file are always enough";
 
     AnyNoService, 18, "There is no service with this number; services count from 1";
     NoService, 18, "There is no service {found}; the file has {allowed}";

@@ -54,13 +54,24 @@ pub struct IwdIpv4 {
 }
 
 #[repr(C)]
+#[derive(Clone, Copy, Debug, PartialEq, Eq)]
+pub struct IwdIpv6 {
+    pub enabled: u8,
+    pub has_address: u8,
+    pub address: [u8; 16],
+    pub prefix_length: u8,
+    pub has_gateway: u8,
+    pub gateway: [u8; 16],
+}
+
+#[repr(C)]
 #[derive(Clone, Copy, PartialEq, Eq)]
 pub struct IwdSettings {
     pub line: usize,
     pub number: u8,
-    pub ipv6_enabled: u8,
     pub general: IwdGeneral,
-    pub reserved: [u8; 4],
+    pub ipv6: IwdIpv6,
+    pub reserved: [u8; 1],
     pub security: IwdSecurity,
     pub ipv4: IwdIpv4,
 }
@@ -100,10 +111,14 @@ pub struct ServiceAddresses {
     pub has_gateway: u8,
     pub gateway: [u8; 4],
     pub ipv6: u8,
+    pub ipv6_address: [u8; 16],
+    pub ipv6_prefix_length: u8,
+    pub has_ipv6_gateway: u8,
+    pub ipv6_gateway: [u8; 16],
     pub privacy: u8,
     pub has_mac: u8,
     pub mac: [u8; 6],
-    pub reserved: [u8; 4],
+    pub reserved: [u8; 2],
 }
 
 #[repr(C)]
@@ -146,6 +161,10 @@ pub struct Record {
     pub domain_len: u8,
     pub domain: [u8; 253],
     pub ipv6: u8,
+    pub ipv6_address: [u8; 16],
+    pub ipv6_prefix_length: u8,
+    pub has_ipv6_gateway: u8,
+    pub ipv6_gateway: [u8; 16],
 }
 
 impl Record {
@@ -168,6 +187,10 @@ impl Record {
         domain_len: 0,
         domain: [0; 253],
         ipv6: 0,
+        ipv6_address: [0; 16],
+        ipv6_prefix_length: 0,
+        has_ipv6_gateway: 0,
+        ipv6_gateway: [0; 16],
     };
 }
 
@@ -177,7 +200,7 @@ pub struct RecordAnswer {
     pub line: usize,
     pub number: u8,
     pub record: Record,
-    pub reserved: [u8; 1],
+    pub reserved: [u8; 7],
 }
 
 #[repr(C)]
@@ -192,7 +215,7 @@ pub struct Written {
 
 extern "C" {
     pub fn qewaris_version() -> u32;
-    pub fn qewaris_layout_1() -> u32;
+    pub fn qewaris_layout_2() -> u32;
     pub fn qewaris_check_iwd(name: *const u8, name_len: usize, file: *const u8, file_len: usize) -> Reading;
     pub fn qewaris_check_connman(name: *const u8, name_len: usize, file: *const u8, file_len: usize) -> Reading;
     pub fn qewaris_iwd_settings_of(name: *const u8, name_len: usize, file: *const u8, file_len: usize) -> IwdSettings;

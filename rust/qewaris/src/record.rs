@@ -4,7 +4,7 @@ use crate::raw;
 use crate::refusal::{answered, Refusal};
 use crate::Hidden;
 use std::fmt;
-use std::net::Ipv4Addr;
+use std::net::{Ipv4Addr, Ipv6Addr};
 
 /// A join record. Any value of this type may be handed to the writer, which refuses one that is malformed.
 #[derive(Clone, Debug, PartialEq, Eq)]
@@ -50,19 +50,35 @@ pub enum Ipv4 {
 }
 
 #[derive(Clone, Copy, Debug, PartialEq, Eq)]
-pub struct StaticIpv4 {
-    pub address: Ipv4Addr,
-    /// 1 to 32.
-    pub prefix_length: u8,
-    pub gateway: Option<Ipv4Addr>,
-}
-
-#[derive(Clone, Copy, Debug, PartialEq, Eq)]
-#[non_exhaustive]
 pub enum Ipv6 {
     Auto,
     Off,
+    Static(StaticIpv6),
 }
+
+/// A fixed address. iwd has no place for one without a gateway, which is refused with 16 where it is written or moved.
+///
+/// ```
+/// use qewaris::{Ipv6, StaticIpv6};
+///
+/// let file = b"[service_till]\nType = wifi\nName = Desk 4\nIPv6 = 2001:db8::14/64\n";
+/// let record = qewaris::service_record(b"shop.config", file, 1)?;
+/// let fixed = StaticIpv6 { address: "2001:db8::14".parse().unwrap(), prefix_length: 64, gateway: None };
+/// assert_eq!(record.ipv6, Ipv6::Static(fixed));
+/// assert_eq!(qewaris::write_iwd(&record).unwrap_err().number(), 16);
+/// # Ok::<(), qewaris::Refusal>(())
+/// ```
+#[derive(Clone, Copy, Debug, PartialEq, Eq)]
+pub struct StaticAddress<A> {
+    pub address: A,
+    /// 1 to 32 in IPv4, 1 to 128 in IPv6.
+    pub prefix_length: u8,
+    pub gateway: Option<A>,
+}
+
+pub type StaticIpv4 = StaticAddress<Ipv4Addr>;
+
+pub type StaticIpv6 = StaticAddress<Ipv6Addr>;
 
 impl Credential {
     /// What it is called: `none`, `passphrase` or `key`.
@@ -76,12 +92,38 @@ impl Credential {
 }
 
 impl Ipv6 {
-    /// What it is called: `auto` or `off`.
+    /// What it is called: `auto`, `off` or `static`.
     pub fn word(self) -> &'static str {
         match self {
             Ipv6::Auto => "auto",
             Ipv6::Off => "off",
+            Ipv6::Static(_) => "static",
         }
+    }
+}
+
+impl<A> StaticAddress<A> {
+    /// The address of the places that the archive's structs have for it.
+    pub(crate) fn from_places<const N: usize>(address: [u8; N], prefix_length: u8, has_gateway: u8, gateway: [u8; N]) -> Self
+    where
+        A: From<[u8; N]>,
+    {
+        StaticAddress {
+            address: address.into(),
+            prefix_length,
+            gateway: (has_gateway == 1).then(|| gateway.into()),
+        }
+    }
+
+    /// These places: the address, its length, whether there is a gateway, and the gateway.
+    fn places<const N: usize>(&self, octets: impl Fn(&A) -> [u8; N]) -> ([u8; N], u8, u8, [u8; N]) {
+        let gateway = self.gateway.as_ref();
+        (
+            octets(&self.address),
+            self.prefix_length,
+            gateway.is_some().into(),
+            gateway.map_or([0; N], &octets),
+        )
     }
 }
 
@@ -159,19 +201,25 @@ impl JoinRecord {
             Ipv4::Off => record.ipv4 = raw::IPV4_OFF,
             Ipv4::Static(fixed) => {
                 record.ipv4 = raw::IPV4_STATIC;
-                record.address = fixed.address.octets();
-                record.prefix_length = fixed.prefix_length;
-                record.has_gateway = fixed.gateway.is_some().into();
-                record.gateway = fixed.gateway.map_or([0; 4], |gateway| gateway.octets());
+                (record.address, record.prefix_length, record.has_gateway, record.gateway) = fixed.places(Ipv4Addr::octets);
             }
         }
         let servers: Vec<u8> = self.name_servers.iter().flat_map(Ipv4Addr::octets).collect();
         record.server_count = laid(&servers, &mut record.servers)? / 4;
         record.domain_len = laid(&self.domain, &mut record.domain)?;
-        record.ipv6 = match self.ipv6 {
-            Ipv6::Auto => raw::IPV6_AUTO,
-            Ipv6::Off => raw::IPV6_OFF,
-        };
+        match &self.ipv6 {
+            Ipv6::Auto => {}
+            Ipv6::Off => record.ipv6 = raw::IPV6_OFF,
+            Ipv6::Static(fixed) => {
+                record.ipv6 = raw::IPV6_STATIC;
+                (
+                    record.ipv6_address,
+                    record.ipv6_prefix_length,
+                    record.has_ipv6_gateway,
+                    record.ipv6_gateway,
+                ) = fixed.places(Ipv6Addr::octets);
+            }
+        }
         Some(record)
     }
 
@@ -188,15 +236,25 @@ impl JoinRecord {
             ipv4: match record.ipv4 {
                 raw::IPV4_DHCP => Ipv4::Dhcp,
                 raw::IPV4_OFF => Ipv4::Off,
-                _ => Ipv4::Static(StaticIpv4 {
-                    address: record.address.into(),
-                    prefix_length: record.prefix_length,
-                    gateway: (record.has_gateway == 1).then_some(record.gateway.into()),
-                }),
+                _ => Ipv4::Static(StaticAddress::from_places(
+                    record.address,
+                    record.prefix_length,
+                    record.has_gateway,
+                    record.gateway,
+                )),
             },
             name_servers: addresses(&record.servers, record.server_count.into()),
             domain: record.domain[..record.domain_len.into()].to_vec(),
-            ipv6: if record.ipv6 == raw::IPV6_AUTO { Ipv6::Auto } else { Ipv6::Off },
+            ipv6: match record.ipv6 {
+                raw::IPV6_AUTO => Ipv6::Auto,
+                raw::IPV6_OFF => Ipv6::Off,
+                _ => Ipv6::Static(StaticAddress::from_places(
+                    record.ipv6_address,
+                    record.ipv6_prefix_length,
+                    record.has_ipv6_gateway,
+                    record.ipv6_gateway,
+                )),
+            },
         }
     }
 }

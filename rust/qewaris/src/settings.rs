@@ -1,11 +1,11 @@
 //! Typed settings: every key of an iwd file or of a ConnMan service, with its value or none.
 
 use crate::raw;
-use crate::record::{addresses, Ipv4, StaticIpv4};
+use crate::record::{addresses, Ipv4, Ipv6, StaticAddress};
 use crate::refusal::{answered, Refusal};
 use crate::Hidden;
 use std::fmt;
-use std::net::Ipv4Addr;
+use std::net::{Ipv4Addr, Ipv6Addr};
 use std::ops::Range;
 
 /// The settings of an iwd file, by its groups. A string gives its line; its bytes are looked up.
@@ -14,7 +14,7 @@ pub struct IwdSettings {
     pub general: IwdGeneral,
     pub security: IwdSecurity,
     pub ipv4: IwdIpv4,
-    pub ipv6_enabled: Option<bool>,
+    pub ipv6: IwdIpv6,
 }
 
 /// iwd's group Settings.
@@ -57,6 +57,16 @@ pub struct IwdIpv4 {
     pub send_hostname: Option<bool>,
 }
 
+/// iwd's group IPv6.
+#[derive(Clone, Debug, PartialEq, Eq)]
+pub struct IwdIpv6 {
+    pub enabled: Option<bool>,
+    pub address: Option<Ipv6Addr>,
+    /// The length behind Address, 1 to 128: 128 where it is left off.
+    pub prefix_length: Option<u8>,
+    pub gateway: Option<Ipv6Addr>,
+}
+
 /// The settings of a ConnMan service.
 #[derive(Clone, Debug, PartialEq, Eq)]
 pub struct ServiceSettings {
@@ -80,7 +90,7 @@ pub struct ServiceNetwork {
 #[derive(Clone, Debug, PartialEq, Eq)]
 pub struct ServiceAddresses {
     pub ipv4: Option<Ipv4>,
-    pub ipv6: Option<Ipv6Method>,
+    pub ipv6: Option<Ipv6>,
     pub privacy: Option<Privacy>,
     pub mac: Option<[u8; 6]>,
     /// 1 to 4 addresses; empty where it is absent.
@@ -107,23 +117,6 @@ pub enum Security {
 }
 
 #[derive(Clone, Copy, Debug, PartialEq, Eq)]
-#[non_exhaustive]
-pub enum Ipv6Method {
-    Off,
-    Auto,
-}
-
-impl Ipv6Method {
-    /// As the file has it: `off` or `auto`.
-    pub fn word(self) -> &'static str {
-        match self {
-            Ipv6Method::Off => "off",
-            Ipv6Method::Auto => "auto",
-        }
-    }
-}
-
-#[derive(Clone, Copy, Debug, PartialEq, Eq)]
 pub enum Privacy {
     Disabled,
     Enabled,
@@ -133,9 +126,11 @@ pub enum Privacy {
 /// The settings of an iwd file.
 ///
 /// ```
-/// let settings = qewaris::iwd_settings(b"Desk 4.open", b"[IPv4]\nDNS=10.0.0.2 10.0.0.3\n[IPv6]\nEnabled=false\n")?;
+/// let file = b"[IPv4]\nDNS=10.0.0.2 10.0.0.3\n[IPv6]\nAddress=2001:DB8::14\nGateway=2001:db8::1\n";
+/// let settings = qewaris::iwd_settings(b"Desk 4.open", file)?;
 /// assert_eq!(settings.ipv4.dns.len(), 2);
-/// assert_eq!(settings.ipv6_enabled, Some(false));
+/// assert_eq!(settings.ipv6.address, Some("2001:db8::14".parse().unwrap()));
+/// assert_eq!(settings.ipv6.prefix_length, Some(128));
 /// assert_eq!(settings.general.hidden, None);
 /// # Ok::<(), qewaris::Refusal>(())
 /// ```
@@ -154,7 +149,7 @@ pub fn iwd_settings(name: &[u8], file: &[u8]) -> Result<IwdSettings, Refusal> {
             pre_shared_key: given(found.security.has_pre_shared_key, found.security.pre_shared_key),
         },
         ipv4: iwd_ipv4(&found.ipv4),
-        ipv6_enabled: choice(found.ipv6_enabled),
+        ipv6: iwd_ipv6(&found.ipv6),
     })
 }
 
@@ -163,10 +158,19 @@ fn iwd_ipv4(found: &raw::IwdIpv4) -> IwdIpv4 {
         address: given(found.has_address, found.address.into()),
         gateway: given(found.has_gateway, found.gateway.into()),
         broadcast: given(found.has_broadcast, found.broadcast.into()),
-        netmask_length: (found.netmask_length > 0).then_some(found.netmask_length),
+        netmask_length: length(found.netmask_length),
         dns: addresses(&found.dns, found.dns_count),
         domain_name_line: line(found.domain_name_line),
         send_hostname: choice(found.send_hostname),
+    }
+}
+
+fn iwd_ipv6(found: &raw::IwdIpv6) -> IwdIpv6 {
+    IwdIpv6 {
+        enabled: choice(found.enabled),
+        address: given(found.has_address, found.address.into()),
+        prefix_length: length(found.prefix_length),
+        gateway: given(found.has_gateway, found.gateway.into()),
     }
 }
 
@@ -188,19 +192,26 @@ pub fn service_settings(name: &[u8], file: &[u8], service: usize) -> Result<Serv
 }
 
 fn service_addresses(found: &raw::ServiceAddresses) -> ServiceAddresses {
-    let fixed = StaticIpv4 {
-        address: found.address.into(),
-        prefix_length: found.prefix_length,
-        gateway: given(found.has_gateway, found.gateway.into()),
-    };
-    let methods = [
+    let ipv4 = StaticAddress::from_places(found.address, found.prefix_length, found.has_gateway, found.gateway);
+    let ipv6 = StaticAddress::from_places(
+        found.ipv6_address,
+        found.ipv6_prefix_length,
+        found.has_ipv6_gateway,
+        found.ipv6_gateway,
+    );
+    let ipv4_methods = [
         (raw::SETTING_IPV4_DHCP, Ipv4::Dhcp),
         (raw::SETTING_IPV4_OFF, Ipv4::Off),
-        (raw::SETTING_IPV4_STATIC, Ipv4::Static(fixed)),
+        (raw::SETTING_IPV4_STATIC, Ipv4::Static(ipv4)),
+    ];
+    let ipv6_methods = [
+        (raw::SETTING_IPV6_AUTO, Ipv6::Auto),
+        (raw::SETTING_IPV6_OFF, Ipv6::Off),
+        (raw::SETTING_IPV6_STATIC, Ipv6::Static(ipv6)),
     ];
     ServiceAddresses {
-        ipv4: coded(found.ipv4, &methods),
-        ipv6: coded(found.ipv6, &IPV6_METHODS),
+        ipv4: coded(found.ipv4, &ipv4_methods),
+        ipv6: coded(found.ipv6, &ipv6_methods),
         privacy: coded(found.privacy, &PRIVACIES),
         mac: given(found.has_mac, found.mac),
         nameservers: addresses(&found.nameservers, found.nameserver_count),
@@ -223,8 +234,6 @@ const SECURITIES: [(u8, Security); 4] = [
     (raw::SECURITY_WEP, Security::Wep),
 ];
 
-const IPV6_METHODS: [(u8, Ipv6Method); 2] = [(raw::SETTING_IPV6_OFF, Ipv6Method::Off), (raw::SETTING_IPV6_AUTO, Ipv6Method::Auto)];
-
 const PRIVACIES: [(u8, Privacy); 3] = [
     (raw::PRIVACY_DISABLED, Privacy::Disabled),
     (raw::PRIVACY_ENABLED, Privacy::Enabled),
@@ -242,6 +251,11 @@ fn given<T>(has: u8, value: T) -> Option<T> {
 
 fn line(line: usize) -> Option<usize> {
     (line > 0).then_some(line)
+}
+
+/// The length of a mask or of an address.
+fn length(length: u8) -> Option<u8> {
+    (length > 0).then_some(length)
 }
 
 fn entries(found: &raw::Entries) -> Vec<Range<usize>> {

@@ -2,7 +2,7 @@
 //! from services that have these records; and what docs/USING.md tells of it.
 
 use qewaris::*;
-use std::net::Ipv4Addr;
+use std::net::{Ipv4Addr, Ipv6Addr};
 
 /// A network by its record, and by the ConnMan file whose only service has that record; and how long its name and file are.
 struct Network {
@@ -22,11 +22,13 @@ fn with_largest_name() -> Network {
     }
 }
 
-/// A network of the same name with everything that has a line: addresses of 15 characters, four name servers, and a passphrase of as
-/// many backslashes and a domain of as many bytes 10 as they may have, each of which is escaped and so two bytes in both files.
+/// A network of the same name with everything that has a line: IPv4 addresses of 15 characters and IPv6 addresses of 39, four name
+/// servers, and a passphrase of as many backslashes and a domain of as many bytes 10 as they may have, each of which is escaped and so
+/// two bytes in both files.
 fn with_largest_file() -> Network {
     let open = with_largest_name();
     let all = Ipv4Addr::BROADCAST;
+    let all_six = Ipv6Addr::from([0xff; 16]);
     let (passphrase, domain) = ("\\".repeat(63), "\n".repeat(253));
     let lines = format!(
         "Passphrase = {}\nDomain = {}\nIPv4 = {all}/32/{all}\nNameservers = {all},{all},{all},{all}\n",
@@ -34,7 +36,7 @@ fn with_largest_file() -> Network {
         "\\n".repeat(domain.len())
     );
     Network {
-        service: open.service + &lines + "Hidden = true\nIPv6 = off\n",
+        service: open.service + &lines + &format!("Hidden = true\nIPv6 = {all_six}/128/{all_six}\n"),
         record: JoinRecord {
             credential: Credential::Passphrase(passphrase.into()),
             hidden: true,
@@ -45,7 +47,11 @@ fn with_largest_file() -> Network {
             }),
             name_servers: vec![all; 4],
             domain: domain.into(),
-            ipv6: Ipv6::Off,
+            ipv6: Ipv6::Static(StaticIpv6 {
+                address: all_six,
+                prefix_length: 128,
+                gateway: Some(all_six),
+            }),
             ..open.record
         },
         name_len: "=.psk".len() + 64,

@@ -1,6 +1,8 @@
-//! The crate as its users see it: document 01's worked move as request 2026-02 has it, refusals, and that no secret is shown.
+//! The crate as its users see it: document 01's worked move as request 2026-02 has it, request 2026-03's addresses, refusals, and that
+//! no secret is shown.
 
 use qewaris::*;
+use std::net::Ipv6Addr;
 
 const SHOP: &[u8] = b"[service_till]\nType = wifi\nName = Desk 4\nPassphrase = low\\tide 88\nIPv4 = 10.20.0.14/24/10.20.0.1\n\
 Nameservers = 10.20.0.2,10.20.0.3\nHidden = true\nIPv6 = off\n";
@@ -29,12 +31,77 @@ fn settings_of_both_kinds_are_typed() {
         panic!("the address is fixed")
     };
     assert_eq!((fixed.prefix_length, fixed.gateway), (24, Some([10, 20, 0, 1].into())));
-    assert_eq!(service.addresses.ipv6, Some(Ipv6Method::Off));
+    assert_eq!(service.addresses.ipv6, Some(Ipv6::Off));
 
     let iwd = iwd_settings(b"Desk 4.psk", DESK).unwrap();
     assert_eq!(iwd.general.hidden, Some(true));
     assert_eq!(iwd.ipv4.netmask_length, Some(24));
-    assert_eq!(iwd.ipv6_enabled, Some(false));
+    assert_eq!(
+        (iwd.ipv6.enabled, iwd.ipv6.address, iwd.ipv6.prefix_length),
+        (Some(false), None, None)
+    );
+}
+
+/// A service with an IPv6 address and a gateway, what it becomes, and its address.
+const SIX: &[u8] = b"[service_six]\nType = wifi\nName = six\nIPv6 = 2001:DB8:0:0:0::14/64/2001:db8::192.0.2.1\n";
+const SIX_OPEN: &[u8] = b"[IPv6]\nAddress=2001:db8::14/64\nGateway=2001:db8::c000:201\n";
+const SIX_ADDRESS: StaticIpv6 = StaticIpv6 {
+    address: Ipv6Addr::new(0x2001, 0xdb8, 0, 0, 0, 0, 0, 0x14),
+    prefix_length: 64,
+    gateway: Some(Ipv6Addr::new(0x2001, 0xdb8, 0, 0, 0, 0, 0xc000, 0x201)),
+};
+
+#[test]
+fn an_ipv6_address_is_read_moved_and_read_back() {
+    let record = JoinRecord {
+        ipv6: Ipv6::Static(SIX_ADDRESS),
+        ..JoinRecord::open(b"six")
+    };
+    let service = service_settings(b"six.config", SIX, 1).unwrap();
+    assert_eq!(service.addresses.ipv6, Some(record.ipv6));
+    assert_eq!(service_record(b"six.config", SIX, 1).as_ref(), Ok(&record));
+    let moved = move_service(b"six.config", SIX, 1).unwrap();
+    assert_eq!((&moved.name[..], &moved.file[..]), (&b"six.open"[..], SIX_OPEN));
+    assert_eq!(write_iwd(&record), Ok(moved));
+    assert_eq!(iwd_record(b"six.open", SIX_OPEN), Ok(record));
+    let found = iwd_settings(b"six.open", SIX_OPEN).unwrap().ipv6;
+    let expected = IwdIpv6 {
+        enabled: None,
+        address: Some(SIX_ADDRESS.address),
+        prefix_length: Some(64),
+        gateway: SIX_ADDRESS.gateway,
+    };
+    assert_eq!(found, expected);
+}
+
+#[test]
+fn an_ipv6_address_without_a_length_has_128_in_iwd() {
+    let file = b"[IPv6]\nEnabled=true\nAddress=::1\nGateway=::\n";
+    let found = iwd_settings(b"six.open", file).unwrap().ipv6;
+    assert_eq!(
+        (found.enabled, found.prefix_length, found.gateway),
+        (Some(true), Some(128), Some(Ipv6Addr::UNSPECIFIED))
+    );
+    let Ipv6::Static(fixed) = iwd_record(b"six.open", file).unwrap().ipv6 else {
+        panic!("the address is fixed")
+    };
+    assert_eq!((fixed.address, fixed.prefix_length), (Ipv6Addr::LOCALHOST, 128));
+    let service = b"[service_six]\nType = wifi\nName = six\nIPv6 = ::1\n";
+    assert_eq!(
+        check_connman(b"six.config", service).unwrap_err().to_string(),
+        "line 4: the value is not of its key's kind [12]"
+    );
+}
+
+#[test]
+fn an_ipv6_address_without_a_gateway_has_no_place_in_iwd() {
+    let file = b"[service_six]\nType = wifi\nIPv6 = ::2/127\nName = six\nIPv4 = off\n";
+    let record = service_record(b"six.config", file, 1).unwrap();
+    let refused = [write_iwd(&record).unwrap_err(), move_service(b"six.config", file, 1).unwrap_err()];
+    assert_eq!(
+        refused.map(|refusal| (refusal.number(), refusal.line())),
+        [(16, None), (16, Some(3))]
+    );
 }
 
 #[test]
@@ -47,6 +114,17 @@ fn entries_and_strings_are_parts_of_the_file() {
     assert_eq!(service_name(b"a.config", file, 1).unwrap().unwrap().bytes, b"b");
     assert_eq!(service_domain(b"a.config", file, 1), Ok(None));
     assert_eq!(service_name(b"a.config", file, 2).unwrap_err().reason(), Reason::NoService);
+}
+
+/// An open network whose IPv6 address has this length.
+fn with_length(prefix_length: u8) -> JoinRecord {
+    JoinRecord {
+        ipv6: Ipv6::Static(StaticIpv6 {
+            prefix_length,
+            ..SIX_ADDRESS
+        }),
+        ..JoinRecord::open(b"a")
+    }
 }
 
 #[test]
@@ -66,6 +144,8 @@ fn a_record_that_does_not_fit_is_malformed() {
             name_servers: vec![[0, 0, 0, 0].into(); 5],
             ..JoinRecord::open(b"a")
         },
+        with_length(0),
+        with_length(129),
     ] {
         assert_eq!(write_iwd(&record).unwrap_err().number(), 19);
     }

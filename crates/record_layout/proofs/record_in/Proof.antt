@@ -14,4 +14,4 @@ record-in-spec =
     (λ c κs. search needs)
     (λ c κs. search needs)
     (λ c κs. search needs)
-    (λ c. rw (c .ipv6-in .ensures, c .before .wide4 .ensures, c .before .before .wide3 .ensures, c .before .before .before .before .method-in .ensures, c .before .before .before .before .before .before .wide2 .ensures, c .before .before .before .before .before .before .before .credential-in .ensures, c .before .before .before .before .before .before .before .before .wide .ensures)))
+    (λ c. rw (c .before .method-in2 .ensures, c .before .before .wide4 .ensures, c .before .before .before .wide3 .ensures, c .before .before .before .before .before .method-in .ensures, c .before .before .before .before .before .before .before .wide2 .ensures, c .before .before .before .before .before .before .before .before .credential-in .ensures, c .before .before .before .before .before .before .before .before .before .wide .ensures)))

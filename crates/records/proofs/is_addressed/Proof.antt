@@ -8,8 +8,8 @@ pub is-addressed-spec : {M : Type 1} → statement M
 is-addressed-spec =
     tie.close
     (tie.spec
-    (λ c. rw (under 1 32 (c .if1 .taken)))
-    (λ c. rw (over 1 32 (c .if2 .taken)))
+    (λ c. rw (under 1 _ (c .if1 .taken)))
+    (λ c. rw (over 1 _ (c .if2 .taken)))
     (λ c κs. search needs)
-    (λ c. rw (inside 1 32 (c .before .before .if1 .left) (c .before .if2 .left), c .if3 .taken))
-    (λ c. rw (inside 1 32 (c .before .before .before .if1 .left) (c .before .before .if2 .left), c .before .if3 .left) (c .is-no-address .ensures)))
+    (λ c. rw (inside 1 _ (c .before .before .if1 .left) (c .before .if2 .left), c .if3 .taken))
+    (λ c. rw (inside 1 _ (c .before .before .before .if1 .left) (c .before .before .if2 .left), c .before .if3 .left) (c .is-zero .ensures)))

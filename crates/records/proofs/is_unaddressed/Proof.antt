@@ -10,8 +10,8 @@ is-unaddressed-spec =
     tie.close
     (tie.spec
     (λ c κs. search needs)
-    (λ c. rw (sym (c .before .is-no-address .ensures) ∙ not-true _ (c .if1 .taken)))
-    (λ c. rw (sym (c .before .before .is-no-address .ensures) ∙ not-false _ (c .before .if1 .left), ne-eqb _ _ (c .if2 .taken)))
-    (λ c. rw (sym (c .before .before .before .is-no-address .ensures) ∙ not-false _ (c .before .before .if1 .left), eq-eqb _ _ (c .before .if2 .left), c .if3 .taken))
+    (λ c. rw (sym (c .before .is-zero .ensures) ∙ not-true _ (c .if1 .taken)))
+    (λ c. rw (sym (c .before .before .is-zero .ensures) ∙ not-false _ (c .before .if1 .left), ne-eqb _ _ (c .if2 .taken)))
+    (λ c. rw (sym (c .before .before .before .is-zero .ensures) ∙ not-false _ (c .before .before .if1 .left), eq-eqb _ _ (c .before .if2 .left), c .if3 .taken))
     (λ c κs. search needs)
-    (λ c. rw (sym (c .before .before .before .before .is-no-address .ensures) ∙ not-false _ (c .before .before .before .if1 .left), eq-eqb _ _ (c .before .before .if2 .left), c .before .if3 .left) (c .is-no-address2 .ensures)))
+    (λ c. rw (sym (c .before .before .before .before .is-zero .ensures) ∙ not-false _ (c .before .before .before .if1 .left), eq-eqb _ _ (c .before .before .if2 .left), c .before .if3 .left) (c .is-zero2 .ensures)))

@@ -21,6 +21,4 @@ chosen-at-spec =
     (λ c. ap chosenBy (sym (c .match .keys7) ∙ c .before .code-of .ensures))
     (λ c. ap chosenBy (sym (c .match .keys8) ∙ c .before .code-of .ensures))
     (λ c. ap chosenBy (sym (c .match .keys9) ∙ c .before .code-of .ensures))
-    (λ c. ap chosenBy (sym (c .match .keys10) ∙ c .before .code-of .ensures))
-    (λ c. ap chosenBy (sym (c .match .keys11) ∙ c .before .code-of .ensures))
-    (λ c. chosen-rest (c .before .code-of .result) (c .match .rest .0 .0 .0 .0 .0 .0 .0 .0 .0 .0 .1) (c .match .rest .0 .0 .0 .0 .0 .0 .0 .0 .0 .1) (c .match .rest .0 .0 .0 .0 .0 .0 .0 .0 .1) (c .match .rest .0 .0 .0 .0 .0 .0 .0 .1) (c .match .rest .0 .0 .0 .0 .0 .0 .1) (c .match .rest .0 .0 .0 .0 .0 .1) (c .match .rest .0 .0 .0 .0 .1) (c .match .rest .0 .0 .0 .1) (c .match .rest .0 .0 .1) (c .match .rest .0 .1) (c .match .rest .1) ∙ ap chosenBy (c .before .code-of .ensures)))
+    (λ c. chosen-rest (c .before .code-of .result) (c .match .rest .0 .0 .0 .0 .0 .0 .0 .0 .1) (c .match .rest .0 .0 .0 .0 .0 .0 .0 .1) (c .match .rest .0 .0 .0 .0 .0 .0 .1) (c .match .rest .0 .0 .0 .0 .0 .1) (c .match .rest .0 .0 .0 .0 .1) (c .match .rest .0 .0 .0 .1) (c .match .rest .0 .0 .1) (c .match .rest .0 .1) (c .match .rest .1) ∙ ap chosenBy (c .before .code-of .ensures)))

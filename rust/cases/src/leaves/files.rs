@@ -18,6 +18,9 @@ pub const PRE_SHARED_KEY: Place = iwd("Desk.psk", "[Security]\nPreSharedKey=", "
 pub const ADDRESS: Place = iwd("Desk.open", "[IPv4]\nAddress=", "Gateway=10.0.0.1\n");
 pub const NETMASK: Place = iwd("Desk.open", "[IPv4]\nNetmask=", "Address=10.0.0.2\nGateway=10.0.0.1\n");
 pub const DNS: Place = iwd("Desk.open", "[IPv4]\nDNS=", "");
+pub const IWD_IPV6_ADDRESS: Place = iwd("Desk.open", "[IPv6]\nAddress=", "Gateway=::1\n");
+pub const IWD_IPV6_LENGTH: Place = iwd("Desk.open", "[IPv6]\nAddress=::1/", "Gateway=::1\n");
+pub const IWD_IPV6_GATEWAY: Place = iwd("Desk.open", "[IPv6]\nGateway=", "Address=::1\n");
 pub const DOMAIN_NAME: Place = iwd("Desk.open", "[IPv4]\nDomainName=", "");
 
 pub const GLOBAL_NAME: Place = service("[global]\nName=", "[service_a]\nType=wifi\nName=n\n");
@@ -26,7 +29,9 @@ pub const TYPE: Place = service("[service_a]\nType=", "Name=n\n");
 pub const TYPE_ALONE: Place = service("[service_a]\nType=", "");
 pub const SERVICE_IPV4: Place = service("[service_a]\nIPv4=", "Type=ethernet\n");
 pub const SERVICE_MASK: Place = service("[service_a]\nIPv4=10.0.0.2/", "Type=ethernet\n");
-pub const IPV6: Place = service("[service_a]\nIPv6=", "Type=ethernet\n");
+pub const SERVICE_IPV6: Place = service("[service_a]\nIPv6=", "Type=ethernet\n");
+pub const SERVICE_IPV6_LENGTH: Place = service("[service_a]\nIPv6=::1/", "Type=ethernet\n");
+pub const SERVICE_IPV6_GATEWAY: Place = service("[service_a]\nIPv6=::1/64/", "Type=ethernet\n");
 pub const PRIVACY: Place = service("[service_a]\nIPv6.Privacy=", "Type=ethernet\n");
 pub const MAC: Place = service("[service_a]\nMAC=", "Type=ethernet\n");
 pub const NAMESERVERS: Place = service("[service_a]\nNameservers=", "Type=ethernet\n");
@@ -90,7 +95,11 @@ impl Place {
 
 /// The answer at several places: one where they answer alike, else that of each.
 pub fn alike(places: &[Place], answer: impl Fn(Place) -> Vec<u8>) -> Vec<u8> {
-    let mut answers: Vec<Vec<u8>> = places.iter().map(|place| answer(*place)).collect();
+    agreed(places.iter().map(|place| answer(*place)).collect())
+}
+
+/// One answer where all are alike, else each of them.
+pub fn agreed(mut answers: Vec<Vec<u8>>) -> Vec<u8> {
     answers.dedup();
     answers.join(&b' ')
 }

@@ -7,6 +7,7 @@
 
 mod files;
 mod hexes;
+mod ipv6;
 mod judging;
 mod lines;
 mod lists;
@@ -46,7 +47,6 @@ fn leaf(kind: &str) -> Option<Leaf> {
         "flag-iwd" => words::flag_iwd,
         "flag-connman" => words::flag_connman,
         "type" => words::service_type,
-        "ipv6" => words::ipv6,
         "privacy" => words::privacy,
         "security" => words::security,
         "address" => numbers::address,
@@ -54,6 +54,12 @@ fn leaf(kind: &str) -> Option<Leaf> {
         "prefix-length" => numbers::prefix_length,
         "mask-of" => numbers::mask_of,
         "ipv4" => numbers::ipv4,
+        "ipv6" => ipv6::connman,
+        "ipv6-address" => ipv6::address,
+        "ipv6-length" => ipv6::length,
+        "ipv6-written" => ipv6::written,
+        "iwd-ipv6-address" => ipv6::iwd_address,
+        "iwd-ipv6-gateway" => ipv6::iwd_gateway,
         "dns" => lists::dns,
         "nameservers" => lists::nameservers,
         "entries" => lists::entries,

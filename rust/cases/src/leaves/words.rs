@@ -1,6 +1,6 @@
 //! Yes/no and the named words.
 
-use super::files::{shown, Place, Told, HIDDEN, IPV6, PRIVACY, SECURITY, SECURITY_ALONE, SERVICE_HIDDEN, TYPE, TYPE_ALONE};
+use super::files::{shown, Place, Told, HIDDEN, PRIVACY, SECURITY, SECURITY_ALONE, SERVICE_HIDDEN, TYPE, TYPE_ALONE};
 use crate::show::word;
 use qewaris::raw;
 
@@ -19,12 +19,6 @@ fn flag(code: u8) -> String {
 pub fn service_type(input: &[u8]) -> Vec<u8> {
     shown(uncontradicted(TYPE, TYPE_ALONE, input), |found| {
         word(found.network.service_type, &["absent", "wifi", "ethernet"])
-    })
-}
-
-pub fn ipv6(input: &[u8]) -> Vec<u8> {
-    shown(IPV6.service_settings(input), |found| {
-        word(found.addresses.ipv6, &["absent", "off", "auto"])
     })
 }
 

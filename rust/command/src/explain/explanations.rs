@@ -83,9 +83,13 @@ pub const EXPLANATIONS: [Explanation; 19] = [
     Explanation {
         title: "a value is not of its key's kind",
         meaning: "Each key takes one kind of value: yes or no, an address, a mask, a word of a list, hex digits, or a text of a \
-                  certain length. The message says which.",
+                  certain length. The message says which. An IPv4 address is four numbers from 0 to 255 with dots between. An IPv6 \
+                  address has 8 parts of 1 to 4 hex digits with colons between; once, :: may stand for one part or more that is \
+                  zero, and in place of the last two parts an IPv4 address may stand. Its length is 1 to 128.",
         example: Example::File("shop.config", b"[service_till]\nType = wifi\nName = Desk 4\nPassphrase = lowtide\n"),
-        remedy: "Write the value as the message says. In an iwd file a blank behind the value counts as a part of it.",
+        remedy: "Write the value as the message says. In an iwd file a blank behind the value counts as a part of it. ConnMan's IPv6 \
+                  needs the length behind the address, as in 2001:db8::14/64/2001:db8::1; in an iwd file it may be left off, which \
+                  means 128.",
     },
     Explanation {
         title: "there is a ninth service",
@@ -99,21 +103,22 @@ pub const EXPLANATIONS: [Explanation; 19] = [
     Explanation {
         title: "something that is needed is missing",
         meaning: "A ConnMan service needs Type; wifi needs Name or SSID; Security = psk needs Passphrase. An iwd file .psk needs \
-                  Passphrase or PreSharedKey; Address needs Gateway, and Gateway, Netmask and Broadcast need Address.",
+                  Passphrase or PreSharedKey. In the groups IPv4 and IPv6 of an iwd file, each by itself, Address needs Gateway and \
+                  Gateway needs Address; in IPv4 Netmask and Broadcast need Address too.",
         example: Example::File("Desk.psk", b""),
         remedy: "Put in what the message names. A network without a key has an .open file.",
     },
     Explanation {
         title: "two settings contradict each other",
         meaning: "A ConnMan service of ethernet takes no Name, SSID, Passphrase, Security or Hidden; Security = none takes no \
-                  Passphrase. An iwd file .open takes no key.",
+                  Passphrase. An iwd file .open takes no key, and the group IPv6 of any iwd file no Address beside Enabled=false.",
         example: Example::File("Desk.open", b"[Security]\nPassphrase=low tide 88\n"),
         remedy: "Find out which of the two is meant. If the network has a key, the key stays and the other one changes.",
     },
     Explanation {
         title: "iwd has no place for the service",
-        meaning: "A service cannot move with Type = ethernet, Security = wep or ieee8021x, IPv4 = off, an address without a gateway, \
-                  MAC, IPv6.Privacy, SearchDomains or Timeservers. The earliest such line is named.",
+        meaning: "A service cannot move with Type = ethernet, Security = wep or ieee8021x, IPv4 = off, an IPv4 or IPv6 address \
+                  without a gateway, MAC, IPv6.Privacy, SearchDomains or Timeservers. The earliest such line is named.",
         example: Example::Move(
             "shop.config",
             b"[service_till]\nType = wifi\nName = Desk 4\nIPv4 = 10.0.0.2/24\n",
@@ -126,7 +131,7 @@ pub const EXPLANATIONS: [Explanation; 19] = [
         title: "a buffer is too short",
         meaning: "A program lent the library a buffer that is shorter than what must be written. This command never does.",
         example: Example::Buffer("shop.config", b"[service_till]\nType = wifi\nName = Desk 4\nHidden = true\n", 10),
-        remedy: "Lend 70 bytes for the name and 858 for the file: this is proved to be enough for every network, and some need as \
+        remedy: "Lend 70 bytes for the name and 944 for the file: this is proved to be enough for every network, and some need as \
                   much. An image that sets a fixed place aside for each file may count on the same figures.",
     },
     Explanation {
@@ -138,7 +143,8 @@ pub const EXPLANATIONS: [Explanation; 19] = [
     Explanation {
         title: "a record is malformed",
         meaning: "A program handed the writer a record outside its rules: a name of 1 to 32 bytes, a passphrase of 8 to 63, at most 4 \
-                  name servers, a domain of at most 253 bytes, and zeros in places not in use. This command never does.",
+                  name servers, a domain of at most 253 bytes, a length of 1 to 32 for a fixed IPv4 and of 1 to 128 for a fixed IPv6 \
+                  address, and zeros in places not in use. This command never does.",
         example: Example::Record(b""),
         remedy: "Fill the record as the header qewaris.h says.",
     },

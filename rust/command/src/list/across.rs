@@ -1,13 +1,15 @@
 //! What only several files can tell.
 
 use super::rows::Row;
+use crate::addressing::{address_text, fixed_addresses};
 use crate::catalogue::Dialect;
 use crate::report::{shown_path, HIDDEN};
 use crate::secrets::swallowed_secret;
 use crate::visible::quoted_string;
 use crate::warnings::{Warning, Word};
-use qewaris::{Credential, Ipv4};
+use qewaris::Credential;
 use std::collections::BTreeMap;
+use std::net::IpAddr;
 use std::path::{Path, PathBuf};
 
 /// A finding about several files.
@@ -115,11 +117,10 @@ fn suffixes(network: &[u8], rows: &[&Row]) -> Option<Across> {
 
 /// One address in one network, in two files of one kind: an old file and the one that it was moved to are of one till.
 fn addresses(network: &[u8], rows: &[&Row]) -> Vec<Across> {
-    let mut addresses: BTreeMap<(bool, [u8; 4]), Vec<&Path>> = BTreeMap::new();
+    let mut addresses: BTreeMap<(bool, IpAddr), Vec<&Path>> = BTreeMap::new();
     for row in rows {
-        if let Some(Ipv4::Static(fixed)) = row.record.as_ref().map(|record| &record.ipv4) {
-            let is_iwd = row.dialect() == Dialect::Iwd;
-            let files = addresses.entry((is_iwd, fixed.address.octets())).or_default();
+        for address in row.record.iter().flat_map(fixed_addresses) {
+            let files = addresses.entry((row.dialect() == Dialect::Iwd, address)).or_default();
             if !files.contains(&row.path.as_path()) {
                 files.push(&row.path);
             }
@@ -130,7 +131,7 @@ fn addresses(network: &[u8], rows: &[&Row]) -> Vec<Across> {
         .map(|((_, address), files)| {
             let names: Vec<String> = files.iter().map(|path| shown_path(path)).collect();
             let parts = [
-                ("found", std::net::Ipv4Addr::from(address).to_string()),
+                ("found", address_text(address)),
                 ("count", files.len().to_string()),
                 ("network", shown(network)),
                 ("files", names.join(", ")),

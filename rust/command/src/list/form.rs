@@ -2,10 +2,10 @@
 
 use super::rows::{Moves, Rank, Row};
 use super::Listed;
+use crate::addressing::Addressing;
 use crate::forms::{self, bytes_members, head, kind, path_members};
 use crate::json::{members, number, Json, Members};
 use crate::secrets::swallowed_secret;
-use crate::show::form::ipv4;
 use std::ffi::OsStr;
 use std::os::unix::ffi::OsStrExt;
 use std::path::Path;
@@ -42,7 +42,8 @@ fn row(row: &Row) -> Json {
     found.extend(members([
         ("credential", Json::from(record.map(|record| record.credential.word()))),
         ("hidden", record.map_or(Json::Null, |record| Json::Bool(record.hidden))),
-        ("ipv4", record.map_or(Json::Null, |record| ipv4(&record.ipv4))),
+        ("ipv4", record.map_or(Json::Null, |record| Addressing::from(record.ipv4).json())),
+        ("ipv6", record.map_or(Json::Null, |record| Addressing::from(record.ipv6).json())),
     ]));
     found.extend(moves(&row.moves));
     found.extend(members([

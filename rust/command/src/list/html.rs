@@ -28,7 +28,7 @@ th,td{text-align:left;vertical-align:top;padding:.35rem .6rem;border-bottom:1px 
 li{overflow-wrap:anywhere}
 th{border-bottom:2px solid #444;white-space:nowrap}
 td:nth-child(1){white-space:nowrap;font-weight:600}
-td:nth-child(4),td:nth-child(5),td:nth-child(6){white-space:nowrap}
+td:nth-child(4),td:nth-child(5){white-space:nowrap}
 td:nth-child(2),td:nth-child(3){overflow-wrap:anywhere}
 td:nth-child(2){min-width:13em}
 td:nth-child(3){min-width:8em}

@@ -1,5 +1,6 @@
 //! The rows of a list: one for each service and each iwd file, and one for each file that has neither.
 
+use crate::addressing::Addressing;
 use crate::advice::advice;
 use crate::catalogue::{counted, Dialect};
 use crate::diagnosis::{finding, Finding};
@@ -11,7 +12,7 @@ use crate::secrets::swallowed_secret;
 use crate::services::Service;
 use crate::visible::string;
 use crate::warnings::{found_in, Warning, Word};
-use qewaris::{Credential, Ipv4, JoinRecord};
+use qewaris::{Credential, Ipv6, JoinRecord};
 use std::path::{Path, PathBuf};
 
 /// How bad it is, the worst first.
@@ -141,13 +142,13 @@ impl Row {
         }
     }
 
-    /// The address, or how the till gets one.
+    /// The IPv4 address, or how the till gets one, and an IPv6 address that is fixed.
     pub fn shown_address(&self) -> String {
-        match self.record.as_ref().map(|record| &record.ipv4) {
-            Some(Ipv4::Dhcp) => "dhcp".to_string(),
-            Some(Ipv4::Off) => "off".to_string(),
-            Some(Ipv4::Static(fixed)) => format!("{}/{}", fixed.address, fixed.prefix_length),
-            None => String::new(),
+        let Some(record) = &self.record else { return String::new() };
+        let ipv4 = Addressing::from(record.ipv4).short();
+        match record.ipv6 {
+            Ipv6::Static(_) => format!("{ipv4}, {}", Addressing::from(record.ipv6).short()),
+            _ => ipv4,
         }
     }
 

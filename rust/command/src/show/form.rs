@@ -3,11 +3,12 @@
 use super::settings::Group;
 use super::value::Hiding;
 use super::{Shown, ShownService};
+use crate::addressing::Addressing;
 use crate::catalogue::Dialect;
 use crate::forms::{self, bytes_members, path_members, Contents, State};
 use crate::hex::encoded;
 use crate::json::{members, Json};
-use qewaris::{Credential, Ipv4, JoinRecord};
+use qewaris::{Credential, JoinRecord};
 use std::ffi::OsStr;
 use std::os::unix::ffi::OsStrExt;
 use std::path::Path;
@@ -79,28 +80,10 @@ fn record(record: &JoinRecord, hiding: &Hiding) -> Json {
     let domain = (!record.domain.is_empty()).then(|| hiding.masked(&record.domain));
     found.extend(members([
         ("hidden", Json::Bool(record.hidden)),
-        ("ipv4", ipv4(&record.ipv4)),
+        ("ipv4", Addressing::from(record.ipv4).json()),
         ("name_servers", Json::List(servers)),
         ("domain", Json::from(domain)),
-        ("ipv6", Json::text(record.ipv6.word())),
+        ("ipv6", Addressing::from(record.ipv6).json()),
     ]));
     Json::Object(found)
-}
-
-/// How a till gets its address.
-pub fn ipv4(ipv4: &Ipv4) -> Json {
-    let (method, fixed) = match ipv4 {
-        Ipv4::Dhcp => ("dhcp", None),
-        Ipv4::Off => ("off", None),
-        Ipv4::Static(fixed) => ("static", Some(fixed)),
-    };
-    Json::object([
-        ("method", Json::text(method)),
-        ("address", Json::from(fixed.map(|fixed| fixed.address))),
-        (
-            "prefix_length",
-            fixed.map_or(Json::Null, |fixed| Json::Number(fixed.prefix_length.into())),
-        ),
-        ("gateway", Json::from(fixed.and_then(|fixed| fixed.gateway))),
-    ])
 }

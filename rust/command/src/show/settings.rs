@@ -1,8 +1,9 @@
 //! The typed settings of the library as rows of key and value, by group.
 
 use super::value::Value;
+use crate::addressing::Addressing;
 use crate::hex::encoded;
-use qewaris::{Ipv4, Ipv6Method, Privacy, Refusal, Security, ServiceType, Text};
+use qewaris::{ipv6_text, IwdIpv6, Privacy, Refusal, Security, ServiceType, Text};
 use std::net::Ipv4Addr;
 
 /// A group's name, and each of its keys with its value.
@@ -33,7 +34,11 @@ pub fn iwd(name: &[u8], file: &[u8]) -> Result<Vec<Group>, Refusal> {
         ("DomainName", Value::Text(domain)),
         ("SendHostname", Value::Flag(found.ipv4.send_hostname)),
     ];
-    let ipv6 = vec![("Enabled", Value::Flag(found.ipv6_enabled))];
+    let ipv6 = vec![
+        ("Enabled", Value::Flag(found.ipv6.enabled)),
+        ("Address", Value::Plain(ipv6_address(&found.ipv6))),
+        ("Gateway", Value::Plain(found.ipv6.gateway.map(ipv6_text))),
+    ];
     let groups = [("Settings", general), ("Security", security), ("IPv4", ipv4), ("IPv6", ipv6)];
     Ok(groups.into_iter().map(|(name, rows)| Group { name, rows }).collect())
 }
@@ -50,20 +55,20 @@ pub fn global(name: &[u8], file: &[u8]) -> Result<Group, Refusal> {
 /// The settings of a ConnMan service, by its number from 1.
 pub fn service(name: &[u8], file: &[u8], number: usize) -> Result<Group, Refusal> {
     let found = qewaris::service_settings(name, file, number)?;
-    let (network, addressing) = (found.network, found.addresses);
+    let network = found.network;
     let entries = |places: &[std::ops::Range<usize>]| {
         let texts = places.iter().filter_map(|place| file.get(place.clone()));
         Value::Texts(texts.map(<[u8]>::to_vec).collect())
     };
     let rows = vec![
         ("Type", word(network.service_type.map(type_word))),
-        ("IPv4", Value::Plain(addressing.ipv4.map(ipv4))),
-        ("IPv6", word(addressing.ipv6.map(Ipv6Method::word))),
-        ("IPv6.Privacy", word(addressing.privacy.map(privacy_word))),
-        ("MAC", Value::Plain(addressing.mac.map(mac))),
-        ("Nameservers", addresses(&addressing.nameservers)),
-        ("SearchDomains", entries(&addressing.search_domains)),
-        ("Timeservers", entries(&addressing.timeservers)),
+        ("IPv4", as_set(found.addresses.ipv4)),
+        ("IPv6", as_set(found.addresses.ipv6)),
+        ("IPv6.Privacy", word(found.addresses.privacy.map(privacy_word))),
+        ("MAC", Value::Plain(found.addresses.mac.map(mac))),
+        ("Nameservers", addresses(&found.addresses.nameservers)),
+        ("SearchDomains", entries(&found.addresses.search_domains)),
+        ("Timeservers", entries(&found.addresses.timeservers)),
         ("Domain", Value::Text(text(qewaris::service_domain(name, file, number)?))),
         ("Name", Value::Name(text(qewaris::service_name(name, file, number)?))),
         ("SSID", Value::Hex(network.ssid)),
@@ -101,16 +106,14 @@ fn netmask(length: u8) -> String {
     Ipv4Addr::from(bits).to_string()
 }
 
-/// IPv4 as ConnMan writes it.
-fn ipv4(ipv4: Ipv4) -> String {
-    match ipv4 {
-        Ipv4::Dhcp => "dhcp".to_string(),
-        Ipv4::Off => "off".to_string(),
-        Ipv4::Static(fixed) => {
-            let gateway = fixed.gateway.map_or(String::new(), |gateway| format!("/{gateway}"));
-            format!("{}/{}{gateway}", fixed.address, fixed.prefix_length)
-        }
-    }
+/// The address of iwd's group IPv6 with its length, which is 128 where the file has none.
+fn ipv6_address(ipv6: &IwdIpv6) -> Option<String> {
+    Some(format!("{}/{}", ipv6_text(ipv6.address?), ipv6.prefix_length?))
+}
+
+/// ConnMan's IPv4 or IPv6.
+fn as_set(family: Option<impl Into<Addressing>>) -> Value {
+    Value::Plain(family.map(|family| family.into().setting()))
 }
 
 fn type_word(word: ServiceType) -> &'static str {

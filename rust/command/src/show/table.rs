@@ -3,11 +3,12 @@
 use super::settings::Group;
 use super::value::Hiding;
 use super::{Shown, ShownService};
+use crate::addressing::Addressing;
 use crate::catalogue::{counted, Dialect};
 use crate::hex::encoded;
 use crate::output::{Output, Style};
 use crate::report::shown_path;
-use qewaris::{Credential, Ipv4, JoinRecord};
+use qewaris::{Credential, JoinRecord};
 use std::io;
 
 /// How wide the column of the keys is: the longest key and two blanks.
@@ -80,10 +81,10 @@ fn print_record(record: &JoinRecord, hiding: &Hiding, output: &mut Output) -> io
     }
     rows.extend([
         ("hidden", if record.hidden { "yes" } else { "no" }.to_string()),
-        ("IPv4", ipv4(&record.ipv4)),
+        ("IPv4", Addressing::from(record.ipv4).told()),
         ("name servers", or_none(servers.join(", "))),
         ("domain", or_none(hiding.text(&record.domain))),
-        ("IPv6", record.ipv6.word().to_string()),
+        ("IPv6", Addressing::from(record.ipv6).told()),
     ]);
     print_rows("join record", &rows, output)
 }
@@ -93,18 +94,5 @@ fn or_none(text: String) -> String {
         "none".to_string()
     } else {
         text
-    }
-}
-
-fn ipv4(ipv4: &Ipv4) -> String {
-    match ipv4 {
-        Ipv4::Dhcp => "dhcp".to_string(),
-        Ipv4::Off => "off".to_string(),
-        Ipv4::Static(fixed) => {
-            let gateway = fixed
-                .gateway
-                .map_or("no gateway".to_string(), |gateway| format!("gateway {gateway}"));
-            format!("{}/{}, {gateway}", fixed.address, fixed.prefix_length)
-        }
     }
 }

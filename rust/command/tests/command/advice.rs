@@ -112,8 +112,8 @@ fn a_key_of_the_papers_is_told_as_one() {
     let cases = [
         (
             "a.open",
-            "[IPv6]\nAddress=2001:db8::2/64\n",
-            "Address is iwd's and not taken in [IPv6]; the keys of [IPv6] are Enabled",
+            "[IPv6]\nDNS=2001:db8::53\n",
+            "DNS is iwd's and not taken in [IPv6]; the keys of [IPv6] are Enabled, Address and Gateway",
         ),
         (
             "a.psk",
@@ -128,7 +128,7 @@ fn a_key_of_the_papers_is_told_as_one() {
         (
             "a.open",
             "[Settings]\nAddress=10.0.0.1\n",
-            "Address is no key of [Settings]; it belongs to [IPv4]",
+            "Address is no key of [Settings]; it belongs to [IPv4] or [IPv6]",
         ),
     ];
     for (name, file, told) in cases {

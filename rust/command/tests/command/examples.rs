@@ -50,6 +50,16 @@ fn each_example_is_answered_as_its_table_says() {
 }
 
 #[test]
+fn the_old_files_that_stand_beside_their_new_ones_move_to_them() {
+    let folder = Folder::new("worked");
+    for (old, new) in [("shop.config", "Desk 4.psk"), ("harbour.config", "Harbour.psk")] {
+        let told = run(&["move", &format!("good/{old}"), "--to", folder.path().to_str().unwrap()]);
+        assert_eq!((told.code, told.err.as_str()), (Some(0), ""), "{}", told.out);
+        assert_eq!(folder.read(new), std::fs::read(examples().join("good").join(new)).unwrap(), "{old}");
+    }
+}
+
+#[test]
 fn each_example_stands_in_the_table() {
     let listed: BTreeSet<String> = rows().into_iter().map(|row| row.3).collect();
     let mut found = BTreeSet::new();

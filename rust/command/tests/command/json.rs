@@ -26,8 +26,8 @@ const SCHEMA: &[(&str, &str)] = &[
     ),
     (
         "row",
-        "command credential file file_hex format group hidden ipv4 iwd_name iwd_name_hex kind line moves network network_hex \
-         refusals remedy service state type warnings",
+        "command credential file file_hex format group hidden ipv4 ipv6 iwd_name iwd_name_hex kind line moves network \
+         network_hex refusals remedy service state type warnings",
     ),
     ("finding", "command files format network network_hex sentence type word"),
     (
@@ -74,6 +74,10 @@ const RUNS: [&[&str]; 8] = [
 fn mixed() -> Folder {
     let folder = Folder::new("json-all");
     folder.write("a/good.psk", PSK);
+    folder.write(
+        "a/fixed.psk",
+        format!("{PSK}[IPv6]\nAddress=2001:db8::14/64\nGateway=2001:db8::1\n"),
+    );
     folder.write("a/bad.psk", "");
     folder.write("a/notes.txt", "");
     folder.write("a/silent.config", "[service_a]\nType = wifi\nName = Quay\n");
@@ -93,7 +97,7 @@ fn every_object_has_every_member_of_its_type() {
         let all = objects(&run);
         assert!(!all.is_empty(), "{arguments:?}: {}", run.err);
         for object in &all {
-            assert_eq!(*object.at("format"), Value::Number(3));
+            assert_eq!(*object.at("format"), Value::Number(4));
             assert_eq!(*object.at("command"), text(arguments[0]));
             let of_type = SCHEMA.iter().find(|(name, _)| *object.at("type") == text(name)).unwrap();
             assert_eq!(names(object).join(" "), of_type.1, "{arguments:?}");
@@ -103,14 +107,56 @@ fn every_object_has_every_member_of_its_type() {
     assert!(SCHEMA.iter().all(|(name, _)| seen.contains(name)), "{seen:?}");
 }
 
+/// The members of what stands inside such an object: the arguments, the place, and the members.
+const INNER: &[(&[&str], &str, &str)] = &[
+    (&["check", "--json", "a/bad.psk"], "refusal", "advice line number sentence"),
+    (&["check", "--json", "a/silent.config"], "warnings/0", "line sentence service word"),
+    (&["show", "--json", "a/fixed.psk"], "settings", "IPv4 IPv6 Security Settings"),
+    (&["show", "--json", "a/fixed.psk"], "settings/IPv6", "Address Enabled Gateway"),
+    (
+        &["show", "--json", "a/silent.config"],
+        "services/0",
+        "group iwd_name iwd_name_hex line move_refusals moves number record record_refusal settings",
+    ),
+    (
+        &["show", "--json", "a/fixed.psk"],
+        "record",
+        "credential domain hidden ipv4 ipv6 key key_hidden name name_hex name_hidden name_servers passphrase passphrase_hidden",
+    ),
+    (
+        &["show", "--json", "a/fixed.psk"],
+        "record/ipv4",
+        "address gateway method prefix_length",
+    ),
+    (
+        &["show", "--json", "a/fixed.psk"],
+        "record/ipv6",
+        "address gateway method prefix_length",
+    ),
+    (&["list", "--json", "a/fixed.psk"], "ipv4", "address gateway method prefix_length"),
+    (&["list", "--json", "a/fixed.psk"], "ipv6", "address gateway method prefix_length"),
+];
+
+#[test]
+fn what_stands_inside_an_object_has_every_member() {
+    let folder = mixed();
+    for (arguments, place, members) in INNER {
+        let all = objects(&folder.run(arguments));
+        assert_eq!(names(all[0].at(place)).join(" "), *members, "{place} of {arguments:?}");
+    }
+}
+
 #[test]
 fn the_man_page_names_every_member() {
     let page = include_str!("../../../../man/qewaris.1");
-    for (name, members) in SCHEMA {
-        assert!(page.contains(&format!("\"{name}\"")), "{name}");
+    let inner = INNER.iter().map(|(_, place, members)| (*place, *members));
+    for (name, members) in SCHEMA.iter().copied().chain(inner) {
         for member in members.split_whitespace() {
             assert!(page.contains(member), "{member} of {name}");
         }
+    }
+    for (name, _) in SCHEMA {
+        assert!(page.contains(&format!("\"{name}\"")), "{name}");
     }
 }
 

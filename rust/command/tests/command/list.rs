@@ -124,6 +124,66 @@ fn what_only_several_files_tell_is_told() {
     assert!(!run.out.contains("warning"), "{}", run.out);
 }
 
+/// A ConnMan file of the network `Harbour`, with this line.
+fn harbour(line: &str) -> String {
+    format!("[service_a]\nType = wifi\nName = Harbour\nPassphrase = low tide 88\n{line}\n")
+}
+
+#[test]
+fn a_fixed_ipv6_address_stands_beside_the_other_in_every_list() {
+    let folder = Folder::new("list-ipv6");
+    folder.write("a.config", harbour("IPv6 = 2001:DB8:0:0:0:0:0:14/64/2001:db8::1"));
+    folder.write("b.config", harbour("IPv4 = 10.60.0.15/24/10.60.0.1\nIPv6 = 2001:db8::15/64"));
+    folder.write("c.config", harbour("IPv6 = off"));
+    let files = ["a.config", "b.config", "c.config"];
+    let list = |options: &[&str]| folder.run(&[&["list"], options, &files].concat());
+    let run = list(&[]);
+    assert_eq!(run.code, Some(0));
+    for row in [
+        "\ngood           a.config  Harbour  passphrase  -       dhcp, 2001:db8::14/64           yes    -\n",
+        "\ndoes not move  b.config  Harbour  passphrase  -       10.60.0.15/24, 2001:db8::15/64  no     line 6: ",
+        "\ngood           c.config  Harbour  passphrase  -       dhcp                            yes    -\n",
+    ] {
+        assert!(run.out.contains(row), "{row}{}", run.out);
+    }
+    let told = "b.config:6: does not move: [service_a] has an IPv6 address without a gateway, which has no place in iwd; \
+                an address with a gateway moves [16]\n";
+    assert!(run.out.ends_with(told), "{}", run.out);
+    list(&["--html", "page.html"]);
+    let page = String::from_utf8(folder.read("page.html")).unwrap();
+    assert!(
+        page.contains("<td data-label=\"Address\">10.60.0.15/24, 2001:db8::15/64</td>"),
+        "{page}"
+    );
+    let objects: Vec<Value> = list(&["--json"]).out.lines().map(read).collect();
+    let of = |name: &str| objects.iter().find(|object| *object.at("file") == text(name)).unwrap();
+    let (fixed, alone, off) = (of("a.config").at("ipv6"), of("b.config").at("ipv6"), of("c.config").at("ipv6"));
+    assert_eq!((fixed.at("method"), fixed.at("address")), (&text("static"), &text("2001:db8::14")));
+    assert_eq!(
+        (fixed.at("prefix_length"), fixed.at("gateway")),
+        (&Value::Number(64), &text("2001:db8::1"))
+    );
+    assert_eq!((alone.at("address"), alone.at("gateway")), (&text("2001:db8::15"), &Value::Null));
+    assert_eq!((off.at("method"), off.at("prefix_length")), (&text("off"), &Value::Null));
+}
+
+#[test]
+fn two_tills_with_one_ipv6_address_are_told_however_it_is_written() {
+    let folder = Folder::new("one-ipv6");
+    folder.write(
+        "a.config",
+        harbour("IPv4 = 10.60.0.14/24/10.60.0.1\nIPv6 = ::ffff:10.60.0.14/96/::1"),
+    );
+    folder.write(
+        "b.config",
+        harbour("IPv4 = 10.60.0.15/24/10.60.0.1\nIPv6 = 0:0:0:0:0:FFFF:A3C:E/64/::1"),
+    );
+    let run = folder.run(&["list", "."]);
+    let told = "\nwarning: ::ffff:a3c:e is the address of 2 tills in the network \"Harbour\": ./a.config, ./b.config [one-address]\n";
+    assert!(run.out.contains(told), "{}", run.out);
+    assert_eq!(run.out.matches("[one-address]").count(), 1, "{}", run.out);
+}
+
 #[test]
 fn an_old_file_and_its_move_are_one_till() {
     let folder = Folder::new("one-till");
@@ -140,12 +200,13 @@ fn json_is_an_object_a_line() {
     let objects: Vec<Value> = run.out.lines().map(read).collect();
     let of = |name: &str| objects.iter().filter(|object| *object.at("type") == text(name)).count();
     assert_eq!((of("row"), of("finding"), of("counts")), (40, 4, 1));
-    assert!(objects.iter().all(|object| *object.at("format") == Value::Number(3)));
+    assert!(objects.iter().all(|object| *object.at("format") == Value::Number(4)));
     let first = &objects[0];
     assert_eq!(*first.at("file"), text("forty/till03.config"));
     assert_eq!(*first.at("state"), text("open-by-silence"));
     assert_eq!(*first.at("credential"), text("none"));
     assert_eq!(*first.at("ipv4/address"), text("10.20.0.13"));
+    assert_eq!((first.at("ipv6/method"), first.at("ipv6/address")), (&text("auto"), &Value::Null));
     assert_eq!((first.at("moves"), first.at("iwd_name")), (&Value::Bool(true), &text("Quay.open")));
     assert_eq!(*first.at("warnings/0/word"), text("open-by-silence"));
     let refused = objects.iter().find(|object| *object.at("state") == text("refused")).unwrap();

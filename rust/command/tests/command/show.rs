@@ -56,6 +56,83 @@ fn an_iwd_file_is_shown_by_its_groups() {
     assert_eq!(run.code, Some(0));
 }
 
+/// IPv6 as a ConnMan file may have it, as it is shown among its settings, and in its record.
+const CONNMAN_IPV6: &[(&str, &str, &str)] = &[
+    ("auto", "auto", "auto"),
+    ("off", "off", "off"),
+    (
+        "2001:0DB8:0:0:0:0:0:14/64/2001:db8:0::1",
+        "2001:db8::14/64/2001:db8::1",
+        "2001:db8::14/64, gateway 2001:db8::1",
+    ),
+    ("::ffff:192.0.2.14/96", "::ffff:c000:20e/96", "::ffff:c000:20e/96, no gateway"),
+    ("1:0:0:2:0:0:0:3/1/::", "1:0:0:2::3/1/::", "1:0:0:2::3/1, gateway ::"),
+    ("1:0:2:0:3:0:4:0/128", "1:0:2:0:3:0:4:0/128", "1:0:2:0:3:0:4:0/128, no gateway"),
+];
+
+#[test]
+fn an_ipv6_address_is_shown_in_one_form() {
+    let folder = Folder::new("ipv6");
+    for (value, setting, told) in CONNMAN_IPV6 {
+        folder.write(
+            "shop.config",
+            format!("[service_a]\nType = wifi\nName = Desk\nSecurity = none\nIPv6 = {value}\n"),
+        );
+        let shown = folder.run(&["show", "shop.config"]).out;
+        for row in [setting, told] {
+            assert!(shown.contains(&format!("\n    IPv6                    {row}\n")), "{row}: {shown}");
+        }
+    }
+    let told = "\
+Desk.open (iwd, 5 settings)
+
+  IPv4
+    Address                 10.60.0.14
+    Gateway                 10.60.0.1
+
+  IPv6
+    Enabled                 true
+    Address                 64:ff9b::a3c:e/128
+    Gateway                 2001:db8::1
+
+  join record
+    network name            Desk
+    credential              none, the network is open
+    hidden                  no
+    IPv4                    10.60.0.14/24, gateway 10.60.0.1
+    name servers            none
+    domain                  none
+    IPv6                    64:ff9b::a3c:e/128, gateway 2001:db8::1
+";
+    let file = "[IPv4]\nAddress=10.60.0.14\nGateway=10.60.0.1\n[IPv6]\nEnabled=1\nAddress=64:FF9B::10.60.0.14\nGateway=2001:db8:0:0::1\n";
+    folder.write("Desk.open", file);
+    folder.run(&["show", "Desk.open"]).gives(0, told, "");
+}
+
+#[test]
+fn json_has_the_parts_of_an_ipv6_address() {
+    let folder = Folder::new("ipv6-json");
+    folder.write("Desk.open", "[IPv6]\nGateway=2001:DB8::1\nAddress=2001:0db8::14\n");
+    let value = read(&folder.run(&["show", "--json", "Desk.open"]).out);
+    for (place, found) in [
+        ("settings/IPv6/Enabled", Value::Null),
+        ("settings/IPv6/Address", text("2001:db8::14/128")),
+        ("settings/IPv6/Gateway", text("2001:db8::1")),
+        ("settings/IPv4/Address", Value::Null),
+        ("record/ipv6/method", text("static")),
+        ("record/ipv6/address", text("2001:db8::14")),
+        ("record/ipv6/prefix_length", Value::Number(128)),
+        ("record/ipv6/gateway", text("2001:db8::1")),
+    ] {
+        assert_eq!(*value.at(place), found, "{place}");
+    }
+    folder.write("a.config", "[service_a]\nType = wifi\nName = Desk\nSecurity = none\nIPv6 = ::2/9\n");
+    let value = read(&folder.run(&["show", "--json", "a.config"]).out);
+    assert_eq!(*value.at("services/0/settings/IPv6"), text("::2/9"));
+    assert_eq!(*value.at("services/0/record/ipv6/gateway"), Value::Null);
+    assert_eq!(*value.at("services/0/move_refusals/0/line"), Value::Number(5));
+}
+
 #[test]
 fn a_service_without_a_record_is_shown_with_the_reason() {
     let folder = Folder::new("no-record");
@@ -100,7 +177,7 @@ fn json_has_every_member() {
     let run = folder.run(&["show", "--json", "shop.config"]);
     assert_eq!((run.code, run.err.as_str()), (Some(0), ""));
     let value = read(&run.out);
-    assert_eq!(*value.at("format"), Value::Number(3));
+    assert_eq!(*value.at("format"), Value::Number(4));
     assert_eq!(*value.at("file"), text("shop.config"));
     assert_eq!(*value.at("kind"), text("connman"));
     assert_eq!(*value.at("refusal"), Value::Null);
@@ -120,6 +197,8 @@ fn json_has_every_member() {
     assert_eq!(*service.at("record/passphrase_hidden"), Value::Bool(true));
     assert_eq!(*service.at("record/key_hidden"), Value::Bool(false));
     assert_eq!(*service.at("record/ipv4/prefix_length"), Value::Number(24));
+    assert_eq!(*service.at("record/ipv6/method"), text("off"));
+    assert_eq!(*service.at("record/ipv6/address"), Value::Null);
     assert_eq!(*service.at("record_refusal"), Value::Null);
     let open = read(&folder.run(&["show", "--json", "--secrets", "shop.config"]).out);
     assert_eq!(*open.at("services/0/record/passphrase"), text("low\tide 88"));

@@ -53,7 +53,7 @@ pub fn noise(random: &mut Random) -> Vec<u8> {
 const WORDS: &[u8] = b"[|]|=|\n|\n|\n| |\t|#|\\s|\\t|\\r|\\n|\\\\|\\|,|.|/|[@|[Settings]\n|[Security]\n|[IPv4]\n|[IPv6]\n|[global]\n|\
     [service_a]\n|[service_b]\n|Hidden=|Passphrase=|PreSharedKey=|Address=|Gateway=|Netmask=|DNS=|DomainName=|Enabled=|Type=|\
     Type=wifi\n|Name=|Description=|Domain=|SSID=|Security=|IPv4=|IPv6=|IPv6.Privacy=|MAC=|true\n|false\n|wifi\n|ethernet\n|psk\n|none\n|\
-    wep\n|off\n|dhcp\n|auto\n|10.0.0.1|255.255.255.0|24|12345678\n|ab\n|\r\n|\0";
+    wep\n|off\n|dhcp\n|auto\n|10.0.0.1|255.255.255.0|24|::|:|::1|2001:db8::2|/64|/128|12345678\n|ab\n|\r\n|\0";
 
 /// Words of the grammar in any order.
 pub fn soup(random: &mut Random) -> Vec<u8> {

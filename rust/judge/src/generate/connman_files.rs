@@ -1,6 +1,7 @@
 //! Drafts of ConnMan files: legal ones, and ones with any keys at all.
 
 use super::draft::{Draft, Piece};
+use super::ipv6;
 use super::keys::{find, Key, GLOBAL_KEYS, SERVICE_KEYS};
 use super::largest;
 use super::names::good_connman;
@@ -106,7 +107,10 @@ fn movable(random: &mut Random) -> Vec<Piece> {
         1 => pieces.push(word("IPv4", "dhcp")),
         _ => pieces.push(Piece::setting("IPv4", static_ipv4(random, true))),
     }
-    pieces.extend(settings(random, &["IPv6", "Nameservers", "Domain", "Hidden"], 35));
+    if random.once_in(2) {
+        pieces.push(Piece::setting("IPv6", ipv6::placed_method(random)));
+    }
+    pieces.extend(settings(random, &["Nameservers", "Domain", "Hidden"], 35));
     pieces
 }
 
@@ -133,8 +137,25 @@ fn with_record(random: &mut Random, record: &Record) -> Vec<Piece> {
     pieces.push(Piece::setting("Nameservers", servers.join(&b',')));
     pieces.push(string(random, "Domain", &record.domain));
     pieces.push(word("Hidden", if record.hidden { "true" } else { "false" }));
-    pieces.push(word("IPv6", if record.ipv6 == Ipv6::Off { "off" } else { "auto" }));
+    pieces.push(with_ipv6(random, &record.ipv6));
     pieces
+}
+
+fn with_ipv6(random: &mut Random, record: &Ipv6) -> Piece {
+    let mut parts = match *record {
+        Ipv6::Auto => vec![b"auto".to_vec()],
+        Ipv6::Off => vec![b"off".to_vec()],
+        Ipv6::Static {
+            address, prefix_length, ..
+        } => vec![ipv6::text_of(random, address), prefix_length.to_string().into_bytes()],
+    };
+    if let Ipv6::Static {
+        gateway: Some(gateway), ..
+    } = *record
+    {
+        parts.push(ipv6::text_of(random, gateway));
+    }
+    Piece::setting("IPv6", parts.join(&b'/'))
 }
 
 /// The network's name, often as a Name where it can be one.

@@ -15,6 +15,12 @@ pub enum Kind {
     CommaServers,
     Entries,
     Ipv4,
+    /// ConnMan's IPv6.
+    Ipv6,
+    /// Address of iwd's IPv6.
+    Ipv6Prefix,
+    /// Gateway of iwd's IPv6.
+    Ipv6Address,
 }
 
 /// A key and its kind.
@@ -27,6 +33,9 @@ pub struct Key {
 const fn key(name: &'static str, kind: Kind) -> Key {
     Key { name, kind }
 }
+
+/// What iwd's Enabled can be beside an Address.
+pub const ENABLED: Key = key("Enabled", Kind::Words(&["true", "1"]));
 
 const IWD_BOOL: Kind = Kind::Words(&["true", "false", "1", "0"]);
 const CONNMAN_BOOL: Kind = Kind::Words(&["true", "false"]);
@@ -58,7 +67,14 @@ pub const IWD_GROUPS: [(&str, &[Key]); 4] = [
             key("SendHostname", IWD_BOOL),
         ],
     ),
-    ("IPv6", &[key("Enabled", IWD_BOOL)]),
+    (
+        "IPv6",
+        &[
+            key("Enabled", IWD_BOOL),
+            key("Address", Kind::Ipv6Prefix),
+            key("Gateway", Kind::Ipv6Address),
+        ],
+    ),
 ];
 
 /// The keys of ConnMan's `global`.
@@ -68,7 +84,7 @@ pub const GLOBAL_KEYS: &[Key] = &[key("Name", Kind::Text(1, 253)), key("Descript
 pub const SERVICE_KEYS: &[Key] = &[
     key("Type", Kind::Words(&["wifi", "ethernet"])),
     key("IPv4", Kind::Ipv4),
-    key("IPv6", Kind::Words(&["off", "auto"])),
+    key("IPv6", Kind::Ipv6),
     key("IPv6.Privacy", Kind::Words(&["disabled", "enabled", "preferred", "prefered"])),
     key("MAC", Kind::Mac),
     key("Nameservers", Kind::CommaServers),

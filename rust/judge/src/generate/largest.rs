@@ -15,6 +15,9 @@ const SERVERS: usize = 4;
 /// The mask lengths whose masks have four numbers of three digits.
 const WIDE_MASKS: RangeInclusive<usize> = 25..=32;
 
+/// The lengths of three digits.
+const WIDE_LENGTHS: RangeInclusive<usize> = 100..=128;
+
 /// A record that a file of the dialect can have: one of a largest file, one of a largest name, or one near the first.
 pub fn record(random: &mut Random, dialect: Dialect) -> Record {
     let mut record = largest_file(random);
@@ -39,13 +42,17 @@ fn largest_file(random: &mut Random) -> Record {
         },
         servers: (0..SERVERS).map(|_| wide(random)).collect(),
         domain: escaped(random, DOMAIN),
-        ipv6: Ipv6::Off,
+        ipv6: Ipv6::Static {
+            address: wide_groups(random),
+            prefix_length: random.between(*WIDE_LENGTHS.start(), *WIDE_LENGTHS.end()) as u8,
+            gateway: Some(wide_groups(random)),
+        },
     }
 }
 
 /// Makes one part of a record of a largest file one step smaller. Only a file of iwd can have a 32-byte key.
 fn step_down(random: &mut Random, dialect: Dialect, record: &mut Record) {
-    match random.below(10) {
+    match random.below(12) {
         0 => record.credential = Credential::Passphrase(one_less(random, PASSPHRASE)),
         1 => record.domain = one_less(random, DOMAIN),
         2 => step_down_ipv4(random, &mut record.ipv4),
@@ -55,7 +62,8 @@ fn step_down(random: &mut Random, dialect: Dialect, record: &mut Record) {
         6 => record.ssid = plain_stem(random, SSID),
         7 => record.hidden = false,
         8 if dialect == Dialect::Iwd => record.credential = Credential::Key(std::array::from_fn(|_| random.byte())),
-        _ => record.ipv6 = Ipv6::Auto,
+        8 | 9 => record.ipv6 = random.pick(&[Ipv6::Auto, Ipv6::Off]),
+        _ => step_down_ipv6(random, &mut record.ipv6),
     }
 }
 
@@ -70,6 +78,21 @@ fn step_down_ipv4(random: &mut Random, ipv4: &mut Ipv4) {
             0 => *address = less_wide(random),
             1 => *gateway = Some(less_wide(random)),
             _ => *prefix_length = *WIDE_MASKS.start() as u8 - 1,
+        }
+    }
+}
+
+fn step_down_ipv6(random: &mut Random, ipv6: &mut Ipv6) {
+    if let Ipv6::Static {
+        address,
+        prefix_length,
+        gateway,
+    } = ipv6
+    {
+        match random.below(3) {
+            0 => *address = less_wide_groups(random),
+            1 => *gateway = Some(less_wide_groups(random)),
+            _ => *prefix_length = *WIDE_LENGTHS.start() as u8 - 1,
         }
     }
 }
@@ -106,5 +129,20 @@ fn wide(random: &mut Random) -> [u8; 4] {
 fn less_wide(random: &mut Random) -> [u8; 4] {
     let mut address = wide(random);
     address[random.below(4)] = random.between(10, 99) as u8;
+    address
+}
+
+/// An IPv6 address of eight groups of four digits.
+fn wide_groups(random: &mut Random) -> [u8; 16] {
+    std::array::from_fn(|place| {
+        let least = if place % 2 == 0 { 0x10 } else { 0 };
+        random.between(least, 0xFF) as u8
+    })
+}
+
+/// Such an address with one group of three digits.
+fn less_wide_groups(random: &mut Random) -> [u8; 16] {
+    let mut address = wide_groups(random);
+    address[2 * random.below(8)] = random.between(1, 0xF) as u8;
     address
 }

@@ -1,9 +1,11 @@
 //! Cases: the same seed and number give the same case, on any machine and in any order.
 
+mod bad_ipv6;
 mod bad_values;
 mod bytes;
 mod connman_files;
 mod draft;
+mod ipv6;
 mod iwd_files;
 mod keys;
 mod largest;
@@ -39,6 +41,20 @@ pub fn case(seed: u64, index: u64) -> Case {
     })
 }
 
+/// The text of an IPv6 address, or one near it, with no file around it.
+pub fn ipv6_text(random: &mut Random) -> Vec<u8> {
+    match random.weighted(&[5, 4, 1]) {
+        0 => ipv6::text(random),
+        1 => bad_ipv6::near_text(random),
+        _ => (0..random.between(1, 4)).fold(ipv6::text(random), |text, _| bad_ipv6::changed(random, text)),
+    }
+}
+
+/// The bytes of an IPv6 address.
+pub fn ipv6_address(random: &mut Random) -> [u8; 16] {
+    ipv6::address(random)
+}
+
 /// Room for anything.
 const AMPLE: Room = Room {
     name: usize::MAX,
@@ -56,6 +72,7 @@ fn named_file(random: &mut Random) -> (Vec<u8>, Vec<u8>) {
     let iwd = random.percent(38);
     let mut draft = match random.weighted(&[40, 16, 34, 6, 4]) {
         0 => valid(random, iwd),
+        1 if iwd && random.once_in(3) => iwd_files::loose_ipv6(random),
         1 if iwd => iwd_files::loose(random),
         1 => connman_files::loose(random),
         2 => mutated(random, iwd),

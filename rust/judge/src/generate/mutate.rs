@@ -1,10 +1,10 @@
 //! Faults put into drafts: lines repeated, left out, moved and changed, keys and headers misspelt, values outside their kind, strings
-//! with bad escapes.
+//! with bad escapes, IPv6 addresses with a fault.
 
-use super::bad_values::bad;
+use super::bad_values::{bad, just_outside};
 use super::connman_files::{identifier, setting};
 use super::draft::{Draft, Piece};
-use super::keys::{all_keys, is_string, Key};
+use super::keys::{all_keys, is_string, Key, Kind};
 use super::strings::escape_badly;
 use super::values::good;
 use crate::random::Random;
@@ -12,7 +12,7 @@ use crate::reference::Dialect;
 
 /// Puts one fault into a draft.
 pub fn mutate(random: &mut Random, draft: &mut Draft) {
-    match random.weighted(&[34, 11, 5, 4, 6, 9, 10, 8, 8, 6, 7]) {
+    match random.weighted(&[34, 11, 5, 4, 6, 9, 10, 8, 8, 6, 7, 16]) {
         0 => spoil_value(random, draft),
         1 => repeat_line(random, draft),
         2 => remove_line(random, draft),
@@ -23,7 +23,8 @@ pub fn mutate(random: &mut Random, draft: &mut Draft) {
         7 => insert_junk(random, draft),
         8 => add_services(random, draft),
         9 => add_setting(random, draft),
-        _ => spoil_escape(random, draft),
+        10 => spoil_escape(random, draft),
+        _ => spoil_ipv6(random, draft),
     }
 }
 
@@ -69,6 +70,29 @@ fn spoil_escape(random: &mut Random, draft: &mut Draft) {
     let Some(place) = place_of(random, strings) else { return };
     if let Piece::Setting { value, .. } = &mut draft.pieces[place] {
         escape_badly(random, value);
+    }
+}
+
+/// Gives a setting that has IPv6 addresses a value just outside its kind.
+fn spoil_ipv6(random: &mut Random, draft: &mut Draft) {
+    let places = draft.settings().into_iter().filter(|&place| ipv6_kind_at(draft, place).is_some());
+    let Some(place) = place_of(random, places.collect()) else { return };
+    if let (Some(kind), Piece::Setting { value, .. }) = (ipv6_kind_at(draft, place), &mut draft.pieces[place]) {
+        *value = just_outside(random, draft.dialect, kind);
+    }
+}
+
+/// The kind of a setting that has IPv6 addresses.
+fn ipv6_kind_at(draft: &Draft, place: usize) -> Option<Kind> {
+    let Piece::Setting { key, .. } = &draft.pieces[place] else {
+        return None;
+    };
+    let header = draft.headers().into_iter().rfind(|header| *header < place)?;
+    match (&draft.pieces[header], &key[..]) {
+        (Piece::Header(group), b"Address") if group == b"IPv6" => Some(Kind::Ipv6Prefix),
+        (Piece::Header(group), b"Gateway") if group == b"IPv6" => Some(Kind::Ipv6Address),
+        (_, b"IPv6") => Some(Kind::Ipv6),
+        _ => None,
     }
 }
 

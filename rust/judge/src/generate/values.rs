@@ -1,5 +1,6 @@
 //! Legal values of every kind, often at the ends of what is legal.
 
+use super::ipv6;
 use super::keys::Kind;
 use super::strings::{length, letter, text, wide};
 use crate::random::Random;
@@ -30,6 +31,9 @@ pub fn good(random: &mut Random, dialect: Dialect, kind: Kind) -> Vec<u8> {
             comma_list(random, count, entry)
         }
         Kind::Ipv4 => ipv4(random),
+        Kind::Ipv6 => ipv6::method(random),
+        Kind::Ipv6Prefix => ipv6::prefix(random),
+        Kind::Ipv6Address => ipv6::text(random),
     }
 }
 

@@ -1,8 +1,8 @@
 //! The typed settings of both dialects as the structs of the C boundary. A refused answer is laid out as no settings at all.
 
-use super::{padded, presence};
+use super::{padded, presence, Places};
 use crate::reference::groups::Text;
-use crate::reference::{connman, iwd, Ipv4, Refusal};
+use crate::reference::{connman, iwd, Addressing, Refusal};
 use qewaris::raw;
 
 /// A yes/no that may be absent.
@@ -37,9 +37,9 @@ pub fn iwd_settings(result: Result<&iwd::Settings, Refusal>) -> raw::IwdSettings
     raw::IwdSettings {
         line,
         number,
-        ipv6_enabled: flag_code(settings.ipv6_enabled),
         general: iwd_general(settings),
-        reserved: [0; 4],
+        ipv6: iwd_ipv6(settings),
+        reserved: [0; 1],
         security: iwd_security(settings),
         ipv4: iwd_ipv4(settings),
     }
@@ -86,6 +86,20 @@ fn iwd_ipv4(settings: &iwd::Settings) -> raw::IwdIpv4 {
     }
 }
 
+/// The length is 128 where the address is there without it, and 0 where there is no address.
+fn iwd_ipv6(settings: &iwd::Settings) -> raw::IwdIpv6 {
+    let (has_address, address) = presence(settings.ipv6_address.map(|(address, _)| address));
+    let (has_gateway, gateway) = presence(settings.ipv6_gateway);
+    raw::IwdIpv6 {
+        enabled: flag_code(settings.ipv6_enabled),
+        has_address,
+        address,
+        prefix_length: settings.ipv6_address.map_or(0, |(_, length)| length),
+        has_gateway,
+        gateway,
+    }
+}
+
 /// The settings of a service, or the refusal with zeros else.
 pub fn service_settings(result: Result<&connman::Settings, Refusal>) -> raw::ServiceSettings {
     let (number, line) = refusal_of(&result);
@@ -115,8 +129,7 @@ fn service_network(settings: &connman::Settings) -> raw::ServiceNetwork {
 }
 
 fn service_addresses(settings: &connman::Settings) -> raw::ServiceAddresses {
-    let (ipv4, address, prefix_length, gateway) = lay_ipv4(&settings.ipv4);
-    let (has_gateway, gateway) = presence(gateway);
+    let (ipv4, ipv6) = (setting_places(&settings.ipv4), setting_places(&settings.ipv6));
     let (has_mac, mac) = presence(settings.mac);
     raw::ServiceAddresses {
         domain_line: line_of(&settings.domain),
@@ -124,30 +137,29 @@ fn service_addresses(settings: &connman::Settings) -> raw::ServiceAddresses {
         timeservers: lay_entries(&settings.timeservers),
         nameserver_count: settings.nameservers.len(),
         nameservers: padded(&settings.nameservers.concat()),
-        ipv4,
-        address,
-        prefix_length,
-        has_gateway,
-        gateway,
-        ipv6: word_code(settings.ipv6, &["off", "auto"]),
+        ipv4: ipv4.code,
+        address: ipv4.address,
+        prefix_length: ipv4.prefix_length,
+        has_gateway: ipv4.has_gateway,
+        gateway: ipv4.gateway,
+        ipv6: ipv6.code,
+        ipv6_address: ipv6.address,
+        ipv6_prefix_length: ipv6.prefix_length,
+        has_ipv6_gateway: ipv6.has_gateway,
+        ipv6_gateway: ipv6.gateway,
         privacy: word_code(settings.privacy, &["disabled", "enabled", "preferred"]),
         has_mac,
         mac,
-        reserved: [0; 4],
+        reserved: [0; 2],
     }
 }
 
-/// The code of a service's IPv4, and what it holds where it is static.
-fn lay_ipv4(ipv4: &Option<Ipv4>) -> (u8, [u8; 4], u8, Option<[u8; 4]>) {
-    match ipv4 {
-        None => (0, [0; 4], 0, None),
-        Some(Ipv4::Dhcp) => (1, [0; 4], 0, None),
-        Some(Ipv4::Off) => (2, [0; 4], 0, None),
-        Some(Ipv4::Static {
-            address,
-            prefix_length,
-            gateway,
-        }) => (3, *address, *prefix_length, *gateway),
+/// The places of a service's IPv4 or IPv6. The codes of settings are one more than those of records: 0 is absent.
+fn setting_places<const WIDTH: usize>(addressing: &Option<Addressing<WIDTH>>) -> Places<WIDTH> {
+    let places = Places::of(addressing.as_ref().unwrap_or(&Addressing::Auto));
+    Places {
+        code: addressing.map_or(0, |_| places.code + 1),
+        ..places
     }
 }
 

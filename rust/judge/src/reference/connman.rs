@@ -1,10 +1,10 @@
 //! Reading a ConnMan file under its name: the first fault, or the file with its services, their settings and join records.
 
+use super::addressing::{Ipv4, Ipv6};
 use super::dialect::{Dialect, GroupKind};
 use super::file_name::is_connman;
 use super::groups::{groups, Group, Text};
-use super::kind::Ipv4;
-use super::record::{Credential, Ipv6, Record};
+use super::record::{Credential, Record};
 use super::refusal::{Fault, Refusal};
 use super::{Counts, LONGEST_FILE};
 
@@ -14,7 +14,7 @@ pub struct Settings {
     /// Every accepted service has one.
     pub service_type: Option<&'static str>,
     pub ipv4: Option<Ipv4>,
-    pub ipv6: Option<&'static str>,
+    pub ipv6: Option<Ipv6>,
     pub privacy: Option<&'static str>,
     pub mac: Option<[u8; 6]>,
     pub nameservers: Vec<[u8; 4]>,
@@ -89,7 +89,7 @@ impl Service {
         let settings = Settings {
             service_type: Some(service_type),
             ipv4: group.ipv4("IPv4"),
-            ipv6: group.word("IPv6"),
+            ipv6: group.ipv6("IPv6"),
             privacy: group.word("IPv6.Privacy"),
             mac: group.mac("MAC"),
             nameservers: group.servers("Nameservers"),
@@ -120,10 +120,10 @@ impl Service {
             ssid: ssid.expect("a wifi service has Name or SSID"),
             credential: self.credential(),
             hidden: settings.hidden.unwrap_or(false),
-            ipv4: settings.ipv4.clone().unwrap_or(Ipv4::Dhcp),
+            ipv4: settings.ipv4.unwrap_or(Ipv4::Auto),
             servers: settings.nameservers.clone(),
             domain: settings.domain.as_ref().map_or(Vec::new(), |domain| domain.bytes.clone()),
-            ipv6: if settings.ipv6 == Some("off") { Ipv6::Off } else { Ipv6::Auto },
+            ipv6: settings.ipv6.unwrap_or(Ipv6::Auto),
         })
     }
 
@@ -146,13 +146,17 @@ impl Service {
 
     /// "No place in iwd, for a move": the earliest line of the service that is such a line.
     pub fn earliest_without_place(&self) -> Option<usize> {
-        let keys = ["MAC", "IPv6.Privacy", "SearchDomains", "Timeservers"];
-        let ipv4 = match self.settings.ipv4 {
-            Some(Ipv4::Off | Ipv4::Static { gateway: None, .. }) => self.line_of("IPv4"),
-            _ => None,
-        };
-        let lines = keys.iter().map(|key| self.line_of(key)).chain([ipv4, self.foreign_line()]);
-        lines.flatten().min()
+        let (ipv4, ipv6) = (self.settings.ipv4, self.settings.ipv6);
+        let unplaced = [
+            ("IPv4", ipv4.is_some_and(|ipv4| ipv4 == Ipv4::Off || ipv4.lacks_gateway())),
+            ("IPv6", ipv6.is_some_and(|ipv6| ipv6.lacks_gateway())),
+            ("MAC", true),
+            ("IPv6.Privacy", true),
+            ("SearchDomains", true),
+            ("Timeservers", true),
+        ];
+        let lines = unplaced.iter().filter(|(_, holds)| *holds).map(|(key, _)| self.line_of(key));
+        lines.chain([self.foreign_line()]).flatten().min()
     }
 }
 

@@ -96,6 +96,8 @@ fn iwd_kind(group: GroupKind, key: &str) -> Option<Kind> {
         (GroupKind::Ipv4, "DomainName") => string(1, 253),
         (GroupKind::Ipv4, "SendHostname") => IWD_BOOL,
         (GroupKind::Ipv6, "Enabled") => IWD_BOOL,
+        (GroupKind::Ipv6, "Address") => Kind::Ipv6Prefix,
+        (GroupKind::Ipv6, "Gateway") => Kind::Ipv6Address,
         _ => return None,
     })
 }
@@ -108,7 +110,7 @@ fn service_kind(key: &str) -> Option<Kind> {
     Some(match key {
         "Type" => Kind::Word(&[("wifi", "wifi"), ("ethernet", "ethernet")]),
         "IPv4" => Kind::Ipv4,
-        "IPv6" => Kind::Word(&[("off", "off"), ("auto", "auto")]),
+        "IPv6" => Kind::Ipv6,
         "IPv6.Privacy" => Kind::Word(&[
             ("disabled", "disabled"),
             ("enabled", "enabled"),

@@ -1,7 +1,8 @@
 //! A file as its groups: the first faulty line, or every group with its settings.
 
+use super::addressing::{Ipv4, Ipv6};
 use super::dialect::{kind_of, Dialect, GroupKind};
-use super::kind::{Broken, Ipv4, Value};
+use super::kind::{Broken, Value};
 use super::lines::{header, lines, shape, Shape};
 use super::refusal::{Fault, Refusal};
 
@@ -184,8 +185,30 @@ impl Group {
 
     pub fn ipv4(&self, key: &str) -> Option<Ipv4> {
         match self.value(key)? {
-            Value::Ipv4(ipv4) => Some(ipv4.clone()),
+            Value::Ipv4(ipv4) => Some(*ipv4),
             other => panic!("{key} is no IPv4: {other:?}"),
+        }
+    }
+
+    pub fn ipv6(&self, key: &str) -> Option<Ipv6> {
+        match self.value(key)? {
+            Value::Ipv6(ipv6) => Some(*ipv6),
+            other => panic!("{key} is no IPv6: {other:?}"),
+        }
+    }
+
+    /// An IPv6 address with the length of its prefix.
+    pub fn ipv6_prefix(&self, key: &str) -> Option<([u8; 16], u8)> {
+        match self.value(key)? {
+            Value::Ipv6Prefix(address, length) => Some((*address, *length)),
+            other => panic!("{key} is no IPv6 address with a length: {other:?}"),
+        }
+    }
+
+    pub fn ipv6_address(&self, key: &str) -> Option<[u8; 16]> {
+        match self.value(key)? {
+            Value::Ipv6Address(address) => Some(*address),
+            other => panic!("{key} is no IPv6 address: {other:?}"),
         }
     }
 }

@@ -1,10 +1,10 @@
 //! Reading an iwd file under its name: the first fault, or the file with its settings and its join record.
 
+use super::addressing::{Ipv4, Ipv6};
 use super::dialect::{Dialect, GroupKind};
 use super::file_name::{read_iwd, Suffix};
 use super::groups::{groups, Group, Text};
-use super::kind::Ipv4;
-use super::record::{Credential, Ipv6, Record};
+use super::record::{Credential, Record};
 use super::refusal::{Fault, Refusal};
 use super::{Counts, LONGEST_FILE};
 
@@ -25,6 +25,9 @@ pub struct Settings {
     pub domain_name: Option<Text>,
     pub send_hostname: Option<bool>,
     pub ipv6_enabled: Option<bool>,
+    /// With the length of its prefix.
+    pub ipv6_address: Option<([u8; 16], u8)>,
+    pub ipv6_gateway: Option<[u8; 16]>,
 }
 
 /// An accepted iwd file.
@@ -79,21 +82,27 @@ impl Settings {
             domain_name: ipv4.and_then(|group| group.text("DomainName")),
             send_hostname: ipv4.and_then(|group| group.flag("SendHostname")),
             ipv6_enabled: ipv6.and_then(|group| group.flag("Enabled")),
+            ipv6_address: ipv6.and_then(|group| group.ipv6_prefix("Address")),
+            ipv6_gateway: ipv6.and_then(|group| group.ipv6_address("Gateway")),
         }
     }
 
     /// "iwd 14: .psk with neither key; Address without Gateway; Gateway, Netmask or Broadcast without Address. iwd 15: .open with
-    /// either key."
+    /// either key." And of IPv6, whose group is judged by itself: "iwd Gateway without Address or the reverse 14; iwd Enabled false beside
+    /// Address 15" (request 2026-03).
     fn obey_rules(&self, suffix: Suffix) -> Result<(), Fault> {
         let has_key = self.passphrase.is_some() || self.pre_shared_key.is_some();
         let needs_address = self.gateway.is_some() || self.netmask_length.is_some() || self.broadcast.is_some();
         let lacks_key = suffix == Suffix::Psk && !has_key;
         let lacks_gateway = self.address.is_some() && self.gateway.is_none();
         let lacks_address = self.address.is_none() && needs_address;
-        if lacks_key || lacks_gateway || lacks_address {
+        let lacks_ipv6_part = self.ipv6_address.is_some() != self.ipv6_gateway.is_some();
+        if lacks_key || lacks_gateway || lacks_address || lacks_ipv6_part {
             return Err(Fault::Missing);
         }
-        if suffix == Suffix::Open && has_key {
+        let has_needless_key = suffix == Suffix::Open && has_key;
+        let has_address_while_off = self.ipv6_enabled == Some(false) && self.ipv6_address.is_some();
+        if has_needless_key || has_address_while_off {
             return Err(Fault::Contradiction);
         }
         Ok(())
@@ -102,7 +111,7 @@ impl Settings {
 
 impl File {
     /// The join record: "the name from the file name; a Passphrase wins over a PreSharedKey; Netmask absent means 24; no Address
-    /// means dhcp; Enabled absent or true means auto (house); Hidden absent means false".
+    /// means dhcp; Enabled absent or true means auto (house)", or static beside an Address; "Hidden absent means false".
     pub fn record(&self) -> Record {
         let settings = &self.settings;
         let credential = match (&settings.passphrase, settings.pre_shared_key) {
@@ -116,7 +125,16 @@ impl File {
                 prefix_length: settings.netmask_length.unwrap_or(24),
                 gateway: settings.gateway,
             },
-            None => Ipv4::Dhcp,
+            None => Ipv4::Auto,
+        };
+        let ipv6 = match settings.ipv6_address {
+            _ if settings.ipv6_enabled == Some(false) => Ipv6::Off,
+            Some((address, prefix_length)) => Ipv6::Static {
+                address,
+                prefix_length,
+                gateway: settings.ipv6_gateway,
+            },
+            None => Ipv6::Auto,
         };
         Record {
             ssid: self.ssid.clone(),
@@ -125,11 +143,7 @@ impl File {
             ipv4,
             servers: settings.dns.clone(),
             domain: settings.domain_name.as_ref().map_or(Vec::new(), |domain| domain.bytes.clone()),
-            ipv6: if settings.ipv6_enabled.unwrap_or(true) {
-                Ipv6::Auto
-            } else {
-                Ipv6::Off
-            },
+            ipv6,
         }
     }
 }

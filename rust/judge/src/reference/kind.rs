@@ -1,6 +1,7 @@
 //! The kinds of values: "each kind judges only the stretch after the equal sign and its whitespace".
 
-use super::text;
+use super::addressing::{Addressing, Ipv4, Ipv6};
+use super::{ipv6_text, text};
 
 /// What a value of a key must be.
 #[derive(Clone, Copy, Debug, PartialEq, Eq)]
@@ -33,18 +34,12 @@ pub enum Kind {
     Entries,
     /// ConnMan's IPv4.
     Ipv4,
-}
-
-/// ConnMan's IPv4, and a record's.
-#[derive(Clone, Debug, PartialEq, Eq)]
-pub enum Ipv4 {
-    Dhcp,
-    Off,
-    Static {
-        address: [u8; 4],
-        prefix_length: u8,
-        gateway: Option<[u8; 4]>,
-    },
+    /// ConnMan's IPv6.
+    Ipv6,
+    /// Address of iwd's IPv6.
+    Ipv6Prefix,
+    /// Gateway of iwd's IPv6.
+    Ipv6Address,
 }
 
 /// What a value says.
@@ -61,6 +56,10 @@ pub enum Value {
     /// Start in the value, and length, of each entry.
     Entries(Vec<(usize, usize)>),
     Ipv4(Ipv4),
+    Ipv6(Ipv6),
+    /// An address and the length of its prefix.
+    Ipv6Prefix([u8; 16], u8),
+    Ipv6Address([u8; 16]),
 }
 
 /// Why a value is refused.
@@ -96,6 +95,9 @@ impl Kind {
             Kind::CommaServers => comma_servers(value).map(Value::Servers),
             Kind::Entries => entries(value).map(Value::Entries),
             Kind::Ipv4 => ipv4(value).map(Value::Ipv4),
+            Kind::Ipv6 => ipv6(value).map(Value::Ipv6),
+            Kind::Ipv6Prefix => ipv6_prefix(value).map(|(address, length)| Value::Ipv6Prefix(address, length)),
+            Kind::Ipv6Address => ipv6_text::read(value).map(Value::Ipv6Address),
         }
     }
 }
@@ -142,7 +144,7 @@ fn decimal(text: &[u8]) -> Option<u8> {
 }
 
 /// "In text an address is four numbers 0 to 255 with dots, no leading zeros."
-fn address(value: &[u8]) -> Option<[u8; 4]> {
+pub fn address(value: &[u8]) -> Option<[u8; 4]> {
     let numbers: Option<Vec<u8>> = value.split(|&byte| byte == b'.').map(decimal).collect();
     numbers?.try_into().ok()
 }
@@ -193,10 +195,43 @@ fn entries(value: &[u8]) -> Option<Vec<(usize, usize)>> {
 
 /// "ConnMan IPv4 is `off`, `dhcp`, or address `/` mask or length (1 to 32, no leading zero), and optionally `/` gateway."
 fn ipv4(value: &[u8]) -> Option<Ipv4> {
-    match value {
-        b"off" => return Some(Ipv4::Off),
-        b"dhcp" => return Some(Ipv4::Dhcp),
-        _ => {}
+    addressing(value, b"dhcp", address, |text| mask(text).or_else(|| prefix_length(text, 32)))
+}
+
+/// "ConnMan's IPv6 gains address/length with an optional gateway", beside `off` and `auto`.
+fn ipv6(value: &[u8]) -> Option<Ipv6> {
+    addressing(value, b"auto", ipv6_text::read, ipv6_length)
+}
+
+/// "iwd's group gains Address (length 128 if left off)."
+fn ipv6_prefix(value: &[u8]) -> Option<([u8; 16], u8)> {
+    match value.iter().position(|&byte| byte == b'/') {
+        Some(slash) => Some((ipv6_text::read(&value[..slash])?, ipv6_length(&value[slash + 1..])?)),
+        None => Some((ipv6_text::read(value)?, 128)),
+    }
+}
+
+/// "Lengths run from 1 to 128 without leading zero."
+pub fn ipv6_length(text: &[u8]) -> Option<u8> {
+    prefix_length(text, 128)
+}
+
+fn prefix_length(text: &[u8], most: u8) -> Option<u8> {
+    decimal(text).filter(|length| (1..=most).contains(length))
+}
+
+/// `off`, the word for what is come by on its own, or address `/` length, and optionally `/` gateway.
+fn addressing<const WIDTH: usize>(
+    value: &[u8],
+    auto: &[u8],
+    address: fn(&[u8]) -> Option<[u8; WIDTH]>,
+    length: fn(&[u8]) -> Option<u8>,
+) -> Option<Addressing<WIDTH>> {
+    if value == b"off" {
+        return Some(Addressing::Off);
+    }
+    if value == auto {
+        return Some(Addressing::Auto);
     }
     let parts: Vec<&[u8]> = value.split(|&byte| byte == b'/').collect();
     let (first, second, gateway) = match parts[..] {
@@ -204,10 +239,9 @@ fn ipv4(value: &[u8]) -> Option<Ipv4> {
         [first, second, third] => (first, second, Some(address(third)?)),
         _ => return None,
     };
-    let prefix_length = mask(second).or_else(|| decimal(second).filter(|length| (1..=32).contains(length)))?;
-    Some(Ipv4::Static {
+    Some(Addressing::Static {
         address: address(first)?,
-        prefix_length,
+        prefix_length: length(second)?,
         gateway,
     })
 }

@@ -1,6 +1,6 @@
 //! The join record, and when one is well formed.
 
-pub use super::kind::Ipv4;
+use super::addressing::{Ipv4, Ipv6};
 
 /// "Credential (none, passphrase of 8 to 63 bytes, or 32-byte key)."
 #[derive(Clone, Debug, PartialEq, Eq)]
@@ -8,13 +8,6 @@ pub enum Credential {
     None,
     Passphrase(Vec<u8>),
     Key([u8; 32]),
-}
-
-/// "IPv6 auto or off."
-#[derive(Clone, Copy, Debug, PartialEq, Eq)]
-pub enum Ipv6 {
-    Auto,
-    Off,
 }
 
 /// What a till needs to join a network.
@@ -37,17 +30,15 @@ impl Record {
             Credential::Passphrase(passphrase) => (8..=63).contains(&passphrase.len()) && is_clean_text(passphrase),
             Credential::None | Credential::Key(_) => true,
         };
-        let ipv4 = match self.ipv4 {
-            Ipv4::Static { prefix_length, .. } => (1..=32).contains(&prefix_length),
-            Ipv4::Dhcp | Ipv4::Off => true,
-        };
+        let addresses = self.ipv4.is_well_formed() && self.ipv6.is_well_formed();
         let domain = self.domain.len() <= 253 && is_clean_text(&self.domain);
-        (1..=32).contains(&self.ssid.len()) && credential && ipv4 && self.servers.len() <= 4 && domain
+        (1..=32).contains(&self.ssid.len()) && credential && addresses && self.servers.len() <= 4 && domain
     }
 
-    /// "For the writer: IPv4 off, or static without gateway" have no place in iwd.
+    /// "For the writer: IPv4 off, or static without gateway" have no place in iwd; and of IPv6 "static without gateway .. joins both of 01's
+    /// lists of what iwd has no place for" (request 2026-03).
     pub fn has_place_in_iwd(&self) -> bool {
-        !matches!(self.ipv4, Ipv4::Off | Ipv4::Static { gateway: None, .. })
+        self.ipv4 != Ipv4::Off && !self.ipv4.lacks_gateway() && !self.ipv6.lacks_gateway()
     }
 
     /// "A service needs a key when its credential is not none."

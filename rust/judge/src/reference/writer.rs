@@ -1,8 +1,10 @@
 //! The written iwd file: its name and its bytes, line by line as document 01 lists them.
 
+use super::addressing::{Ipv4, Ipv6};
 use super::file_name::{self, lower_hex, Suffix};
-use super::kind::{mask_of, Ipv4};
-use super::record::{Credential, Ipv6, Record};
+use super::ipv6_text;
+use super::kind::mask_of;
+use super::record::{Credential, Record};
 use super::refusal::{Fault, Refusal};
 use super::text::escape;
 
@@ -14,8 +16,9 @@ pub struct Written {
 }
 
 /// "We want it shown that no record the writer accepts ever needs more than 858 bytes for the file and 70 for the name, and that some
-/// record reaches each figure" (request 2026-01).
-pub const FILE_MAX: usize = 858;
+/// record reaches each figure" (request 2026-01); with request 2026-03 the "file figure is worked out afresh": the lines of a static IPv6
+/// are `[IPv6]`, `Address=` with 39 bytes and `/128`, and `Gateway=` with 39 bytes, 107 in all, where `[IPv6]` and `Enabled=false` were 21.
+pub const FILE_MAX: usize = 944;
 pub const NAME_MAX: usize = 70;
 
 /// How long the two lent buffers are.
@@ -121,11 +124,22 @@ fn ipv4_lines(record: &Record) -> Vec<Vec<u8>> {
     lines
 }
 
-/// "Enabled=false if off."
+/// "Enabled=false if off"; "iwd's Address is written always with its length, then Gateway" (request 2026-03).
 fn ipv6_lines(record: &Record) -> Vec<Vec<u8>> {
     match record.ipv6 {
         Ipv6::Off => vec![setting("Enabled", b"false")],
-        Ipv6::Auto => vec![],
+        Ipv6::Static {
+            address,
+            prefix_length,
+            gateway: Some(gateway),
+        } => {
+            let length = prefix_length.to_string().into_bytes();
+            vec![
+                setting("Address", &[ipv6_text::write(address), length].join(&b'/')),
+                setting("Gateway", &ipv6_text::write(gateway)),
+            ]
+        }
+        Ipv6::Auto | Ipv6::Static { gateway: None, .. } => vec![],
     }
 }
 

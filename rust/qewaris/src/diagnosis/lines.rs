@@ -1,7 +1,7 @@
 //! Refusals 3, 8, 9 and 10: lines that are no settings, and settings in the wrong place.
 
 use super::{Blamed, Diagnosis};
-use crate::catalogue::{is_of_paper, kind_in, listed, Dialect, Keys, GLOBAL, IWD, SERVICE};
+use crate::catalogue::{is_of_paper, iwd_groups_of, kind_in, listed, Dialect, Keys, GLOBAL, SERVICE};
 use crate::layout::{self, blanks, Form};
 use crate::messages::Message;
 
@@ -52,7 +52,7 @@ pub fn unknown_key(blamed: &Blamed<'_>) -> Option<Diagnosis> {
     let is_of_paper = is_of_paper(blamed.dialect, blamed.group()?, bytes);
     let (message, allowed) = match home(blamed.dialect, bytes) {
         _ if is_of_paper => (Message::KeyOfPaper, listed(&keys, "and")),
-        Some(home) => (Message::KeyElsewhere, home.to_string()),
+        Some(home) => (Message::KeyElsewhere, home),
         None if bytes.starts_with(b"SAE-PT-Group") => (Message::KeyOfDaemon, listed(&keys, "and")),
         None => (Message::UnknownKey, listed(&keys, "and")),
     };
@@ -66,18 +66,17 @@ pub fn unknown_key(blamed: &Blamed<'_>) -> Option<Diagnosis> {
     Some(found.with("allowed", allowed).at(key.start))
 }
 
-/// The group of its dialect that a key belongs to.
-fn home(dialect: Dialect, key: &[u8]) -> Option<&'static str> {
+/// The groups of its dialect that a key belongs to.
+fn home(dialect: Dialect, key: &[u8]) -> Option<String> {
     let has = |keys: Keys| kind_in(keys, key).is_some();
     match dialect {
-        Dialect::Iwd => IWD.iter().find(|(_, keys)| has(keys)).map(|(name, _)| match *name {
-            "Settings" => "[Settings]",
-            "Security" => "[Security]",
-            "IPv4" => "[IPv4]",
-            _ => "[IPv6]",
-        }),
-        Dialect::Connman if has(SERVICE) => Some("a service"),
-        Dialect::Connman => has(GLOBAL).then_some("[global]"),
+        Dialect::Iwd => {
+            let groups: Vec<String> = iwd_groups_of(key).map(|name| format!("[{name}]")).collect();
+            let groups: Vec<&str> = groups.iter().map(String::as_str).collect();
+            (!groups.is_empty()).then(|| listed(&groups, "or"))
+        }
+        Dialect::Connman if has(SERVICE) => Some("a service".to_string()),
+        Dialect::Connman => has(GLOBAL).then(|| "[global]".to_string()),
     }
 }
 

@@ -13,7 +13,7 @@ mod tests;
 mod texts;
 mod unplaced;
 
-use crate::catalogue::{kind_in, Dialect, Keys, Kind};
+use crate::catalogue::{iwd_groups_of, kind_in, Dialect, Keys, Kind};
 use crate::layout::{self, Form};
 pub use crate::messages::filled;
 use crate::messages::{general, Message};
@@ -240,6 +240,17 @@ impl<'a> Blamed<'a> {
             return None;
         }
         self.line.get(places).map(quoted)
+    }
+
+    /// A key as it is told: with its group, where two groups of iwd have such a key.
+    fn name(&self, key: Range<usize>) -> Option<String> {
+        let word = self.word(key.clone())?;
+        match self.dialect {
+            Dialect::Iwd if iwd_groups_of(self.line.get(key)?).count() > 1 => {
+                Some(format!("{word} of [{}]", String::from_utf8_lossy(self.group()?)))
+            }
+            _ => Some(word),
+        }
     }
 
     /// A part of the line as it stands, or none where it may not be shown.

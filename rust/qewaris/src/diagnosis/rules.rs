@@ -2,8 +2,9 @@
 
 use super::{Diagnosis, Subject};
 use crate::catalogue::Dialect;
-use crate::layout::{sections, Section};
+use crate::layout::{sections, Section, Setting};
 use crate::messages::Message;
+use crate::visible::visible;
 
 /// The keys that only a wifi service has, with the sentence for each.
 const WIRELESS: [(&str, Message); 5] = [
@@ -14,11 +15,14 @@ const WIRELESS: [(&str, Message); 5] = [
     ("Hidden", Message::EthernetWithHidden),
 ];
 
-/// The keys that need an Address, with the sentence for each.
-const NEEDING_ADDRESS: [(&str, Message); 3] = [
-    ("Gateway", Message::GatewayWithoutAddress),
-    ("Netmask", Message::NetmaskWithoutAddress),
-    ("Broadcast", Message::BroadcastWithoutAddress),
+/// What iwd's groups of addresses ask for: the group, a key of it, the key that this needs, and the sentence.
+const NEEDED: [(&str, &str, &str, Message); 6] = [
+    ("IPv4", "Address", "Gateway", Message::AddressWithoutGateway),
+    ("IPv4", "Gateway", "Address", Message::GatewayWithoutAddress),
+    ("IPv4", "Netmask", "Address", Message::NetmaskWithoutAddress),
+    ("IPv4", "Broadcast", "Address", Message::BroadcastWithoutAddress),
+    ("IPv6", "Address", "Gateway", Message::AddressWithoutGateway),
+    ("IPv6", "Gateway", "Address", Message::GatewayWithoutAddress),
 ];
 
 /// 14.
@@ -46,20 +50,16 @@ fn missing_in_service(service: &Section<'_>) -> Option<Diagnosis> {
 }
 
 fn missing_in_file(name: &[u8], sections: &[Section<'_>]) -> Option<Diagnosis> {
-    let line = |group, key| line_of(sections, group, key);
-    let has_key = line("Security", "Passphrase").or(line("Security", "PreSharedKey")).is_some();
+    let setting = |group: &'static str, key: &'static str| setting_of(sections, group, key);
+    let has_key = setting("Security", "Passphrase").or(setting("Security", "PreSharedKey")).is_some();
     if name.ends_with(b".psk") && !has_key {
         return Some(Diagnosis::new(Message::PskFileWithoutKey));
     }
-    match (line("IPv4", "Address"), line("IPv4", "Gateway")) {
-        (Some(address), None) => return Some(Diagnosis::new(Message::AddressWithoutGateway).with("first", address)),
-        (Some(_), _) => return None,
-        _ => {}
-    }
-    let lone = NEEDING_ADDRESS
-        .iter()
-        .find_map(|(key, message)| Some((line("IPv4", key)?, message)));
-    lone.map(|(first, message)| Diagnosis::new(*message).with("first", first))
+    let lone = |(group, key, needed, message)| {
+        let setting = Some(setting(group, key)?).filter(|_| setting(group, needed).is_none())?;
+        Some(Diagnosis::new(message).with("group", group).with("first", setting.line))
+    };
+    NEEDED.into_iter().find_map(lone)
 }
 
 /// 15.
@@ -67,13 +67,23 @@ pub fn contradiction(subject: &Subject<'_>, line: Option<usize>) -> Option<Diagn
     let sections = sections(Dialect::of(subject.name), subject.file);
     match line {
         Some(line) => contradiction_in_service(sections.iter().find(|section| section.line == line)?),
-        None => {
-            let passphrase = line_of(&sections, "Security", "Passphrase").map(|line| (line, Message::OpenFileWithPassphrase));
-            let key = line_of(&sections, "Security", "PreSharedKey").map(|line| (line, Message::OpenFileWithKey));
-            let (first, message) = passphrase.or(key)?;
-            Some(Diagnosis::new(message).with("first", first))
+        None => contradiction_in_file(subject.name, &sections),
+    }
+}
+
+fn contradiction_in_file(name: &[u8], sections: &[Section<'_>]) -> Option<Diagnosis> {
+    let setting = |group, key| setting_of(sections, group, key);
+    if name.ends_with(b".open") {
+        let passphrase = setting("Security", "Passphrase").map(|setting| (setting.line, Message::OpenFileWithPassphrase));
+        let key = setting("Security", "PreSharedKey").map(|setting| (setting.line, Message::OpenFileWithKey));
+        if let Some((first, message)) = passphrase.or(key) {
+            return Some(Diagnosis::new(message).with("first", first));
         }
     }
+    let (enabled, address) = (setting("IPv6", "Enabled")?, setting("IPv6", "Address")?);
+    let found = Diagnosis::new(Message::DisabledWithAddress).with("group", "IPv6");
+    let found = found.with("found", visible(enabled.value)).with("first", enabled.line);
+    Some(found.with("second", address.line))
 }
 
 fn contradiction_in_service(service: &Section<'_>) -> Option<Diagnosis> {
@@ -98,7 +108,7 @@ fn named(message: Message, service: &Section<'_>) -> Diagnosis {
     Diagnosis::new(message).with("group", String::from_utf8_lossy(service.name))
 }
 
-fn line_of(sections: &[Section<'_>], group: &str, key: &str) -> Option<usize> {
+fn setting_of<'a>(sections: &'a [Section<'_>], group: &str, key: &str) -> Option<&'a Setting<'a>> {
     let section = sections.iter().find(|section| section.name == group.as_bytes())?;
-    section.setting(key).map(|setting| setting.line)
+    section.setting(key)
 }

@@ -22,6 +22,6 @@ pub fn broken_text(blamed: &Blamed<'_>) -> Option<Diagnosis> {
         .into_iter()
         .filter_map(|(place, message)| Some((place?, message)))
         .min_by_key(|(place, _)| *place)?;
-    let found = Diagnosis::new(message).with("key", blamed.word(key)?);
+    let found = Diagnosis::new(message).with("key", blamed.name(key)?);
     Some(found.at(value.start + place))
 }

@@ -26,6 +26,7 @@ fn is_unplaced(setting: &Setting<'_>) -> bool {
         b"Type" => setting.value == b"ethernet",
         b"Security" => setting.value == b"wep" || setting.value == b"ieee8021x",
         b"IPv4" => setting.value == b"off" || slashes == 1,
+        b"IPv6" => slashes == 1,
         key => [&b"MAC"[..], b"IPv6.Privacy", b"SearchDomains", b"Timeservers"].contains(&key),
     }
 }
@@ -39,6 +40,7 @@ pub fn no_place(blamed: &Blamed<'_>) -> Option<Diagnosis> {
         (b"Security", _) => (Message::NoPlaceForLogin, value.start),
         (b"IPv4", b"off") => (Message::NoPlaceForIpv4Off, value.start),
         (b"IPv4", _) => (Message::NoPlaceWithoutGateway, value.start),
+        (b"IPv6", _) => (Message::NoPlaceWithoutIpv6Gateway, value.start),
         (b"MAC", _) => (Message::NoPlaceForMac, key.start),
         (b"IPv6.Privacy", _) => (Message::NoPlaceForPrivacy, key.start),
         (b"SearchDomains", _) => (Message::NoPlaceForSearchDomains, key.start),

@@ -43,8 +43,9 @@ pub const SETTING_IPV4_OFF: u8 = 2;
 pub const SETTING_IPV4_STATIC: u8 = 3;
 
 // IPv6 of a ConnMan service.
-pub const SETTING_IPV6_OFF: u8 = 1;
-pub const SETTING_IPV6_AUTO: u8 = 2;
+pub const SETTING_IPV6_AUTO: u8 = 1;
+pub const SETTING_IPV6_OFF: u8 = 2;
+pub const SETTING_IPV6_STATIC: u8 = 3;
 
 // IPv6.Privacy of a ConnMan service.
 pub const PRIVACY_DISABLED: u8 = 1;
@@ -64,7 +65,8 @@ pub const IPV4_STATIC: u8 = 2;
 // IPv6 of a join record.
 pub const IPV6_AUTO: u8 = 0;
 pub const IPV6_OFF: u8 = 1;
+pub const IPV6_STATIC: u8 = 2;
 
 // No file name that is written is longer, and no file.
 pub const NAME_MAX: usize = 70;
-pub const FILE_MAX: usize = 858;
+pub const FILE_MAX: usize = 944;

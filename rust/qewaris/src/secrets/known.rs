@@ -1,7 +1,7 @@
 //! The texts that stand in a file as a passphrase or a key, so that they are hidden wherever else they stand.
 
 use super::words::{is_telling_key, leading_word, mentions_secret};
-use crate::catalogue::{all_keys, kind_anywhere, Kind};
+use crate::catalogue::{all_keys, kinds_anywhere, Kind};
 use crate::escapes::{meant, unescaped};
 use crate::hex::encoded;
 use crate::layout::{is_blank, lines, trimmed};
@@ -44,8 +44,8 @@ fn swallowed_in(value: &[u8]) -> Vec<Vec<u8>> {
 /// The value of a line whose key takes a text.
 fn string_of(line: &[u8]) -> Option<&[u8]> {
     let equal = line.iter().position(|byte| *byte == b'=')?;
-    let kind = kind_anywhere(trimmed(&line[..equal]))?;
-    let is_text = kind.lengths().is_some() || kind == Kind::Entries;
+    let mut kinds = kinds_anywhere(trimmed(&line[..equal]));
+    let is_text = kinds.any(|kind| kind.lengths().is_some() || kind == Kind::Entries);
     is_text.then(|| trimmed(&line[equal + 1..]))
 }
 

@@ -12,7 +12,7 @@ mod words;
 
 pub use known::{mark, secrets_of, swallowed, swallowed_secret};
 
-use crate::catalogue::{keys_of, kind_anywhere, Dialect, Kind};
+use crate::catalogue::{keys_of, kinds_anywhere, Dialect, Kind};
 use crate::escapes::unescaped;
 use crate::layout::{blanks, is_blank, line, lines, trimmed};
 pub use words::nearest;
@@ -38,7 +38,8 @@ fn is_doubtful(file: &[u8], number: usize) -> bool {
 /// Whether a line is a setting whose key takes no secret.
 fn takes_no_secret(line: &[u8]) -> bool {
     let key = line.split(|byte| *byte == b'=').next().unwrap_or(b"");
-    kind_anywhere(trimmed(key)).is_some_and(|kind| !matches!(kind, Kind::Passphrase | Kind::Key))
+    let mut kinds = kinds_anywhere(trimmed(key));
+    kinds.next().is_some_and(|kind| !matches!(kind, Kind::Passphrase | Kind::Key))
 }
 
 /// How many bytes at the front of a line are sure to be no secret.
@@ -95,13 +96,14 @@ fn setting_front(body: &[u8], doubtful: bool) -> usize {
     let key = trimmed(&body[..equal]);
     let start = equal + 1 + blanks(&body[equal + 1..]);
     let value = &body[start..];
-    match kind_anywhere(key) {
-        Some(kind) if may_be_shown(kind, value) => body.len(),
-        Some(_) => start,
-        None if mentions_secret(value) => 0,
-        None if is_near_key(key) => start,
-        None if is_plain_word(key) && !doubtful && !value.is_empty() => start,
-        None => word_front(&body[..equal], doubtful),
+    let kinds: Vec<Kind> = kinds_anywhere(key).collect();
+    match kinds.as_slice() {
+        [] if mentions_secret(value) => 0,
+        [] if is_near_key(key) => start,
+        [] if is_plain_word(key) && !doubtful && !value.is_empty() => start,
+        [] => word_front(&body[..equal], doubtful),
+        kinds if kinds.iter().any(|kind| may_be_shown(*kind, value)) => body.len(),
+        _ => start,
     }
 }
 
@@ -122,9 +124,9 @@ fn may_be_shown(kind: Kind, value: &[u8]) -> bool {
         Kind::Security => value.len() < 8 || words::is_security(value),
         _ if is_telling(value) || is_telling(&unescaped(value)) => false,
         _ if kind.is_free() || value.len() < 8 => true,
-        Kind::Type | Kind::Ipv6 | Kind::Privacy => words::is_near(value, kind.words().iter().copied()),
+        Kind::Type | Kind::Privacy => words::is_near(value, kind.words().iter().copied()),
         Kind::Mac => is_pairs(value),
-        _ => is_numbers(value),
+        _ => is_numbers(value) || is_hex_parts(value),
     }
 }
 
@@ -146,4 +148,32 @@ fn is_numbers(value: &[u8]) -> bool {
     let (digits, dots) = (count(u8::is_ascii_digit), count(|byte| *byte == b'.'));
     let numbers = count(|byte| byte.is_ascii_digit() || b"./,: \t\r".contains(byte)) == value.len();
     dots > 0 && (numbers || (dots >= 3 && digits * 2 > value.len()))
+}
+
+/// Whether a value looks like IPv6 addresses: hex digits with colons, or almost. A key that is written in pairs with colons has more of
+/// them.
+fn is_hex_parts(value: &[u8]) -> bool {
+    let parts = || value.split(|byte| b"/,".contains(byte));
+    let colons = |text: &[u8]| text.iter().filter(|byte| **byte == b':').count();
+    let is_short = parts().all(|part| part.len() <= 45 && colons(part) <= 10);
+    let foreign: usize = parts().map(foreign_bytes).sum();
+    let is_likely = match colons(value) {
+        0 => false,
+        1 => foreign == 0 && value.contains(&b'/'),
+        _ => foreign * 5 <= value.len(),
+    };
+    is_short && is_likely
+}
+
+/// How many bytes of a text no IPv6 address has. The name of an interface behind an address and a `%` is one with that.
+fn foreign_bytes(text: &[u8]) -> usize {
+    let count = |text: &[u8]| {
+        text.iter()
+            .filter(|byte| !byte.is_ascii_hexdigit() && !b":.".contains(byte))
+            .count()
+    };
+    match text.iter().position(|byte| *byte == b'%') {
+        Some(place) if count(&text[..place]) == 0 && text[place + 1..].iter().all(u8::is_ascii_alphanumeric) => 1,
+        _ => count(text),
+    }
 }

@@ -1,4 +1,4 @@
--- The length in digits: a number of at most 32 that is not 0 (`prefix-none`, `prefix-some`).
+-- The length in digits: a number of at most most that is not 0 (`prefix-none`, `prefix-some`).
 use Rattle.addresses.proofs.Masking.{prefix-none, prefix-some}
 use borrow.Author.Needs.{needs}
 use Rattle.addresses.proofs.masks.read_prefix_length.Statement.{statement}

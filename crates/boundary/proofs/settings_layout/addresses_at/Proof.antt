@@ -15,4 +15,5 @@ addresses-at-spec =
     (λ c κs. search needs)
     (λ c κs. search needs)
     (λ c κs. search needs)
-    (λ c. rw (c .bit-of2 .ensures, c .before .chosen-code2 .ensures, c .before .before .chosen-code .ensures, c .before .before .before .bit-of .ensures, c .before .before .before .before .given-method-code .ensures, c .before .before .before .before .before .entries-at2 .ensures, c .before .before .before .before .before .before .entries-at .ensures, c .before .before .before .before .before .before .before .before .before .before .before .before .sixteen .ensures)))
+    (λ c κs. search needs)
+    (λ c. rw (c .bit-of3 .ensures, c .before .chosen-code .ensures, c .before .before .bit-of2 .ensures, c .before .before .before .given-method-code2 .ensures, c .before .before .before .before .bit-of .ensures, c .before .before .before .before .before .given-method-code .ensures, c .before .before .before .before .before .before .entries-at2 .ensures, c .before .before .before .before .before .before .before .entries-at .ensures, c .before .before .before .before .before .before .before .before .before .before .before .before .before .before .before .before .sixteen .ensures)))

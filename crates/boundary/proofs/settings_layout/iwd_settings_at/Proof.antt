@@ -13,4 +13,4 @@ iwd-settings-at-spec =
     (λ c κs. search needs)
     (λ c κs. search needs)
     (λ c κs. search needs)
-    (λ c. rw (c .ipv4-at .ensures, c .before .security-at .ensures, c .before .before .general-at .ensures, c .before .before .before .choice-code .ensures, c .before .before .before .before .answer-number .ensures, c .before .before .before .before .before .answer-line .ensures)))
+    (λ c. rw (c .ipv4-at .ensures, c .before .security-at .ensures, c .before .before .ipv6-at .ensures, c .before .before .before .general-at .ensures, c .before .before .before .before .answer-number .ensures, c .before .before .before .before .before .answer-line .ensures)))

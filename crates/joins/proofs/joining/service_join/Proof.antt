@@ -15,6 +15,6 @@ service-join-spec =
     (λ c κs. c .before .before .before .pre .0 .table)
     (λ c κs. key-in N.Ipv4 (c .before .before .before .before .pre .0))
     (λ c κs. key-in N.Domain (c .before .before .before .before .before .pre .0))
-    (λ c κs. c .before .before .before .before .before .before .pre .0 .table)
+    (λ c κs. key-in N.Ipv6 (c .before .before .before .before .before .before .pre .0))
     (λ c κs. search needs)
-    (λ c. service-joined (c .before .before .before .before .before .before .before .service-name .ensures) (c .before .before .before .before .before .before .service-login .ensures) (c .before .before .before .before .before .hidden-at .ensures) (c .before .before .before .before .ipv4-at .ensures) (c .before .before .before .before .before .before .before .before .before .pre .1) (c .before .before .before .domain-at .ensures) (c .before .before .service-ipv6 .ensures) (c .assemble .ensures)))
+    (λ c. service-joined (c .before .before .before .before .before .before .before .service-name .ensures) (c .before .before .before .before .before .before .service-login .ensures) (c .before .before .before .before .before .hidden-at .ensures) (c .before .before .before .before .ipv4-at .ensures) (c .before .before .before .before .before .before .before .before .before .pre .1) (c .before .before .before .domain-at .ensures) (c .before .before .ipv6-at .ensures) (c .assemble .ensures)))

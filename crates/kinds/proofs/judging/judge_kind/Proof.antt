@@ -1,5 +1,5 @@
 -- Each kind by its own law.
-use Rattle.kinds.proofs.Judges.{flag-kind, word-kind, mask-kind, address-kind, ipv4-kind, addresses-kind, entries-kind, mac-kind, key-kind, ssid-kind, passphrase-kind, text-kind}
+use Rattle.kinds.proofs.Judges.{flag-kind, word-kind, mask-kind, address-kind, ipv4-kind, ipv6-kind, ipv6-address-kind, with-length-kind, addresses-kind, entries-kind, mac-kind, key-kind, ssid-kind, passphrase-kind, text-kind}
 use borrow.Author.Needs.{needs}
 use Rattle.kinds.proofs.judging.judge_kind.Statement.{statement}
 use Rattle.kinds.proofs.judging.judge_kind.Tie as tie
@@ -44,15 +44,27 @@ judge-kind-spec =
     (λ c. search needs)
     (λ c κs. search needs)
     (λ c κs. search needs)
+    (λ c. search needs)
+    (λ c κs. search needs)
+    (λ c κs. search needs)
+    (λ c. search needs)
+    (λ c κs. search needs)
+    (λ c κs. search needs)
+    (λ c. search needs)
+    (λ c κs. search needs)
+    (λ c κs. search needs)
     (λ c. flag-kind _ _ _ (c .before .before .enum-told .given .1) (c .before .read-flag .ensures) (c .flag-judgement .ensures))
     (λ c. word-kind _ _ _ (c .before .before .before .kind .given .1) (c .before .read-word .ensures) (c .word-judgement .ensures))
     (λ c. address-kind _ _ _ (c .before .before .enum-told2 .given .1) (c .before .read-address .ensures) (c .kept .ensures))
     (λ c. mask-kind _ _ _ (c .before .before .enum-told3 .given .1) (c .before .read-netmask .ensures) (c .mask-judgement .ensures))
     (λ c. ipv4-kind _ _ _ (c .before .before .enum-told4 .given .1) (c .before .read-ipv4 .ensures) (c .kept2 .ensures))
-    (λ c. addresses-kind _ _ _ (c .before .before .before .kind2 .given .1) (c .before .count-addresses .ensures) (c .kept3 .ensures))
-    (λ c. entries-kind _ _ _ (c .before .before .before .enum-told5 .given .1) (c .before .before .read-entries .ensures) (c .kept4 .ensures))
-    (λ c. mac-kind _ _ _ (c .before .before .enum-told6 .given .1) (c .before .read-mac .ensures) (c .kept5 .ensures))
-    (λ c. key-kind _ _ _ (c .before .before .enum-told7 .given .1) (c .before .is-pre-shared-key .ensures) (c .kept6 .ensures))
-    (λ c. ssid-kind _ _ _ (c .before .before .enum-told8 .given .1) (c .before .is-ssid .ensures) (c .kept7 .ensures))
-    (λ c. passphrase-kind _ _ _ (c .before .before .enum-told9 .given .1) (c .before .string-len .ensures) (c .string-judgement .ensures))
+    (λ c. ipv6-kind _ _ _ (c .before .before .enum-told5 .given .1) (c .before .read-ipv6 .ensures) (c .kept3 .ensures))
+    (λ c. ipv6-address-kind _ _ _ (c .before .before .enum-told6 .given .1) (c .before .read-address2 .ensures) (c .kept4 .ensures))
+    (λ c. with-length-kind _ _ _ (c .before .before .enum-told7 .given .1) (c .before .read-with-length .ensures) (c .kept5 .ensures))
+    (λ c. addresses-kind _ _ _ (c .before .before .before .kind2 .given .1) (c .before .count-addresses .ensures) (c .kept6 .ensures))
+    (λ c. entries-kind _ _ _ (c .before .before .before .enum-told8 .given .1) (c .before .before .read-entries .ensures) (c .kept7 .ensures))
+    (λ c. mac-kind _ _ _ (c .before .before .enum-told9 .given .1) (c .before .read-mac .ensures) (c .kept8 .ensures))
+    (λ c. key-kind _ _ _ (c .before .before .enum-told10 .given .1) (c .before .is-pre-shared-key .ensures) (c .kept9 .ensures))
+    (λ c. ssid-kind _ _ _ (c .before .before .enum-told11 .given .1) (c .before .is-ssid .ensures) (c .kept10 .ensures))
+    (λ c. passphrase-kind _ _ _ (c .before .before .enum-told12 .given .1) (c .before .string-len .ensures) (c .string-judgement .ensures))
     (λ c. text-kind _ _ _ (c .before .before .before .kind3 .given .1) (c .before .string-len2 .ensures) (c .string-judgement2 .ensures)))

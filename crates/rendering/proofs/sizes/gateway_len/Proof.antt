@@ -17,5 +17,5 @@ gateway-len-spec =
     (tie.spec
     (λ c κs. search needs)
     (λ c. omega (arith, dotted-short (c .before .before .args .a), c .address-len .ensures))
-    (λ c. omega (arith, ap length (gateway-text (c .before .before .args .a) (c .before .if1 .taken)), line-size (word "Gateway=") (dotted (c .before .before .args .a)), c .address-len .ensures))
-    (λ c. rw (gateway-none (c .before .args .a) (c .if1 .left))))
+    (λ c. omega (arith, ap length (gateway-text dotted (c .before .before .args .a) (c .before .if1 .taken)), line-size (word "Gateway=") (dotted (c .before .before .args .a)), c .address-len .ensures))
+    (λ c. rw (gateway-none dotted (c .before .args .a) (c .if1 .left))))

@@ -1,7 +1,7 @@
 -- The address, the mask and the gateway, each on its line (`static-size`).
 use native.Mathlib.Omega.{arith}
 use Rattle.addresses.specs.Sizes.{dotted-short}
-use Rattle.records.specs.Record.{gatewayIf}
+use Rattle.addressing.specs.Addressing.{gatewayIf}
 use Rattle.rendering.proofs.Bounds.{gateway-short}
 use Rattle.rendering.proofs.RowTexts.{static-size}
 use borrow.Author.Needs.{needs}

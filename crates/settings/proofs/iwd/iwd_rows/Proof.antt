@@ -13,5 +13,5 @@ iwd-rows-spec =
     (λ c κs. row-of (c .before .pre) (omega arith) G.Settings (c .before .pre .rows .general))
     (λ c κs. row-of (c .before .before .pre) (omega arith) G.Security (c .before .before .pre .rows .security))
     (λ c κs. row-of (c .before .before .before .pre) (omega arith) G.Ipv4 (c .before .before .before .pre .rows .ipv4))
-    (λ c κs. record { long = c .before .before .before .before .pre .long; row = omega arith })
-    (λ c. iwd-typed (c .before .before .before .general-settings .ensures) (c .before .before .security-settings .ensures) (c .before .ipv4-settings .ensures) (c .choice-at .ensures)))
+    (λ c κs. row-of (c .before .before .before .before .pre) (omega arith) G.Ipv6 (c .before .before .before .before .pre .rows .ipv6))
+    (λ c. iwd-typed (c .before .before .before .general-settings .ensures) (c .before .before .security-settings .ensures) (c .before .ipv4-settings .ensures) (c .ipv6-settings .ensures)))

@@ -13,4 +13,6 @@ ipv6-kind-spec =
     tie.close
     (tie.spec
     (λ c. rw (c .match .keys1))
+    (λ c. rw (c .match .keys2))
+    (λ c. rw (c .match .keys3))
     (λ c. ap kindAnswer (sym (at-place-none (c .before .args .n) (keysOf Ipv6) (c .match .rest)))))

@@ -12,4 +12,6 @@ file-lacks-spec =
     (λ c κs. search needs)
     (λ c κs. search needs)
     (λ c κs. search needs)
-    (λ c. rw (c .either2 .ensures, c .before .either .ensures, c .before .before .lacks-address .ensures, c .before .before .before .lacks-gateway .ensures, c .before .before .before .before .lacks-secret .ensures)))
+    (λ c κs. search needs)
+    (λ c κs. search needs)
+    (λ c. rw (c .either3 .ensures, c .before .either2 .ensures, c .before .before .is-unpaired .ensures, c .before .before .before .lacks-secret .ensures, c .before .before .before .before .either .ensures, c .before .before .before .before .before .lacks-address .ensures, c .before .before .before .before .before .before .has-without .ensures)))

@@ -1,5 +1,5 @@
--- By the method; a static IPv4 has a place where it has a gateway.
-use Rattle.written.proofs.Deciding.{dhcp-place, off-place, static-place}
+-- There is a place where both families have one.
+use Rattle.written.proofs.Deciding.{both-placed, ipv4-unplaced}
 use borrow.Author.Needs.{needs}
 use Rattle.written.proofs.parts.has_place.Statement.{statement}
 use Rattle.written.proofs.parts.has_place.Tie as tie
@@ -8,9 +8,7 @@ pub has-place-spec : {M : Type 1} → statement M
 has-place-spec =
     tie.close
     (tie.spec
-    (λ c. search needs)
-    (λ c. search needs)
-    (λ c. search needs)
-    (λ c. dhcp-place (c .before .before .args .i) (c .enum-told .given .1))
-    (λ c. off-place (c .before .before .args .i) (c .enum-told2 .given .1))
-    (λ c. static-place (c .before .before .args .i) (c .enum-told3 .given .1)))
+    (λ c κs. search needs)
+    (λ c κs. search needs)
+    (λ c. both-placed (c .before .before .before .args .r) (c .before .before .ipv4-placed .ensures) (c .before .if1 .taken) (c .ipv6-placed .ensures))
+    (λ c. ipv4-unplaced (c .before .before .args .r) (c .before .ipv4-placed .ensures) (c .if1 .left)))

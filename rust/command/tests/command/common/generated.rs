@@ -103,7 +103,7 @@ const PLACES: [&str; 71] = [
 ];
 
 /// Settings that a secret was put behind by mistake.
-const WRONG_KEYS: [&str; 12] = [
+const WRONG_KEYS: [&str; 13] = [
     "AutoConnect",
     "AddressOverride",
     "Address",
@@ -113,6 +113,7 @@ const WRONG_KEYS: [&str; 12] = [
     "Enabled",
     "Type",
     "IPv4",
+    "IPv6",
     "IPv6.Privacy",
     "Nameservers",
     "MAC",

@@ -1,5 +1,6 @@
 //! The first place at which a value breaks its kind, for the caret; none where it does not.
 
+use super::ipv6;
 use crate::catalogue::{Dialect, Kind};
 use crate::layout::is_blank;
 
@@ -17,8 +18,19 @@ pub fn fault(dialect: Dialect, kind: Kind, text: &[u8]) -> Option<usize> {
         Kind::Key => hex(text, 64..=64),
         Kind::Ssid => hex(text, 2..=64).or((text.len() % 2 == 1).then(|| text.len() - 1)),
         Kind::Passphrase | Kind::NetworkName | Kind::Text => Some(0),
-        Kind::Type | Kind::Ipv6 | Kind::Privacy | Kind::Security => not_one_of(text, kind.words()),
+        Kind::Ipv6 | Kind::Ipv6Address | Kind::Ipv6Gateway => ipv6::fault(kind, text).map(|found| found.place),
+        Kind::Type | Kind::Privacy | Kind::Security => not_one_of(text, kind.words()),
     }
+}
+
+/// What stands between separators, with its place.
+pub fn pieces(text: &[u8], separator: u8) -> impl Iterator<Item = (usize, &[u8])> {
+    let mut next = 0;
+    text.split(move |byte| *byte == separator).map(move |piece| {
+        let start = next;
+        next += piece.len() + 1;
+        (start, piece)
+    })
 }
 
 fn not_one_of(text: &[u8], words: &[&str]) -> Option<usize> {
@@ -27,38 +39,31 @@ fn not_one_of(text: &[u8], words: &[&str]) -> Option<usize> {
 }
 
 /// A number of at most `most` without leading zeros.
-fn number(text: &[u8], most: u32) -> Option<u32> {
+pub fn number(text: &[u8], most: u32) -> Option<u32> {
     let digits = std::str::from_utf8(text).ok()?;
     let plain = text.iter().all(u8::is_ascii_digit) && (text.len() == 1 || text.first() != Some(&b'0'));
     digits.parse().ok().filter(|value| plain && *value <= most)
 }
 
 /// Four numbers with dots.
-fn address(text: &[u8]) -> Option<usize> {
-    let mut place = 0;
-    let mut count = 0;
-    for part in text.split(|byte| *byte == b'.') {
-        if count == 4 || number(part, 255).is_none() {
-            return Some(place);
-        }
-        place += part.len() + 1;
-        count += 1;
-    }
-    (count < 4).then_some(text.len())
+pub fn address(text: &[u8]) -> Option<usize> {
+    let mut numbers = pieces(text, b'.').enumerate();
+    let wrong = numbers.find(|(count, (_, part))| *count == 4 || number(part, 255).is_none());
+    let is_short = || pieces(text, b'.').count() < 4;
+    wrong.map(|(_, (place, _))| place).or_else(|| is_short().then_some(text.len()))
 }
 
 fn mask(text: &[u8]) -> Option<usize> {
     if let Some(place) = address(text) {
         return Some(place);
     }
-    let (mut place, mut ended) = (0, false);
-    for part in text.split(|byte| *byte == b'.') {
+    let mut ended = false;
+    for (place, part) in pieces(text, b'.') {
         let bits = number(part, 255).and_then(|bits| u8::try_from(bits).ok()).unwrap_or(0);
         if bits.leading_ones() != bits.count_ones() || (ended && bits > 0) || (place == 0 && bits == 0) {
             return Some(place);
         }
         ended = bits != 255;
-        place += part.len() + 1;
     }
     None
 }
@@ -68,9 +73,7 @@ fn ipv4(text: &[u8]) -> Option<usize> {
     if text == b"off" || text == b"dhcp" {
         return None;
     }
-    let mut place = 0;
-    let mut count = 0;
-    for part in text.split(|byte| *byte == b'/') {
+    for (count, (place, part)) in pieces(text, b'/').enumerate() {
         let wrong = match count {
             0 | 2 => address(part),
             1 if number(part, 32).is_some_and(|length| length > 0) => None,
@@ -80,41 +83,33 @@ fn ipv4(text: &[u8]) -> Option<usize> {
         if let Some(wrong) = wrong {
             return Some(place + wrong);
         }
-        place += part.len() + 1;
-        count += 1;
     }
-    (count < 2).then_some(text.len())
+    (!text.contains(&b'/')).then_some(text.len())
 }
 
 /// 1 to 4 addresses with spaces between and perhaps at the end.
 fn spaced(text: &[u8]) -> Option<usize> {
-    let (mut place, mut count) = (0, 0);
-    for part in text.split(|byte| *byte == b' ') {
-        if !part.is_empty() {
-            count += 1;
-            if let Some(wrong) = address(part) {
-                return Some(place + wrong);
-            }
-            if count > 4 {
-                return Some(place);
-            }
+    let given = || pieces(text, b' ').filter(|(_, part)| !part.is_empty());
+    for (count, (place, part)) in given().enumerate() {
+        if let Some(wrong) = address(part) {
+            return Some(place + wrong);
         }
-        place += part.len() + 1;
+        if count == 4 {
+            return Some(place);
+        }
     }
-    (count == 0).then_some(0)
+    given().next().is_none().then_some(0)
 }
 
 /// At most `most` parts with one comma between.
 fn parts(text: &[u8], most: usize, judge: fn(&[u8]) -> Option<usize>) -> Option<usize> {
-    let mut place = 0;
-    for (count, part) in text.split(|byte| *byte == b',').enumerate() {
+    for (count, (place, part)) in pieces(text, b',').enumerate() {
         if let Some(wrong) = judge(part) {
             return Some(place + wrong);
         }
         if count == most {
             return Some(place);
         }
-        place += part.len() + 1;
     }
     None
 }

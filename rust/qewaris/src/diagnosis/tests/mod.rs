@@ -2,6 +2,7 @@
 
 mod carets;
 mod cases;
+mod slips;
 
 use super::kinds::message_of;
 use super::*;
@@ -57,11 +58,11 @@ fn the_first_of_the_lines_in_the_way_is_the_librarys() {
         let first = found(file, *service).first().copied();
         assert_eq!(first, Some(refusal.line()).filter(|_| refusal.number() == 16), "{name}");
     }
-    let all =
-        b"[service_a]\nType = ethernet\nIPv4 = off\nMAC = 02:00:5e:10:00:01\nIPv6.Privacy = enabled\nSearchDomains = a\nTimeservers = b\n";
-    assert_eq!(found(all, 1), (2..=7).map(Some).collect::<Vec<Option<usize>>>());
+    let all = b"[service_a]\nType = ethernet\nIPv4 = off\nMAC = 02:00:5e:10:00:01\nIPv6.Privacy = enabled\nSearchDomains = a\n\
+                Timeservers = b\nIPv6 = ::1/128\n";
+    assert_eq!(found(all, 1), (2..=8).map(Some).collect::<Vec<Option<usize>>>());
     let wireless = b"[service_a]\nType = wifi\nName = a\nSecurity = wep\nIPv4 = 10.0.0.2/255.0.0.0\n[service_b]\nType = wifi\nName = b\n\
-                     IPv4 = 10.0.0.2/24/10.0.0.1\nSecurity = none\n";
+                     IPv4 = 10.0.0.2/24/10.0.0.1\nIPv6 = 2001:db8::14/64/2001:db8::1\nSecurity = none\n";
     assert_eq!((found(wireless, 1), found(wireless, 2)), (vec![Some(4), Some(5)], Vec::new()));
     assert_eq!((found(wireless, 0), found(wireless, 3)), (Vec::new(), Vec::new()));
 }
@@ -123,7 +124,7 @@ fn every_kind_has_a_sentence_in_both_dialects() {
         }
     }
     assert_eq!(count, all_keys().count());
-    assert_eq!(count, 30);
+    assert_eq!(count, 32);
 }
 
 #[test]
@@ -154,6 +155,7 @@ fn the_rules_of_01_each_have_a_sentence() {
             .filter(|(message, of, _)| *of == number && !is_general(*message))
             .count()
     };
-    // ConnMan 14 has three rules and iwd 14 five; ConnMan 15 six and iwd 15 two; the move's list has nine things.
-    assert_eq!((count(14), count(15), count(16)), (8, 8, 9));
+    // ConnMan 14 has three rules and iwd 14 five, of which two are those of both groups of addresses; ConnMan 15 has six and iwd 15
+    // three; the move's list has ten things.
+    assert_eq!((count(14), count(15), count(16)), (8, 9, 10));
 }

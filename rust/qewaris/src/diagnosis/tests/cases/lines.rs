@@ -188,7 +188,25 @@ pub const CHECKS: &[Check] = &[
         Message::KeyOfPaper,
         "a.open",
         b"[IPv6]\nDNS=2001:db8::1\n",
-        "DNS is iwd's and not taken in [IPv6]; the keys of [IPv6] are Enabled",
+        "DNS is iwd's and not taken in [IPv6]; the keys of [IPv6] are Enabled, Address and Gateway",
+    ),
+    (
+        Message::KeyOfPaper,
+        "a.open",
+        b"[IPv6]\nDomainName=shop.example\n",
+        "DomainName is iwd's and not taken in [IPv6]; the keys of [IPv6] are Enabled, Address and Gateway",
+    ),
+    (
+        Message::KeyElsewhere,
+        "a.open",
+        b"[IPv6]\nNetmask=ffff::\n",
+        "Netmask is no key of [IPv6]; it belongs to [IPv4]",
+    ),
+    (
+        Message::KeyElsewhere,
+        "a.open",
+        b"[Settings]\nGateway=2001:db8::1\n",
+        "Gateway is no key of [Settings]; it belongs to [IPv4] or [IPv6]",
     ),
     (
         Message::KeyOfDaemon,

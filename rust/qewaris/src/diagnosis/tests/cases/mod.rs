@@ -1,5 +1,6 @@
 //! Files that earn each sentence, with the sentence.
 
+mod ipv6;
 mod lines;
 mod names;
 mod rules;
@@ -15,5 +16,6 @@ pub type Check = (Message, &'static str, &'static [u8], &'static str);
 pub type Move = (Message, &'static str, &'static [u8], usize, &'static str);
 
 pub fn checks() -> impl Iterator<Item = &'static Check> {
-    [names::CHECKS, lines::CHECKS, values::CHECKS, rules::CHECKS].into_iter().flatten()
+    let all = [names::CHECKS, lines::CHECKS, values::CHECKS, ipv6::CHECKS, rules::CHECKS];
+    all.into_iter().flatten()
 }

@@ -38,25 +38,49 @@ pub const CHECKS: &[Check] = &[
         Message::AddressWithoutGateway,
         "a.open",
         b"[IPv4]\nAddress=10.0.0.2\n",
-        "Address stands on line 2 and there is no Gateway; an Address needs one",
+        "[IPv4] has Address on line 2 and no Gateway; an Address needs one",
     ),
     (
         Message::GatewayWithoutAddress,
         "a.open",
         b"[IPv4]\nGateway=10.0.0.2\n",
-        "Gateway stands on line 2 and there is no Address; a Gateway needs one",
+        "[IPv4] has Gateway on line 2 and no Address; a Gateway needs one",
     ),
     (
         Message::NetmaskWithoutAddress,
         "a.open",
         b"[IPv4]\nNetmask=255.0.0.0\n",
-        "Netmask stands on line 2 and there is no Address; a Netmask needs one",
+        "[IPv4] has Netmask on line 2 and no Address; a Netmask needs one",
     ),
     (
         Message::BroadcastWithoutAddress,
         "a.open",
         b"[IPv4]\nBroadcast=10.0.0.2\n",
-        "Broadcast stands on line 2 and there is no Address; a Broadcast needs one",
+        "[IPv4] has Broadcast on line 2 and no Address; a Broadcast needs one",
+    ),
+    (
+        Message::AddressWithoutGateway,
+        "a.open",
+        b"[IPv4]\nAddress=10.0.0.2\nGateway=10.0.0.1\n[IPv6]\nAddress=2001:db8::14\n",
+        "[IPv6] has Address on line 5 and no Gateway; an Address needs one",
+    ),
+    (
+        Message::GatewayWithoutAddress,
+        "a.open",
+        b"[IPv4]\nAddress=10.0.0.2\nGateway=10.0.0.1\n[IPv6]\nEnabled=true\nGateway=2001:db8::1\n",
+        "[IPv6] has Gateway on line 6 and no Address; a Gateway needs one",
+    ),
+    (
+        Message::AddressWithoutGateway,
+        "a.open",
+        b"[IPv6]\nEnabled=false\nAddress=2001:db8::14\n",
+        "[IPv6] has Address on line 3 and no Gateway; an Address needs one",
+    ),
+    (
+        Message::AddressWithoutGateway,
+        "a.open",
+        b"[IPv6]\nGateway=2001:db8::1\n[IPv4]\nAddress=10.0.0.2\n",
+        "[IPv4] has Address on line 4 and no Gateway; an Address needs one",
     ),
     (
         Message::EthernetWithName,
@@ -106,6 +130,24 @@ pub const CHECKS: &[Check] = &[
         b"[Security]\nPreSharedKey=5a5a5a5a5a5a5a5a5a5a5a5a5a5a5a5a5a5a5a5a5a5a5a5a5a5a5a5a5a5a5a5a\n",
         "PreSharedKey stands on line 2; an .open file has no key, and a network with one needs a .psk file",
     ),
+    (
+        Message::DisabledWithAddress,
+        "a.open",
+        b"[IPv6]\nEnabled=false\nAddress=2001:db8::14\nGateway=2001:db8::1\n",
+        "[IPv6] has Enabled=false on line 2 and Address on line 3; only one of them can stand",
+    ),
+    (
+        Message::DisabledWithAddress,
+        "a.psk",
+        b"[Security]\nPassphrase=low tide 88\n[IPv6]\nGateway=2001:db8::1\nAddress=2001:db8::14\nEnabled = 0\n",
+        "[IPv6] has Enabled=0 on line 6 and Address on line 5; only one of them can stand",
+    ),
+    (
+        Message::OpenFileWithPassphrase,
+        "a.open",
+        b"[IPv6]\nEnabled=false\nAddress=2001:db8::14\nGateway=2001:db8::1\n[Security]\nPassphrase=low tide 88\n",
+        "Passphrase stands on line 6; an .open file has no key, and a network with one needs a .psk file",
+    ),
 ];
 
 pub const MOVES: &[Move] = &[
@@ -149,7 +191,14 @@ pub const MOVES: &[Move] = &[
         "a.config",
         b"[service_a]\nType = wifi\nName = a\nIPv4 = 10.0.0.2/24\n",
         1,
-        "[service_a] has an address without a gateway, which has no place in iwd; an address with a gateway moves",
+        "[service_a] has an IPv4 address without a gateway, which has no place in iwd; an address with a gateway moves",
+    ),
+    (
+        Message::NoPlaceWithoutIpv6Gateway,
+        "a.config",
+        b"[service_a]\nType = wifi\nName = a\nIPv4 = 10.0.0.2/24/10.0.0.1\nIPv6 = 2001:db8::14/64\n",
+        1,
+        "[service_a] has an IPv6 address without a gateway, which has no place in iwd; an address with a gateway moves",
     ),
     (
         Message::NoPlaceForMac,
