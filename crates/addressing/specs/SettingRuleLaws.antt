@@ -26,7 +26,8 @@ other-word v w h k = go (same v w) refl
     go true e = let l = ap (λ (s : List ℕ). length (pieces 47 s)) (same-eq v w e) in absurd (omega arith)
     go false e = refl
 
-module _ (automatic : List ℕ) (read : List ℕ → Option (List ℕ)) (size : List ℕ → Option ℕ) (AddressIs : List ℕ → List ℕ → Type 0) (SizeIs : List ℕ → ℕ → Type 0) where
+module _ (automatic : List ℕ) (read : List ℕ → Option (List ℕ)) (size : List ℕ → Option ℕ)
+    (AddressIs : List ℕ → List ℕ → Type 0) (SizeIs : List ℕ → ℕ → Type 0) where
   -- ---- what is read is so
 
   module _ (read-is : (a x : List ℕ) → read a ≡ some x → AddressIs a x) (size-is : (m : List ℕ) (n : ℕ) → size m ≡ some n → SizeIs m n) where

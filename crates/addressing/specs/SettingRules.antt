@@ -9,7 +9,8 @@ use Rattle.addressing.specs.Addressing.{Addressing, auto, off, static}
 
 -- "`off`, `dhcp`, or address `/` mask or length (1 to 32, no leading zero), and optionally `/` gateway"; in IPv6 `auto` for `dhcp`. Which
 -- text is which address, and which length, the family says.
-pub data AddressingIs (automatic : List ℕ) (AddressIs : List ℕ → List ℕ → Type 0) (SizeIs : List ℕ → ℕ → Type 0) (v : List ℕ) : Addressing → Type 0 where
+pub data AddressingIs (automatic : List ℕ) (AddressIs : List ℕ → List ℕ → Type 0) (SizeIs : List ℕ → ℕ → Type 0)
+    (v : List ℕ) : Addressing → Type 0 where
   word-off : v ≡ word "off" → AddressingIs automatic AddressIs SizeIs v off
   word-auto : v ≡ automatic → AddressingIs automatic AddressIs SizeIs v auto
   without-gateway : {a m x : List ℕ} {n : ℕ}

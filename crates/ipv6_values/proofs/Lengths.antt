@@ -21,7 +21,7 @@ use Rattle.addressing.specs.Addressing.{Addressing, static}
 use Rattle.addressing.specs.Settings.{fixed}
 use Rattle.addressing.proofs.Fixing.{routed-bad}
 use Rattle.ipv6.specs.Ipv6.{ipv6}
-use Rattle.ipv6.specs.Answers as Text
+use Rattle.ipv6.specs.Answers.{ipv6Answer}
 use Rattle.ipv6.specs.declared.Address.{Address}
 use Rattle.ipv6_values.specs.Ipv6Values as Values
 use Rattle.ipv6_values.specs.Ipv6Values.{addressLength, withLength}
@@ -30,11 +30,11 @@ use Rattle.ipv6_values.specs.declared.WithLength.{WithLength}
 
 -- ---- answers taken apart
 
-address-refused : (o : Option (List ℕ)) {r : Address} → r ≡ Text.ipv6Answer o → not (r .ok) ≡ true → o ≡ none
-address-refused = answer-none Text.ipv6Answer (λ x. x .ok) (λ x. x .bytes) refl (λ a. (refl, refl))
+address-refused : (o : Option (List ℕ)) {r : Address} → r ≡ ipv6Answer o → not (r .ok) ≡ true → o ≡ none
+address-refused = answer-none ipv6Answer (λ x. x .ok) (λ x. x .bytes) refl (λ a. (refl, refl))
 
-address-read : (o : Option (List ℕ)) {r : Address} → r ≡ Text.ipv6Answer o → not (r .ok) ≡ false → o ≡ some (r .bytes)
-address-read = answer-some Text.ipv6Answer (λ x. x .ok) (λ x. x .bytes) refl (λ a. (refl, refl))
+address-read : (o : Option (List ℕ)) {r : Address} → r ≡ ipv6Answer o → not (r .ok) ≡ false → o ≡ some (r .bytes)
+address-read = answer-some ipv6Answer (λ x. x .ok) (λ x. x .bytes) refl (λ a. (refl, refl))
 
 abbrev valueIn : WithLength → Values.WithLength
 valueIn r = record { address = r .address; length = r .length }
@@ -47,7 +47,7 @@ sized-read = answer-some withLengthAnswer (λ x. x .ok) valueIn refl (λ w. (ref
 
 -- ---- an address, and its length
 
-module _ (a : List ℕ) {x : Address} (h : x ≡ Text.ipv6Answer (ipv6 a)) where
+module _ (a : List ℕ) {x : Address} (h : x ≡ ipv6Answer (ipv6 a)) where
   pub single-bad : not (x .ok) ≡ true → addressLength (a ∷ []) ≡ none
   single-bad k = rw (address-refused (ipv6 a) h k)
 
@@ -96,7 +96,7 @@ module _ (a m : List ℕ) {r : WithLength} (h : r ≡ withLengthAnswer (addressL
     pub routed-refused : not (r .ok) ≡ true → fixed ipv6 (prefixLength 128) (a ∷ m ∷ g ∷ []) ≡ none
     routed-refused k = routed-bad ipv6 (prefixLength 128) a m g (ap isSome (static-bad k))
 
-    module _ (k : not (r .ok) ≡ false) {x : Address} (q : x ≡ Text.ipv6Answer (ipv6 g)) where
+    module _ (k : not (r .ok) ≡ false) {x : Address} (q : x ≡ ipv6Answer (ipv6 g)) where
       pub routed-none : not (x .ok) ≡ true → fixed ipv6 (prefixLength 128) (a ∷ m ∷ g ∷ []) ≡ none
       routed-none e = rw (parts k .0, parts k .1, address-refused (ipv6 g) q e)
 

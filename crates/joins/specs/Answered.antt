@@ -53,7 +53,7 @@ use Rattle.rules.specs.GivenValues.{read-holds, entry-given}
 use Rattle.rules.specs.declared.Reading.the-variants.{Accepted}
 use Rattle.records.specs.Record.{Join}
 use Rattle.records.specs.Formed.{GoodPassphrase, GoodKey, GoodSecret, GoodIpv4, GoodIpv6, GoodServers, GoodDomain, WellFormed}
-use Rattle.joins.specs.Joins.{joined, secretFrom, staticOrDhcp, staticOrAuto, unlessOff, nameFrom, iwdJoin, serviceJoin, wired, foreign, noRecord, networkName, iwdJoined, serviceSetting, serviceJoined}
+use Rattle.joins.specs.Joins.{joined, secretFrom, staticOrDhcp, staticOrAuto, unlessOff, nameFrom, iwdIpv6, iwdJoin, serviceJoin, wired, foreign, noRecord, networkName, iwdJoined, serviceSetting, serviceJoined}
 use Rattle.joins.specs.Joining.{or-false, joined-good, service-joining}
 
 -- ---- what is read from a setting
@@ -155,8 +155,8 @@ fixed-formed : (a : Option WithLength) (g : Option (List ℕ)) → IfSome GoodWi
 fixed-formed none g x y = tt
 fixed-formed (some a) g x y = record { address = x .address; low = x .low; high = x .high; gateway = y }
 
-iwd-ipv6-formed : (at : List ℕ → Option Entry) →
-    GoodIpv6 (unlessOff (readAs (flag D.Iwd) (at (word "Enabled"))) (staticOrAuto (readAs withLength (at (word "Address"))) (readAs ipv6 (at (word "Gateway")))))
+iwd-ipv6-formed : (at : List ℕ → Option Entry) → GoodIpv6 (iwdIpv6 at)
+unfolding keysOf
 iwd-ipv6-formed at =
     unless-off-formed (readAs (flag D.Iwd) (at (word "Enabled"))) (staticOrAuto (readAs withLength (at (word "Address"))) (readAs ipv6 (at (word "Gateway"))))
     (fixed-formed (readAs withLength (at (word "Address"))) (readAs ipv6 (at (word "Gateway")))

@@ -31,7 +31,7 @@ use Rattle.kinds.specs.Kinds as K
 use Rattle.kinds.specs.Typed.{Typed, typed, escapesBroken, kindJudged, byKind, bytes}
 use Rattle.kinds.specs.Typed as T
 use Rattle.named_words.specs.Answers.{yesNo, namedWord}
-use Rattle.ipv6.specs.Answers as Ipv6Answers
+use Rattle.ipv6.specs.Answers.{ipv6Answer}
 use Rattle.connman_ipv4.specs.Answers.{ipv4Answer}
 use Rattle.ipv6_values.specs.Answers.{connmanIpv6Answer, withLengthAnswer}
 use Rattle.hex_values.specs.Answers.{macAnswer}
@@ -58,7 +58,7 @@ address-ok : (o : Option (List ℕ)) {x : Address} → x ≡ A.addressAnswer o �
 address-ok none e = ap (λ (x : Address). x .ok) e
 address-ok (some a) e = ap (λ (x : Address). x .ok) e
 
-ipv6-ok : (o : Option (List ℕ)) {x : Ipv6Text} → x ≡ Ipv6Answers.ipv6Answer o → x .ok ≡ isSome o
+ipv6-ok : (o : Option (List ℕ)) {x : Ipv6Text} → x ≡ ipv6Answer o → x .ok ≡ isSome o
 ipv6-ok none e = ap (λ (x : Ipv6Text). x .ok) e
 ipv6-ok (some a) e = ap (λ (x : Ipv6Text). x .ok) e
 
@@ -136,7 +136,7 @@ module _ (d : Dialect) (v : List ℕ) (p : Place) {k : Kind} {r : Judgement} whe
   unfolding kindJudged typed
   ipv6-kind q e h = rw q (h ∙ kept-is p T.addressing (λ a. refl) (Ipv6Values.connmanIpv6 v) (ap (λ (x : ConnmanIpv6). x .ok) e))
 
-  pub ipv6-address-kind : k ≡ Ipv6Address → {x : Ipv6Text} → x ≡ Ipv6Answers.ipv6Answer (Ipv6.ipv6 v) → r ≡ keptAt p (x .ok) → r ≡ judgementAt p (kindJudged d k v)
+  pub ipv6-address-kind : k ≡ Ipv6Address → {x : Ipv6Text} → x ≡ ipv6Answer (Ipv6.ipv6 v) → r ≡ keptAt p (x .ok) → r ≡ judgementAt p (kindJudged d k v)
   unfolding kindJudged typed
   ipv6-address-kind q e h = rw q (h ∙ kept-is p T.address (λ a. refl) (Ipv6.ipv6 v) (ipv6-ok (Ipv6.ipv6 v) e))
 

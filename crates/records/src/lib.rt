@@ -43,7 +43,7 @@ pub struct JoinRecord {
 fn is_zero(s: &[u8]) -> bool
     ensures { λ a. ⌜ a ≡ zeros (now (s .entry)) ⌝ }
 {
-    text::scan::range_end(s, 0, 0, 0) == s.len()
+    text::scan::zeros_end(s, 0) == s.len()
 }
 
 // Whether the first n places of s are in use, low to high of them, and the others are zero.

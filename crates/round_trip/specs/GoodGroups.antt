@@ -38,8 +38,9 @@ secret-good (passphrase p) w = (passphrase-row p w, tt)
 secret-good (key k) w = (key-row k w, tt)
 
 -- a gateway, in the text of its family
-gateway-good : (d : Group) (width : ℕ) (text : List ℕ → List ℕ) → ((x : List ℕ) → isBytes width x ≡ true → GoodRow Iwd d (word "Gateway", text x)) →
-    (g : Option (List ℕ)) → IfSome (λ x. isBytes width x ≡ true) g → GoodRows Iwd d (gatewayRows text g)
+gateway-good : (d : Group) (width : ℕ) (text : List ℕ → List ℕ) →
+    ((x : List ℕ) → isBytes width x ≡ true → GoodRow Iwd d (word "Gateway", text x)) → (g : Option (List ℕ)) →
+    IfSome (λ x. isBytes width x ≡ true) g → GoodRows Iwd d (gatewayRows text g)
 gateway-good d width text f none w = tt
 gateway-good d width text f (some g) w = (f g w, tt)
 

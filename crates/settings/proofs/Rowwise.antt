@@ -15,7 +15,7 @@ use Rattle.connman_ipv4.specs.ConnmanIpv4.{ipv4}
 use Rattle.ipv6_values.specs.Ipv6Values.{connmanIpv6, withLength}
 use Rattle.hex_values.specs.HexValues.{mac, ssid, preSharedKey}
 use Rattle.entry_lists.specs.EntryLists.{entries}
-use Rattle.ipv6.specs.Answers as Plain
+use Rattle.ipv6.specs.Answers.{ipv6Answer}
 use Rattle.connman_ipv4.specs.Answers.{ipv4Answer}
 use Rattle.ipv6_values.specs.Answers.{connmanIpv6Answer, withLengthAnswer}
 use Rattle.hex_values.specs.Answers.{macAnswer, ssidAnswer, preSharedKeyAnswer}
@@ -79,7 +79,7 @@ module _ {file x : List ℕ} where
             );
       }
 
-  pub ipv6-typed : {e : Choice} {a : WithLength} {g : Ipv6Address} → e ≡ choiceBy (keySlot x (base G.Ipv6 0) N.Enabled .code) → a ≡ withLengthAnswer (withLength (bytesOf file x (base G.Ipv6 0) N.Ipv6Address)) → g ≡ Plain.ipv6Answer (ipv6 (bytesOf file x (base G.Ipv6 0) N.Ipv6Gateway)) → RowGives Iwd file x (base G.Ipv6 0) G.Ipv6 ipv6SettingsOf (record { enabled = e; address = a; gateway = g })
+  pub ipv6-typed : {e : Choice} {a : WithLength} {g : Ipv6Address} → e ≡ choiceBy (keySlot x (base G.Ipv6 0) N.Enabled .code) → a ≡ withLengthAnswer (withLength (bytesOf file x (base G.Ipv6 0) N.Ipv6Address)) → g ≡ ipv6Answer (ipv6 (bytesOf file x (base G.Ipv6 0) N.Ipv6Gateway)) → RowGives Iwd file x (base G.Ipv6 0) G.Ipv6 ipv6SettingsOf (record { enabled = e; address = a; gateway = g })
   unfolding keysOf
   ipv6-typed p q r =
       record {
@@ -87,7 +87,7 @@ module _ {file x : List ℕ} where
             rw (
               p ∙ flag-by Iwd file (keySlot x (base G.Ipv6 0) N.Enabled) (entryOf (word "Enabled") es) (row-key N.Enabled h),
               q ∙ ap withLengthAnswer (row-read N.Ipv6Address h withLength with-length-none),
-              r ∙ ap Plain.ipv6Answer (row-read N.Ipv6Gateway h ipv6 ipv6-none),
+              r ∙ ap ipv6Answer (row-read N.Ipv6Gateway h ipv6 ipv6-none),
             );
       }
 

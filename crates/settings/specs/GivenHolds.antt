@@ -15,7 +15,7 @@ use Rattle.text.specs.declared.Dialect.the-variants.{Iwd, ConnMan}
 use Rattle.addresses.specs.Addresses.{netmask, addresses, addressAnswer}
 use Rattle.addresses.specs.declared.Separator.{Separator}
 use Rattle.addresses.specs.declared.Separator.the-variants.{Spaces, Comma}
-use Rattle.ipv6.specs.Answers as Plain
+use Rattle.ipv6.specs.Answers.{ipv6Answer}
 use Rattle.ipv6_values.specs.Ipv6Values.{WithLength}
 use Rattle.entry_lists.specs.EntryLists.{entry, entries}
 use Rattle.ipv6_values.specs.Answers.{withLengthAnswer}
@@ -66,7 +66,7 @@ ssid-given : (o : Option (List ℕ)) → ssidAnswer o .ok ≡ isSome o
 ssid-given none = refl
 ssid-given (some b) = refl
 
-ipv6-given : (o : Option (List ℕ)) → Plain.ipv6Answer o .ok ≡ isSome o
+ipv6-given : (o : Option (List ℕ)) → ipv6Answer o .ok ≡ isSome o
 ipv6-given none = refl
 ipv6-given (some a) = refl
 

@@ -7,7 +7,7 @@ use lib.ListN.{length}
 use Rattle.text.specs.Words.{word}
 use Rattle.text.specs.Options.{orEmpty}
 use Rattle.addresses.specs.Addresses.{addressAnswer, rows}
-use Rattle.ipv6.specs.Answers as Plain
+use Rattle.ipv6.specs.Answers.{ipv6Answer}
 use Rattle.connman_ipv4.specs.Answers.{ipv4Answer}
 use Rattle.ipv6_values.specs.Answers.{connmanIpv6Answer, withLengthAnswer}
 use Rattle.hex_values.specs.Answers.{macAnswer, preSharedKeyAnswer, ssidAnswer}
@@ -75,7 +75,7 @@ ipv6SettingsOf at =
     record {
       enabled = choice (value (word "Enabled"));
       address = withLengthAnswer (value (word "Address"));
-      gateway = Plain.ipv6Answer (value (word "Gateway"));
+      gateway = ipv6Answer (value (word "Gateway"));
     }
 
 -- the settings of an iwd file, at giving the setting with a key in the group with a name
@@ -109,8 +109,8 @@ networkSettingsOf at =
       hidden = choice (value (word "Hidden"));
     }
 
--- "IPv4, IPv6 (off, auto)", which by request 2026-03 "gains address/length with an optional gateway", "IPv6.Privacy (..), MAC, Nameservers (1 to 4 addresses ..), SearchDomains and Timeservers (1
--- to 4 entries ..), Domain (string, 1 to 253)"
+-- "IPv4, IPv6 (off, auto)", which by request 2026-03 "gains address/length with an optional gateway", "IPv6.Privacy (..), MAC,
+-- Nameservers (1 to 4 addresses ..), SearchDomains and Timeservers (1 to 4 entries ..), Domain (string, 1 to 253)"
 abbrev pub addressSettingsOf : (List ℕ → Option Entry) → AddressSettings
 unfolding keysOf
 addressSettingsOf at =

@@ -141,8 +141,8 @@ pub fn line_end(s: &[u8], from: usize) -> usize
     find(s, from, 10)
 }
 
-// The end of the run of bytes from low to high that starts at from.
-pub fn range_end(s: &[u8], from: usize, low: u8, high: u8) -> usize
+// The end of the run of bytes from low to high that starts at from, byte by byte.
+fn range_end(s: &[u8], from: usize, low: u8, high: u8) -> usize
     requires { ⌜ from ≤ length (now s) ⌝ }
     ensures { λ r. ⌜ Stop (between low high) (now (s .entry)) from r ⌝ }
 {
@@ -157,16 +157,16 @@ pub fn range_end(s: &[u8], from: usize, low: u8, high: u8) -> usize
     i
 }
 
-// Whether the sixteen bytes at i are all printable ASCII.
-fn printable_block(s: &[u8], i: usize) -> bool
+// Whether the sixteen bytes at i are all from low to high.
+fn range_block(s: &[u8], i: usize, low: u8, high: u8) -> bool
     requires { ⌜ i + 16 ≤ length (now s) ⌝ }
-    ensures { λ r. ⌜ (r ≡ true → Scan (between 32 126) (now (s .entry)) i (i + 16)) ⌝ }
+    ensures { λ r. ⌜ (r ≡ true → Scan (between low high) (now (s .entry)) i (i + 16)) ⌝ }
 {
     let e = i + 16;
     let mut hit: u8 = 0;
     let mut j = i;
     while j < e {
-        if classes::within(32, 126, s[j]) {} else {
+        if classes::within(low, high, s[j]) {} else {
             hit = 1;
         }
         j += 1;
@@ -174,18 +174,35 @@ fn printable_block(s: &[u8], i: usize) -> bool
     hit == 0
 }
 
-// The end of the run of printable ASCII, bytes 32 to 126, that starts at from.
+// The end of the run of printable ASCII, bytes 32 to 126, that starts at from. The bounds are constants, and so in the next function:
+// by bounds that are handed in, a block takes three times as many instructions.
 pub fn printable_end(s: &[u8], from: usize) -> usize
     requires { ⌜ from ≤ length (now s) ⌝ }
     ensures { λ r. ⌜ Stop (between 32 126) (now (s .entry)) from r ⌝ }
 {
     let mut i = from;
     while 16 <= s.len() - i {
-        if printable_block(s, i) {
+        if range_block(s, i, 32, 126) {
             i += 16;
         } else {
             return range_end(s, i, 32, 126);
         }
     }
     range_end(s, i, 32, 126)
+}
+
+// The end of the run of zeros that starts at from.
+pub fn zeros_end(s: &[u8], from: usize) -> usize
+    requires { ⌜ from ≤ length (now s) ⌝ }
+    ensures { λ r. ⌜ Stop (between 0 0) (now (s .entry)) from r ⌝ }
+{
+    let mut i = from;
+    while 16 <= s.len() - i {
+        if range_block(s, i, 0, 0) {
+            i += 16;
+        } else {
+            return range_end(s, i, 0, 0);
+        }
+    }
+    range_end(s, i, 0, 0)
 }

@@ -10,7 +10,7 @@ ghost use Rattle.connman_ipv4.specs.ConnmanIpv4.{ipv4};
 ghost use Rattle.ipv6_values.specs.Ipv6Values.{connmanIpv6, withLength};
 ghost use Rattle.hex_values.specs.HexValues.{mac, ssid, preSharedKey};
 ghost use Rattle.entry_lists.specs.EntryLists.{entries};
-ghost use Rattle.ipv6.specs.Answers as Plain;
+ghost use Rattle.ipv6.specs.Answers.{ipv6Answer};
 ghost use Rattle.connman_ipv4.specs.Answers.{ipv4Answer};
 ghost use Rattle.ipv6_values.specs.Answers.{connmanIpv6Answer, withLengthAnswer};
 ghost use Rattle.hex_values.specs.Answers.{macAnswer, ssidAnswer, preSharedKeyAnswer};
@@ -112,7 +112,7 @@ pub fn ipv6_at(file: &[u8], x: &Places, row: usize, k: KeyName) -> Ipv6
 
 pub fn ipv6_address_at(file: &[u8], x: &Places, row: usize, k: KeyName) -> ipv6::Address
     requires { ⌜ ValueInFile (now file) (now x) row k ⌝ }
-    ensures { λ r. ⌜ r ≡ Plain.ipv6Answer (ipv6 (bytesOf (now (file .entry)) (now (x .entry)) row k)) ⌝ }
+    ensures { λ r. ⌜ r ≡ ipv6Answer (ipv6 (bytesOf (now (file .entry)) (now (x .entry)) row k)) ⌝ }
 {
     ipv6::reading::read_address(value_of(file, x, row, k))
 }

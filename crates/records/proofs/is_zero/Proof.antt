@@ -9,4 +9,4 @@ is-zero-spec =
     tie.close
     (tie.spec
     (λ c κs. search needs)
-    (λ c. all-run (c .range-end .ensures)))
+    (λ c. all-run (c .zeros-end .ensures)))

@@ -18,7 +18,7 @@ printable-end-spec =
     (λ c κs. search needs)
     (λ c. search needs)
     (λ c. search needs)
-    (λ c. scan-on (c .before .before .before .loop .inv) (c .before .printable-block .ensures (c .if1 .taken)))
+    (λ c. scan-on (c .before .before .before .loop .inv) (c .before .range-block .ensures (c .if1 .taken)))
     (λ c κs. search needs)
     (λ c. scan-then (c .before .before .before .before .loop .inv) (c .range-end .ensures))
     (λ c κs. search needs)

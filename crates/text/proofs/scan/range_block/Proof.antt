@@ -4,15 +4,15 @@ use mathlib.Core.Logic.{⊎-elim}
 use Rattle.text.specs.Bytes.{between}
 use Rattle.text.proofs.Loops.{Quiet, quiet-none, quiet-hit, quiet-more, quiet-end}
 use borrow.Author.Needs.{needs}
-use Rattle.text.proofs.scan.printable_block.Statement.{statement}
-use Rattle.text.proofs.scan.printable_block.Tie as tie
+use Rattle.text.proofs.scan.range_block.Statement.{statement}
+use Rattle.text.proofs.scan.range_block.Tie as tie
 
-pub printable-block-spec : {M : Type 1} → statement M
-printable-block-spec =
+pub range-block-spec : {M : Type 1} → statement M
+range-block-spec =
     tie.close
     (tie.spec
-    (λ s i e hit₀ j₀ hit j. (i ≤ j) × (j ≤ e) × Quiet (between 32 126) s i j hit)
-    (λ s i e hit₀ j₀ hit j. e - j)
+    (λ s i low high e hit₀ j₀ hit j. (i ≤ j) × (j ≤ e) × Quiet (between low high) s i j hit)
+    (λ s i low high e hit₀ j₀ hit j. e - j)
     (λ c. search needs)
     (λ c. (search needs, search needs, quiet-none (search needs)))
     (λ c. search needs)
