@@ -11,13 +11,13 @@ use lib.ListN.{length, drop, set, replicate, length-append, length-drop}
 use lib.Seq.{length-take-le}
 use Rattle.text.specs.Bytes.{other, isEntryByte}
 use Rattle.text.specs.Parts.{all, part, pieces, padded}
-use Rattle.text.specs.Options.{isSome, prepend, only, sized, each}
+use Rattle.text.specs.Options.{isSome, only, sized, each}
 use Rattle.text.specs.Laws.{inside, over, padded-set, pieces-some}
 use Rattle.text.specs.Relations.{Sized}
 use Rattle.text.specs.OptionLaws.{some-is, none-is, only-some, sized-is, is-sized, unsized}
 use Rattle.text.specs.Scans.{Stop}
 use Rattle.text.proofs.ScanLaws.{stop-low, pieces-end, pieces-at}
-use Rattle.put.proofs.Gathering.{ahead, ahead-none, each-read-append, sized-each}
+use Rattle.put.proofs.Gathering.{each-read-append, sized-each}
 use Rattle.entry_lists.specs.EntryLists.{entry, entries}
 use Rattle.entry_lists.specs.Answers.{startsFrom, endsFrom, entriesAnswer}
 
@@ -80,10 +80,6 @@ entry-is p {x} e k =
 entry-none : (p : List ℕ) {x : Bool} → x ≡ isSome (entry p) → not x ≡ true → entry p ≡ none
 entry-none p {x} e k = none-is (entry p) (sym e ∙ not-true x k)
 
-ahead-some : (l m : List (List ℕ)) → ahead l (some m) ≡ some (l ++ m)
-ahead-some [] m = refl
-ahead-some (a ∷ l) m = ap (prepend a) (ahead-some l m)
-
 -- ---- the loop: the entries done are good and stand in the arrays, and the rest of s starts at at
 
 pub record Entering (b : ℕ) (s : List ℕ) (at n : ℕ) (starts ends : List ℕ) : Type 0 where
@@ -117,14 +113,14 @@ module _ {b : ℕ} {s : List ℕ} {at n : ℕ} {starts ends : List ℕ} (h : Ent
 
     pub entering-broken : not x ≡ true → entries s ≡ none
     unfolding entries
-    entering-broken k = rw (h .rest, each-read-append entry (h .done) (pieces 44 (drop at s)), h .good, here .1, entry-none (part at e s) p k) (ap (sized 1 4) (ahead-none (h .done)))
+    entering-broken k = rw (h .rest, each-read-append entry (h .done) (pieces 44 (drop at s)), h .good, here .1, entry-none (part at e s) p k)
 
     module _ (k : not x ≡ false) (l : n < 4) where
       size : b + at + length (part at e s) ≡ b + e
       size = let m : length (part at e s) ≡ e - at = length-take-le (e - at) (drop at s) (simp length-drop (omega (arith, t .within))) in omega (arith, m, stop-low t)
 
       good-more : each entry (h .done ++ (part at e s ∷ [])) ≡ some (h .done ++ (part at e s ∷ []))
-      good-more = each-read-append entry (h .done) (part at e s ∷ []) ∙ rw (h .good, entry-is (part at e s) p k) (ahead-some (h .done) (part at e s ∷ []))
+      good-more = each-read-append entry (h .done) (part at e s ∷ []) ∙ rw (h .good, entry-is (part at e s) p k)
 
       first-more : set starts n (b + at) ≡ padded 4 (startsFrom b (h .done ++ (part at e s ∷ [])))
       first-more = ap (λ (v : List ℕ). set v n (b + at)) (h .first) ∙ padded-set 4 (startsFrom b (h .done)) n (b + at) (starts-long b (h .done) ∙ h .long) l ∙ rw (starts-snoc b (h .done) (part at e s), ← h .place)
