@@ -1,6 +1,6 @@
 """Makes the files that are measured. The same bytes every time: document 01's two worked files, with and without a static IPv6,
-larger ones of which each has a stated size and number of settings, and one for each address that is read and written beside
-glibc. `python3 inputs.py FOLDER` writes them into a folder."""
+larger ones of which each has a stated size and number of settings, one for each address that is read and written beside glibc, and
+pairs that differ only in how long a run of bytes is. `python3 inputs.py FOLDER` writes them into a folder."""
 
 import os
 import sys
@@ -40,6 +40,9 @@ DESK_SIX = DESK.replace("Enabled=false", "Address=2001:db8:0:14::20/64\nGateway=
 # Addresses that are read and written beside glibc: short, in full, of one group, and with a dotted tail.
 ADDRESSES = ("2001:db8::1", "2001:db8:85a3:8d3:1319:8a2e:370:7348", "::1", "::ffff:129.144.52.38")
 
+# The bytes of a ConnMan key, but for the capitals.
+KEY_BYTES = "abcdefghijklmnopqrstuvwxyz0123456789_-."
+
 
 class Input:
     """A file: its name, what it is, its text, and how many settings and services a reading of it must count."""
@@ -47,7 +50,7 @@ class Input:
     def __init__(self, name, what, text):
         self.name, self.what, self.text = name, what, text
         self.bytes = len(text.encode())
-        lines = [line for line in text.splitlines() if line and line[0] != "#"]
+        lines = [line for line in text.splitlines() if line.strip() and line[0] != "#"]
         self.services = sum(line.startswith("[service_") for line in lines)
         self.settings = sum(line[0] != "[" for line in lines)
         self.is_iwd = not name.endswith(".config")
@@ -183,9 +186,27 @@ def inputs():
     return {each.name: each for each in made}
 
 
+def cycle(text, count):
+    """So many bytes of a text, again and again."""
+    return (text * count)[:count]
+
+
+def runs():
+    """Two files for each run of bytes, by what the run is; the second has a longer one and is otherwise the same. A key that is
+    such a run is unknown, so its files are refused."""
+    return {
+        "a key": [Input(f"key{n}.config", f"ConnMan, a key of {n} bytes", f"[service_a]\n{cycle(KEY_BYTES, n)} = x\n")
+                  for n in (1024, 2048)],
+        "a line of blanks": [Input(f"blank{n}.config", f"ConnMan, a line of {n} blanks", "[global]\n" + cycle(" \t", n) + "\n")
+                             for n in (1024, 2048)],
+        "a ConnMan name's stem": [Input(cycle("stem", n) + ".config", f"ConnMan, a name of {n} bytes", "[global]\n")
+                                  for n in (64, 128)],
+    }
+
+
 def write(folder):
     os.makedirs(folder, exist_ok=True)
-    for each in inputs().values():
+    for each in list(inputs().values()) + [each for pair in runs().values() for each in pair]:
         with open(os.path.join(folder, each.name), "wb") as out:
             out.write(each.text.encode())
 

@@ -4,8 +4,9 @@ import os
 import re
 import subprocess
 import sys
+from fractions import Fraction
 
-from inputs import inputs
+from inputs import inputs, runs
 
 
 def called(path, function):
@@ -39,6 +40,7 @@ class Bench:
     def __init__(self, folder):
         self.folder = folder
         self.inputs = inputs()
+        self.runs = runs()
         self.counted = {}
         self.timed = {}
 
@@ -61,9 +63,13 @@ class Bench:
         self.holds_all(program, file)
         return True
 
+    def gives(self, program, file, *task):
+        """What the program gives when it does the work once, which must not be 0."""
+        return int(self.run(self.program(program), "once", self.path(file), *task).stdout)
+
     def holds_all(self, program, file, *task):
         """Stops unless the program accepts the file and gives as many values as the file has settings."""
-        values = int(self.run(self.program(program), "once", self.path(file), *task).stdout)
+        values = self.gives(program, file, *task)
         expected = self.inputs[file].settings
         if values != expected:
             stop(f"{program} gives {values} values of {file}, which has {expected}")
@@ -78,11 +84,20 @@ class Bench:
         """For one file: the difference between n and 2n repetitions, over n, so that starting up cancels out."""
         key = (program, file, task)
         if key not in self.counted:
-            n = max(10, 20000 // self.inputs[file].bytes)
+            n = max(10, 20000 // os.path.getsize(self.path(file)))
             once = self.collected(program, file, task, n)
             twice = self.collected(program, file, task, 2 * n)
-            self.counted[key] = (twice - once) / n
+            self.counted[key] = Fraction(twice - once, n)
         return self.counted[key]
+
+    def for_a_byte(self, run, task, answer):
+        """For one byte more in a run, by a task of ours that must give this answer for both files."""
+        short, long = self.runs[run]
+        for each in (short, long):
+            if self.gives("ours", each.name, task) != answer:
+                stop(f"{each.name} is not answered with {answer}")
+        more = self.instructions("ours", long.name, task) - self.instructions("ours", short.name, task)
+        return more / (len(long.name) + long.bytes - len(short.name) - short.bytes)
 
     def inside(self, program, file, task, function):
         """Inside a function and all that it calls, for one call of it; none where the compiler has inlined it."""

@@ -5,6 +5,8 @@ import platform
 import re
 import subprocess
 import sys
+from fractions import Fraction
+from math import ceil
 
 from inputs import ADDRESSES
 from measure import Bench
@@ -13,12 +15,22 @@ WHOLE = ("shop.config", "six.config", "full.config", "Desk 4.psk", "Desk 6.psk",
 PEERS = ("ell", "glib", "inih")
 TASKS = ("check", "record", "records")
 
-# A file, the parser that it is held to, and how much of that parser's instructions ours may take at most.
+# A file, the parser that it is held to, and the share of that parser's instructions that ours may take at most.
 TARGETS = (
-    ("shop.config", "glib", 1, 5),
-    ("full.config", "glib", 1, 4),
-    ("Desk 4.psk", "ell", 1, 2),
-    ("comments.psk", "ell", 1, 1),
+    ("shop.config", "glib", "0.13"),
+    ("full.config", "glib", "0.14"),
+    ("Desk 4.psk", "ell", "0.29"),
+    ("comments.psk", "ell", "0.52"),
+)
+
+# The file whose records are all asked for, beside GLib.
+ALL_RECORDS = "full.config"
+
+# What a run of bytes is, the task that meets it, and what that gives: an unknown key is refusal 9, the others are accepted.
+RUNS = (
+    ("a key", "refusal", 9),
+    ("a line of blanks", "qewaris_check_connman", 1),
+    ("a ConnMan name's stem", "qewaris_check_connman", 1),
 )
 
 ENTRY_POINTS = (
@@ -47,11 +59,16 @@ SHOWN = {"ell": "ell", "glib": "GLib", "inih": "inih"}
 
 
 def number(x):
-    return "—" if x is None else f"{x:,.0f}"
+    return "—" if x is None else f"{float(x):,.0f}"
+
+
+def hundredths(x):
+    return f"{float(x):.2f}"
 
 
 def share(ours, peer):
-    return "—" if ours is None or peer is None else f"{ours / peer:.2f}"
+    """With three digits, rounded up: what is above a bound of two digits is shown above it."""
+    return "—" if ours is None or peer is None else f"{ceil(1000 * ours / peer) / 1000:.3f}"
 
 
 def is_number(cell):
@@ -132,15 +149,14 @@ def record_alone(bench, file):
     return "qewaris_iwd_record" if bench.inputs[file].is_iwd else "qewaris_service_record"
 
 
-def target_row(bench, file, peer, top, bottom):
+def target_row(bench, file, peer, most):
     job = record_alone(bench, file)
     ours, theirs = bench.instructions("ours", file, job), bench.instructions(peer, file)
     twice = bench.instructions("ours", file, "record")
-    clock = bench.nanoseconds("ours", file, job) / bench.nanoseconds(peer, file)
-    most = f"{top}/{bottom}" if bottom > 1 else f"{top} times"
-    holds = ours * bottom <= theirs * top
+    clock = share(bench.nanoseconds("ours", file, job), bench.nanoseconds(peer, file))
+    holds = ours / theirs <= Fraction(most)
     return [f"`{file}`", SHOWN[peer], most, number(ours), number(theirs), share(ours, theirs),
-            "holds" if holds else "**misses**", f"{clock:.2f}", share(twice, theirs)]
+            "holds" if holds else "**misses**", clock, share(twice, theirs)]
 
 
 def targets(bench):
@@ -148,7 +164,8 @@ def targets(bench):
             "The whole job, check and record, may take at most so much of the instructions with which the other parser loads the "
             "file and gets every value. It is one call: asking for the record checks the file by every rule and refuses whatever "
             "the check refuses. The last two columns are for comparison: the share of the time, and the share of the "
-            "instructions where a caller asks for the check first and then for the record, in two calls.")
+            "instructions where a caller asks for the check first and then for the record, in two calls. A target holds or is "
+            "missed by the instructions themselves; every share is shown with three digits, rounded up.")
     table(["File", "Parser", "Ours at most", "Ours", "The parser", "Share", "", "Time", "In two calls"],
           [target_row(bench, *target) for target in TARGETS])
 
@@ -156,8 +173,8 @@ def targets(bench):
 def size_row(bench, kib, file, peer):
     each = bench.inputs[file]
     ours, theirs = bench.instructions("ours", file, "record"), bench.instructions(peer, file)
-    return [f"{kib} KiB", str(each.settings), number(ours), f"{ours / each.bytes:.2f}", number(theirs),
-            f"{theirs / each.bytes:.2f}", share(ours, theirs)]
+    return [f"{kib} KiB", str(each.settings), number(ours), hundredths(ours / each.bytes), number(theirs),
+            hundredths(theirs / each.bytes), share(ours, theirs)]
 
 
 def sizes(bench):
@@ -185,6 +202,28 @@ def services(bench):
     for prefix in ("grow", "even"):
         table(["Services", "Bytes", "Check", "Check and record", "Check and all records", "GLib", "Share"],
               [service_row(bench, n, f"{prefix}{n}.config") for n in range(1, 9)])
+
+
+def all_records(bench):
+    file, count = ALL_RECORDS, bench.inputs[ALL_RECORDS].services
+    calls, glib = bench.instructions("ours", file, "records"), bench.instructions("glib", file)
+    check = bench.instructions("ours", file, "qewaris_check_connman")
+    beyond = sum(bench.instructions("ours", file, f"qewaris_service_record:{n}") - check for n in range(1, count + 1))
+    section("All records of a file",
+            f"`{file}` has {count} services. Whoever wants all their records asks for each, and each call reads the file again. "
+            "**The second row is computed and not built**: no function gives all records in one pass. It is the check alone, "
+            f"{number(check)}, and what the {count} records take beyond it, {number(beyond)} together; both are measured.")
+    table(["All records", "Instructions", "Share of GLib"],
+          [[f"ours in {count + 1} calls: the check, and each record", number(calls), share(calls, glib)],
+           ["ours in one pass, computed and not built", number(check + beyond), share(check + beyond, glib)],
+           ["GLib: load, and get every value", number(glib), share(glib, glib)]])
+
+
+def key_byte(bench):
+    section("A key byte",
+            "How many instructions the check of a file takes for one byte more. A byte of a key and a blank are also passed over "
+            "by the search for the end of their line, sixteen at a time.")
+    table(["One byte more in", "Instructions"], [[run, hundredths(bench.for_a_byte(run, *how))] for run, *how in RUNS])
 
 
 def entry_points(bench):
@@ -233,6 +272,8 @@ def main():
     whole_files(bench)
     sizes(bench)
     services(bench)
+    all_records(bench)
+    key_byte(bench)
     entry_points(bench)
     addresses(bench)
 

@@ -9,5 +9,6 @@ pub mod Laws
 pub mod Sizes
 pub mod Written
 pub mod MaskRuleLaws
--- For the proofs only: what the code's private steps answer
+pub mod Printable
+-- For the proofs only: what the code answers at a place of a text
 pub mod Fields

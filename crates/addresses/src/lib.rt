@@ -33,6 +33,13 @@ pub struct Address {
     pub bytes: [u8; 4],
 }
 
+// An address and the end of its last number, or a refusal.
+pub struct FoundAddress {
+    pub end: usize,
+    pub ok: bool,
+    pub bytes: [u8; 4],
+}
+
 // The length of a mask, from 1 to 32, or a prefix length, or a refusal.
 pub enum Netmask {
     Length(u8),

@@ -1,21 +1,15 @@
 // Lists of addresses, read.
 ghost use mathlib.Core.Path.{_≡_};
 ghost use mathlib.Core.Option.{none};
-ghost use Prim.Native.Nat.{_≤_};
+ghost use Prim.Native.Nat.{_<_};
 ghost use lib.ListN.{length};
 ghost use Rattle.text.specs.Options.{orEmpty};
 ghost use Rattle.addresses.specs.Addresses.{separator, addresses, rows};
-ghost use Rattle.addresses.specs.Fields.{FieldAt, Filled};
+ghost use Rattle.addresses.specs.Fields.{NextField, Filled};
 use crate::Separator;
 use crate::numbers;
 use text::Class;
 use text::scan;
-
-// Where a field ends, and where the next one starts: behind the end of the list where there is none.
-struct Field {
-    end: usize,
-    next: usize,
-}
 
 // The byte between two addresses that are written.
 pub fn separator_byte(sep: Separator) -> u8
@@ -27,27 +21,20 @@ pub fn separator_byte(sep: Separator) -> u8
     }
 }
 
-// The field that starts at from.
-fn field_at(s: &[u8], from: usize, sep: Separator) -> Field
-    requires { ⌜ from ≤ length (now s) ⌝ }
-    ensures { λ r. ⌜ FieldAt sep (now (s .entry)) from (r .end) (r .next) ⌝ }
+// Where the field behind the separator at i starts: behind the end of the list where there is none.
+fn next_field(s: &[u8], i: usize, sep: Separator) -> usize
+    requires { ⌜ i < length (now s) ⌝ }
+    ensures { λ r. ⌜ NextField sep (now (s .entry)) i r ⌝ }
 {
-    let end = scan::find_near(s, from, separator_byte(sep));
-    let behind = end + 1;
-    if end == s.len() {
-        return Field { end, next: behind };
-    }
+    let behind = i + 1;
     match sep {
-        Separator::Comma => Field { end, next: behind },
+        Separator::Comma => behind,
         Separator::Spaces => {
             let next = scan::run_end(s, behind, Class::Space);
             if next == s.len() {
-                return Field {
-                    end,
-                    next: next + 1,
-                };
+                return next + 1;
             }
-            Field { end, next }
+            next
         }
     }
 }
@@ -60,19 +47,25 @@ fn fill_addresses(list: &mut [[u8; 4]; 4], s: &[u8], sep: Separator) -> usize
     let mut at = 0;
     let mut n = 0;
     while n < 4 {
-        let f = field_at(s, at, sep);
-        let end = f.end;
-        let a = numbers::read_address(&s[at..end]);
+        let a = numbers::address_at(s, at);
         if !a.ok {
             return 0;
         }
         let bytes = a.bytes;
         list[n] = bytes;
         n += 1;
-        if s.len() < f.next {
+        let end = a.end;
+        if end == s.len() {
             return n;
         }
-        at = f.next;
+        if s[end] != separator_byte(sep) {
+            return 0;
+        }
+        let next = next_field(s, end, sep);
+        if s.len() < next {
+            return n;
+        }
+        at = next;
     }
     0
 }

@@ -3,8 +3,9 @@ ghost use mathlib.Core.Path.{_≡_};
 ghost use Prim.Native.Nat.{_≤_};
 ghost use lib.ListN.{length};
 ghost use Rattle.addresses.specs.Addresses.{number, address, numberAnswer, addressAnswer};
-ghost use Rattle.addresses.specs.Fields.{DigitAt, OctetAt};
+ghost use Rattle.addresses.specs.Fields.{DigitAt, OctetAt, AddressAt};
 use crate::Address;
+use crate::FoundAddress;
 use crate::Number;
 use crate::Octet;
 
@@ -20,6 +21,12 @@ const NO_OCTET: Octet = Octet {
 };
 
 const NO_ADDRESS: Address = Address {
+    ok: false,
+    bytes: [0; 4],
+};
+
+const NO_ADDRESS_FOUND: FoundAddress = FoundAddress {
+    end: 0,
     ok: false,
     bytes: [0; 4],
 };
@@ -109,24 +116,25 @@ fn read_octet(s: &[u8], at: usize) -> Octet
     }
 }
 
-// An address: four numbers 0 to 255 with dots.
-pub fn read_address(s: &[u8]) -> Address
-    ensures { λ r. ⌜ r ≡ addressAnswer (address (now (s .entry))) ⌝ }
+// The address that starts at from. What stands behind its last number is left to the caller.
+pub fn address_at(s: &[u8], from: usize) -> FoundAddress
+    requires { ⌜ from ≤ length (now s) ⌝ }
+    ensures { λ r. ⌜ AddressAt (now (s .entry)) from r ⌝ }
 {
     let mut bytes = [0u8; 4];
-    let mut at = 0;
+    let mut at = from;
     let mut n = 0;
     while n < 3 {
         let v = read_octet(s, at);
         if !v.ok {
-            return NO_ADDRESS;
+            return NO_ADDRESS_FOUND;
         }
         let e = v.end;
         if e == s.len() {
-            return NO_ADDRESS;
+            return NO_ADDRESS_FOUND;
         }
         if s[e] != 46 {
-            return NO_ADDRESS;
+            return NO_ADDRESS_FOUND;
         }
         bytes[n] = v.value;
         n += 1;
@@ -134,11 +142,27 @@ pub fn read_address(s: &[u8]) -> Address
     }
     let v = read_octet(s, at);
     if !v.ok {
-        return NO_ADDRESS;
-    }
-    if v.end != s.len() {
-        return NO_ADDRESS;
+        return NO_ADDRESS_FOUND;
     }
     bytes[3] = v.value;
+    FoundAddress {
+        end: v.end,
+        ok: true,
+        bytes,
+    }
+}
+
+// An address: four numbers 0 to 255 with dots.
+pub fn read_address(s: &[u8]) -> Address
+    ensures { λ r. ⌜ r ≡ addressAnswer (address (now (s .entry))) ⌝ }
+{
+    let a = address_at(s, 0);
+    if !a.ok {
+        return NO_ADDRESS;
+    }
+    if a.end != s.len() {
+        return NO_ADDRESS;
+    }
+    let bytes = a.bytes;
     Address { ok: true, bytes }
 }

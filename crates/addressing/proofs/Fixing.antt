@@ -1,6 +1,6 @@
 -- A fixed address in ConnMan's text: one law for each return of a family's readers, by what they read of an address and of a length.
-use mathlib.Core.Path.{_≡_, refl, ap, sym, _∙_}
-use mathlib.Core.Bool.{Bool, true, false, true≢false, false≢true}
+use mathlib.Core.Path.{_≡_, refl, ap, _∙_}
+use mathlib.Core.Bool.{true, false, true≢false}
 use mathlib.Core.List.{List, [], _∷_}
 use mathlib.Core.Option.{Option, none, some}
 use Prim.Native.Nat.{ℕ, _+_, _≤_}
@@ -12,7 +12,7 @@ use Rattle.text.specs.Options.{isSome, andThen}
 use Rattle.text.specs.Laws.{pieces-some}
 use Rattle.text.specs.Scans.{Stop}
 use Rattle.text.proofs.ScanLaws.{pieces-end, pieces-at}
-use Rattle.addressing.specs.Addressing.{Addressing, static, addressOf, lengthOf, orAuto}
+use Rattle.addressing.specs.Addressing.{Addressing, static}
 use Rattle.addressing.specs.Settings.{fixed}
 
 -- ---- with a gateway, from what was read without it
@@ -28,29 +28,10 @@ bad none p q k = refl
 bad (some a) none q k = refl
 bad (some a) (some n) q k = absurd (true≢false k)
 
-unrouted : (o : Option (List ℕ)) (p : Option ℕ) → routed o p none ≡ none
-unrouted none p = refl
-unrouted (some a) none = refl
-unrouted (some a) (some n) = refl
-
-good : (width : ℕ) (o : Option (List ℕ)) (p : Option ℕ) → isSome (plainly o p) ≡ true → (y : List ℕ) →
-    routed o p (some y) ≡ some (static (addressOf width (orAuto (plainly o p))) (lengthOf (orAuto (plainly o p))) (some y))
-good width none p k y = absurd (false≢true k)
-good width (some a) none k y = absurd (false≢true k)
-good width (some a) (some n) k y = refl
-
 module _ (read : List ℕ → Option (List ℕ)) (size : List ℕ → Option ℕ) where
   module _ (a m g : List ℕ) where
     pub routed-bad : isSome (fixed read size (a ∷ m ∷ [])) ≡ false → fixed read size (a ∷ m ∷ g ∷ []) ≡ none
     routed-bad k = bad (read a) (size m) (read g) k
-
-    pub routed-none : read g ≡ none → fixed read size (a ∷ m ∷ g ∷ []) ≡ none
-    routed-none e = rw e (unrouted (read a) (size m))
-
-    pub routed-good : (width : ℕ) → isSome (fixed read size (a ∷ m ∷ [])) ≡ true → {y : List ℕ} → read g ≡ some y →
-        fixed read size (a ∷ m ∷ g ∷ [])
-        ≡ some (static (addressOf width (orAuto (fixed read size (a ∷ m ∷ [])))) (lengthOf (orAuto (fixed read size (a ∷ m ∷ [])))) (some y))
-    routed-good width k {y} e = rw e (good width (read a) (size m) k y)
 
   -- ---- the pieces between slashes
 

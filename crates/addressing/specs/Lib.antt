@@ -4,3 +4,4 @@ pub mod Settings
 pub mod SettingRules
 -- The laws; what only the proofs need is in proofs/
 pub mod SettingRuleLaws
+pub mod Printable

@@ -4,5 +4,6 @@ pub mod Ipv4Rules
 -- The laws; what only the proofs need is in proofs/
 pub mod Ipv4RuleLaws
 pub mod Laws
+pub mod Printable
 -- For the proofs only: the definition laid out in the code's type
 pub mod Answers

@@ -3,15 +3,16 @@
 // This is document 01's sentence "ConnMan IPv4 is .." under "Settings and their kinds". The definition is in specs/ConnmanIpv4, its layout in
 // the type below in specs/Answers.
 ghost use mathlib.Core.Path.{_≡_};
-ghost use mathlib.Core.Bool.{false};
-ghost use mathlib.Core.List.{[], _∷_};
+ghost use mathlib.Core.Bool.{true, false};
 ghost use mathlib.Core.Option.{none};
 ghost use Rattle.addresses.specs.Addresses.{address, noAddress, netmaskAnswer};
 ghost use Rattle.addressing.specs.Settings.{fixed};
+ghost use Rattle.addressing.specs.declared.Method.the-variants.{Static};
 ghost use Rattle.text.specs.Parts.{pieces};
 ghost use Rattle.connman_ipv4.specs.ConnmanIpv4.{maskOrLength, ipv4};
 ghost use Rattle.connman_ipv4.specs.Answers.{ipv4Answer};
 use addresses::Netmask;
+use addresses::numbers::address_at;
 use addressing::Method;
 use text::scan::find_near;
 use text::words::equal;
@@ -57,72 +58,54 @@ fn read_length(s: &[u8]) -> Netmask
     }
 }
 
-// An address and its mask.
-fn read_static(a: &[u8], m: &[u8]) -> Ipv4
-    ensures { λ r. ⌜ r ≡ ipv4Answer (fixed address maskOrLength (now (a .entry) ∷ now (m .entry) ∷ [])) ⌝ }
+// A fixed address with its length, and its gateway, which is zero where it has none.
+fn numbered(address: [u8; 4], length: u8, has_gateway: bool, gateway: [u8; 4]) -> Ipv4
+    ensures { λ r. ⌜ r ≡ record { ok = true; method = Static; address = address; length = length; «has_gateway» = «has_gateway»; gateway = gateway } ⌝ }
 {
-    let address = addresses::numbers::read_address(a);
-    if !address.ok {
-        return no_ipv4();
-    }
-    let n = read_length(m);
-    let Netmask::Length(length) = n else {
-        return no_ipv4();
-    };
-    let bytes = address.bytes;
-    Ipv4 {
-        ok: true,
-        method: Method::Static,
-        address: bytes,
-        length,
-        has_gateway: false,
-        gateway: [0; 4],
-    }
-}
-
-// An address, its mask and a gateway.
-fn read_routed(a: &[u8], m: &[u8], g: &[u8]) -> Ipv4
-    ensures { λ r. ⌜ r ≡ ipv4Answer (fixed address maskOrLength (now (a .entry) ∷ now (m .entry) ∷ now (g .entry) ∷ [])) ⌝ }
-{
-    let r = read_static(a, m);
-    if !r.ok {
-        return no_ipv4();
-    }
-    let gateway = addresses::numbers::read_address(g);
-    if !gateway.ok {
-        return no_ipv4();
-    }
-    let address = r.address;
-    let bytes = gateway.bytes;
     Ipv4 {
         ok: true,
         method: Method::Static,
         address,
-        length: r.length,
-        has_gateway: true,
-        gateway: bytes,
+        length,
+        has_gateway,
+        gateway,
     }
 }
 
-// The pieces between slashes.
+// An address, its mask or length, and perhaps a gateway, with slashes.
 fn read_parts(s: &[u8]) -> Ipv4
     ensures { λ r. ⌜ r ≡ ipv4Answer (fixed address maskOrLength (pieces 47 (now (s .entry)))) ⌝ }
 {
-    let a = find_near(s, 0, 47);
-    if a == s.len() {
+    let a = address_at(s, 0);
+    if !a.ok {
         return no_ipv4();
     }
-    let m = a + 1;
-    let b = find_near(s, m, 47);
-    if b == s.len() {
-        return read_static(&s[0..a], &s[m..b]);
+    let slash = a.end;
+    if slash == s.len() {
+        return no_ipv4();
     }
-    let g = b + 1;
-    let e = find_near(s, g, 47);
+    if s[slash] != 47 {
+        return no_ipv4();
+    }
+    let m = slash + 1;
+    let e = find_near(s, m, 47);
+    let n = read_length(&s[m..e]);
+    let Netmask::Length(length) = n else {
+        return no_ipv4();
+    };
+    let address = a.bytes;
     if e == s.len() {
-        return read_routed(&s[0..a], &s[m..b], &s[g..e]);
+        return numbered(address, length, false, [0; 4]);
     }
-    no_ipv4()
+    let g = address_at(s, e + 1);
+    if !g.ok {
+        return no_ipv4();
+    }
+    if g.end != s.len() {
+        return no_ipv4();
+    }
+    let gateway = g.bytes;
+    numbered(address, length, true, gateway)
 }
 
 // `off`, `dhcp`, or an address, its mask or length, and perhaps a gateway, with slashes.

@@ -9,7 +9,6 @@ ghost use lib.ListN.{length};
 ghost use Rattle.text.specs.Options.{isSome};
 ghost use Rattle.entry_lists.specs.EntryLists.{entry, entries};
 ghost use Rattle.entry_lists.specs.Answers.{entriesAnswer};
-use text::Class;
 use text::scan;
 
 // A list of 1 to 4 entries by their places; count 0 where it is broken.
@@ -39,7 +38,7 @@ fn is_entry(p: &[u8]) -> bool
     if 253 < p.len() {
         return false;
     }
-    scan::all_of(p, Class::Entry)
+    scan::entry_end(p, 0) == p.len()
 }
 
 // One to four entries, one comma between two, by their places counted from base, where s starts.

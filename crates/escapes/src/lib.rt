@@ -52,7 +52,7 @@ pub fn string_len(s: &[u8]) -> Size
             return Size::Broken;
         }
         less += 1;
-        i = scan::find(s, i + 2, 92);
+        i = scan::find_near(s, i + 2, 92);
     }
     Size::Long(s.len() - less)
 }

@@ -1,8 +1,8 @@
 -- The returns of `digit_value` and `hex_digit`, and what the loops keep: a turn and the ends of each.
 use mathlib.Core.Path.{_≡_, refl, ap, sym, _∙_, subst}
-use mathlib.Core.Bool.{Bool, true, false, cond, _&&_, and-false}
+use mathlib.Core.Bool.{Bool, true, false, _&&_}
 use mathlib.Core.List.{List, [], _∷_, _++_, append-assoc, append-nil}
-use mathlib.Core.Option.{Option, none, some}
+use mathlib.Core.Option.{none, some}
 use Prim.Native.Nat.{ℕ, suc, _+_, _-_, _*_, _/_, _%_, _≤_, _<_}
 use native.Mathlib.Numerals.{add-one}
 use native.Mathlib.Omega.{arith}
@@ -10,9 +10,8 @@ use borrow.Author.Tests.{lt-ltb, le-ltb, ltb-true, eqb-true, eqb-false}
 use lib.Dec.{eqb, ltb}
 use lib.ListN.{length, drop, set, getD, drop-of-length-le, length-append}
 use lib.Seq.{drop-cons}
-use Rattle.text.specs.Bytes.{between, isDigit}
-use Rattle.text.specs.Options.{isSome, andThen, prepend, orEmpty}
-use Rattle.text.specs.Laws.{and-true, inside, under, over, between-high}
+use Rattle.text.specs.Options.{andThen, prepend, orEmpty}
+use Rattle.text.specs.Laws.{and-true, inside, under, over}
 use Rattle.put.specs.Put.{Wrote}
 use Rattle.put.specs.Laws.{then, wrote-two}
 use Rattle.put.proofs.Filling.{Filling, filling-none, filling-end, filling-room, filling-byte}
@@ -49,16 +48,6 @@ module _ {c : ℕ} where
   unfolding nibble
   nibble-high h = rw (over {x = c} 48 57 (omega arith), over {x = c} 97 102 h, over {x = c} 65 70 (omega arith))
 
-nibble-small : (c : ℕ) → nibble c ≤ 16
-unfolding nibble
-nibble-small c = go (isDigit c) refl (between 97 102 c) refl (between 65 70 c) refl
-  where
-    go : (d : Bool) → isDigit c ≡ d → (l : Bool) → between 97 102 c ≡ l → (u : Bool) → between 65 70 c ≡ u → cond d (c - 48) (cond l (c - 87) (cond u (c - 55) 16)) ≤ 16
-    go true e l f u g = omega (arith, between-high {x = c} 48 57 e)
-    go false e true f u g = omega (arith, between-high {x = c} 97 102 f)
-    go false e false f true g = omega (arith, between-high {x = c} 65 70 g)
-    go false e false f false g = omega arith
-
 pub digit-low : {n : ℕ} → n < 10 → 48 + n ≡ hexDigit n
 unfolding hexDigit
 digit-low {n} h = rw (lt-ltb n 10 h)
@@ -86,41 +75,6 @@ unhex-odd s i h g = let l : length s ≤ suc i = omega arith in rw (drop-cons s 
 unhex-end : (s : List ℕ) (i : ℕ) → length s ≤ i → unhex (drop i s) ≡ some []
 unfolding unhex
 unhex-end s i h = rw (drop-of-length-le s h)
-
-some-prepend : (x : ℕ) (o : Option (List ℕ)) → isSome (prepend x o) ≡ isSome o
-some-prepend x none = refl
-some-prepend x (some t) = refl
-
--- ---- whether s is pairs
-
-pub record Pairing (s : List ℕ) (i : ℕ) : Type 0 where
-  pub within : i ≤ length s
-  pub rest : isSome (unhex (drop i s)) ≡ isSome (unhex s)
-
-module _ {s : List ℕ} {i : ℕ} (h : Pairing s i) where
-  pub pairing-end : length s ≤ i + 1 → eqb i (length s) ≡ isSome (unhex s)
-  pairing-end l = go (eqb i (length s)) refl
-    where
-      go : (t : Bool) → eqb i (length s) ≡ t → eqb i (length s) ≡ isSome (unhex s)
-      go true e = e ∙ (rw (unhex-end s i (omega (arith, eqb-true i (length s) e))) at (h .rest))
-      go false e = let n : (i ≡ length s → ⊥) = eqb-false i (length s) e in e ∙ (rw (unhex-odd s i (omega (arith, n, h .within)) l) at (h .rest))
-
-  module _ (l : i + 1 < length s) {x : ℕ} (p : x ≡ nibbleAt s i) where
-    pub pairing-bad-high : x ≡ 16 → false ≡ isSome (unhex s)
-    pairing-bad-high e = rw (unhex-at s i l, le-ltb (nibbleAt s i) 16 (omega arith)) at (h .rest)
-
-    module _ (n : x ≡ 16 → ⊥) {y : ℕ} (q : y ≡ nibbleAt s (i + 1)) where
-      pub pairing-bad-low : y ≡ 16 → false ≡ isSome (unhex s)
-      pairing-bad-low e = rw (unhex-at s i l, le-ltb (nibbleAt s (i + 1)) 16 (omega arith), and-false (ltb (nibbleAt s i) 16)) at (h .rest)
-
-      pub pairing-turn : (y ≡ 16 → ⊥) → Pairing s (i + 2)
-      pairing-turn m =
-          let high : nibbleAt s i < 16 = omega (arith, n, nibble-small (getD s i 0)) in
-          let low : nibbleAt s (i + 1) < 16 = omega (arith, m, nibble-small (getD s (i + 1) 0)) in
-          record {
-            within = omega arith;
-            rest = sym (some-prepend _ (unhex (drop (i + 2) s))) ∙ (rw (unhex-at s i l, lt-ltb (nibbleAt s i) 16 high, lt-ltb (nibbleAt s (i + 1)) 16 low) at (h .rest));
-          }
 
 -- ---- bytes from pairs
 

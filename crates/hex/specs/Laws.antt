@@ -1,16 +1,16 @@
--- Hex that is written reads back, and lower-case hex that is read is written again; lengths and bytes of both.
-use mathlib.Core.Path.{_≡_, refl, ap, _∙_}
-use mathlib.Core.Bool.{Bool, true, false, cond, _&&_}
+-- Hex that is written reads back, and lower-case hex that is read is written again; lengths and bytes of both, and what is read.
+use mathlib.Core.Path.{_≡_, refl, ap, ap₂, _∙_}
+use mathlib.Core.Bool.{Bool, true, false, cond, _&&_, _||_}
 use mathlib.Core.List.{List, [], _∷_}
-use mathlib.Core.Option.{some, Option·some-injective, Option·none-ne-some}
-use Prim.Native.Nat.{ℕ, _+_, _*_, _/_, _%_, _<_}
+use mathlib.Core.Option.{Option, none, some, Option·some-injective, Option·none-ne-some}
+use Prim.Native.Nat.{ℕ, suc, _+_, _-_, _*_, _/_, _%_, _<_}
 use native.Mathlib.Omega.{arith}
 use borrow.Author.Tests.{eqb-true, ltb-true, lt-ltb}
 use lib.Dec.{eqb, ltb}
 use lib.ListN.{length}
-use Rattle.text.specs.Bytes.{isByte, isDigit, isLowerHex}
+use Rattle.text.specs.Bytes.{between, isByte, isDigit, isHexDigit, isLowerHex}
 use Rattle.text.specs.Parts.{all}
-use Rattle.text.specs.Options.{prepend}
+use Rattle.text.specs.Options.{isSome, andThen, only, prepend}
 use Rattle.text.specs.OptionLaws.{only-some, then-some, prepend-some}
 use Rattle.text.specs.Laws.{and-true, all-cons, below, below-at, between-high}
 use Rattle.hex.specs.Hex.{nibble, pairByte, unhex, hexDigit, hex}
@@ -123,3 +123,38 @@ hex-unhex (a ∷ b ∷ s) {t} h e =
     let high : (nibble a * 16 + nibble b) / 16 ≡ nibble a = omega (arith, p .high, p .low) in
     let low : (nibble a * 16 + nibble b) % 16 ≡ nibble b = omega (arith, p .high, p .low) in
     rw (← p .is, high, low, digit-nibble a (k .0), digit-nibble b (l .0), hex-unhex s (l .1) (p .read))
+
+-- ---- what is pairs of hex digits: an even number of them
+
+hex-nibble : (c : ℕ) → ltb (nibble c) 16 ≡ isHexDigit c
+unfolding nibble
+hex-nibble c = go (isDigit c) refl (between 97 102 c) refl (between 65 70 c) refl
+  where
+    go : (d : Bool) → isDigit c ≡ d → (l : Bool) → between 97 102 c ≡ l → (u : Bool) → between 65 70 c ≡ u
+        → ltb (cond d (c - 48) (cond l (c - 87) (cond u (c - 55) 16))) 16 ≡ (d || (l || u))
+    go true e l f u g = lt-ltb (c - 48) 16 (omega (arith, between-high {x = c} 48 57 e))
+    go false e true f u g = lt-ltb (c - 87) 16 (omega (arith, between-high {x = c} 97 102 f))
+    go false e false f true g = lt-ltb (c - 55) 16 (omega (arith, between-high {x = c} 65 70 g))
+    go false e false f false g = refl
+
+some-pair : (t : Bool) (x : ℕ) (o : Option (List ℕ)) → isSome (andThen (only t (some x)) (λ y. prepend y o)) ≡ (t && isSome o)
+some-pair false x o = refl
+some-pair true x none = refl
+some-pair true x (some l) = refl
+
+before-even : (a b e r : Bool) → ((a && b) && (e && r)) ≡ (e && (a && (b && r)))
+before-even true true e r = refl
+before-even true false true r = refl
+before-even true false false r = refl
+before-even false b true r = refl
+before-even false b false r = refl
+
+pub unhex-pairs : (s : List ℕ) → isSome (unhex s) ≡ (eqb (length s % 2) 0 && all isHexDigit s)
+unfolding unhex
+unhex-pairs [] = refl
+unhex-pairs (a ∷ []) = refl
+unhex-pairs (a ∷ b ∷ s) =
+    let n : length s % 2 ≡ suc (suc (length s)) % 2 = omega arith in
+    some-pair (ltb (nibble a) 16 && ltb (nibble b) 16) (nibble a * 16 + nibble b) (unhex s)
+    ∙ ap₂ _&&_ (ap₂ _&&_ (hex-nibble a) (hex-nibble b)) (unhex-pairs s ∙ ap (λ (k : ℕ). eqb k 0 && all isHexDigit s) n)
+    ∙ before-even (isHexDigit a) (isHexDigit b) (eqb (suc (suc (length s)) % 2) 0) (all isHexDigit s)

@@ -4,3 +4,4 @@ pub mod HexRules
 -- The laws; what only the proofs need is in proofs/
 pub mod HexRuleLaws
 pub mod Laws
+pub mod Printable

@@ -9,6 +9,7 @@ ghost use Rattle.text.specs.Parts.{padded};
 ghost use Rattle.text.specs.Options.{isSome, orEmpty, ReadsUpTo};
 ghost use Rattle.put.specs.Put.{Wrote};
 ghost use Rattle.hex.specs.Hex.{nibble, unhex, hexDigit, hex};
+use text::Class;
 
 // A hex digit's value, 16 where c is none.
 pub fn digit_value(c: u8) -> u8
@@ -39,17 +40,10 @@ pub fn digit_value(c: u8) -> u8
 pub fn is_hex(s: &[u8]) -> bool
     ensures { λ r. ⌜ r ≡ isSome (unhex (now (s .entry))) ⌝ }
 {
-    let mut i = 0;
-    while i + 1 < s.len() {
-        if digit_value(s[i]) == 16 {
-            return false;
-        }
-        if digit_value(s[i + 1]) == 16 {
-            return false;
-        }
-        i += 2;
+    if s.len() % 2 != 0 {
+        return false;
     }
-    i == s.len()
+    text::scan::all_of(s, Class::HexDigit)
 }
 
 // Writes the bytes that s gives in hex at the front of out, and returns how many.

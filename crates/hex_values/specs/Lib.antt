@@ -4,5 +4,6 @@ pub mod HexValueRules
 -- The laws; what only the proofs need is in proofs/
 pub mod HexValueRuleLaws
 pub mod Laws
+pub mod Printable
 -- For the proofs only: the definitions laid out in the code's types
 pub mod Answers

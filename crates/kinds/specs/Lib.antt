@@ -6,6 +6,7 @@ pub mod Cases
 -- The laws
 pub mod ValueRuleLaws
 pub mod Written
+pub mod Printable
 -- For the proofs only: the definitions laid out in the code's types, and what its private steps answer
 pub mod Answers
 pub mod Judging

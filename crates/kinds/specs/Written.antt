@@ -11,8 +11,9 @@ use lib.ListN.{length}
 use Rattle.text.specs.Bytes.{isByte, between, inLine, isBlank, isDigit, isLowerHex}
 use Rattle.text.specs.Parts.{all, after, empty}
 use Rattle.text.specs.Laws.{inside, between-low, between-high, pass-other, all-cons, all-weaken, all-other, all-append}
+use Rattle.text.specs.Printable.{isPrintable, Printable, range-printable}
 use Rattle.utf8.specs.Utf8.{text, valueText, recordText}
-use Rattle.utf8.specs.Laws.{isPrintable, text-printable}
+use Rattle.utf8.specs.Laws.{text-printable}
 use Rattle.escapes.specs.Escapes.{escape}
 use Rattle.escapes.specs.Laws.{unescape-escape, escape-line, escape-start}
 use Rattle.escapes.specs.TextLaws.{escape-text}
@@ -44,7 +45,7 @@ string-escape low high t h g = rw (unescape-escape t, inside {x = length t} low 
 
 -- ---- printable bytes
 
-pub printable-stands : (v : List ℕ) → all isPrintable v ≡ true → after isBlank v ≡ v → StandsOnLine v
+pub printable-stands : (v : List ℕ) → Printable v → after isBlank v ≡ v → StandsOnLine v
 printable-stands v h s = record { text = text-printable true v h; line = all-other isPrintable 10 refl v h; start = s }
 
 -- bytes none of which is a blank, alone and in front of others
@@ -69,10 +70,8 @@ lower-printable : (x : ℕ) → isLowerHex x ≡ true → isPrintable x ≡ true
 lower-printable x h = go (isDigit x) refl h
   where
     go : (t : Bool) → isDigit x ≡ t → t || between 97 102 x ≡ true → isPrintable x ≡ true
-    go true e f =
-        inside {x = x} 32 126 (omega (arith, between-low {x = x} 48 57 e)) (omega (arith, between-high {x = x} 48 57 e))
-    go false e f =
-        inside {x = x} 32 126 (omega (arith, between-low {x = x} 97 102 f)) (omega (arith, between-high {x = x} 97 102 f))
+    go true e f = range-printable 48 57 (omega arith) (omega arith) x e
+    go false e f = range-printable 97 102 (omega arith) (omega arith) x f
 
 pub hex-stands : (t : List ℕ) → all isByte t ≡ true → StandsOnLine (hex t)
 hex-stands t b = class-stands isLowerHex refl refl lower-printable (hex t) (hex-lower t b)
@@ -80,8 +79,7 @@ hex-stands t b = class-stands isLowerHex refl refl lower-printable (hex t) (hex-
 -- ---- addresses and lists of them
 
 dotted-printable : (x : ℕ) → between 46 57 x ≡ true → isPrintable x ≡ true
-dotted-printable x h =
-    inside {x = x} 32 126 (omega (arith, between-low {x = x} 46 57 h)) (omega (arith, between-high {x = x} 46 57 h))
+dotted-printable = range-printable 46 57 (omega arith) (omega arith)
 
 pub dotted-stands : (a : List ℕ) → isAddress a ≡ true → StandsOnLine (dotted a)
 dotted-stands a w = class-stands (between 46 57) refl refl dotted-printable (dotted a) (dotted-bytes a w)
@@ -106,8 +104,7 @@ listed-stands l w =
 -- ---- IPv6 addresses, alone and with a length: bytes from `/` to `f`
 
 sized-printable : (x : ℕ) → between 47 102 x ≡ true → isPrintable x ≡ true
-sized-printable x h =
-    inside {x = x} 32 126 (omega (arith, between-low {x = x} 47 102 h)) (omega (arith, between-high {x = x} 47 102 h))
+sized-printable = range-printable 47 102 (omega arith) (omega arith)
 
 digit-sized : (x : ℕ) → isDigit x ≡ true → between 47 102 x ≡ true
 digit-sized x h =

@@ -1,10 +1,11 @@
-// The value of a setting by its key's kind: its text first (11), then its kind (12).
+// The value of a setting by its key's kind: broken text (11) goes before a broken kind (12).
 ghost use mathlib.Core.Path.{_≡_};
 ghost use lib.ListN.{length};
 ghost use Rattle.text.specs.Parts.{partAt, Inside};
+ghost use Rattle.utf8.specs.Utf8.{valueText};
 ghost use Rattle.kinds.specs.Typed.{kindJudged, judged};
 ghost use Rattle.kinds.specs.Answers.{judgementAt};
-ghost use Rattle.kinds.specs.Judging.{keptAt, flagJudgement, wordJudgement, maskJudgement, stringJudgement};
+ghost use Rattle.kinds.specs.Judging.{keptAt, flagJudgement, wordJudgement, maskJudgement, stringJudgement, isFreeText, brokenJudgement};
 use crate::Judgement;
 use crate::Kind;
 use crate::Value;
@@ -65,7 +66,7 @@ fn string_judgement(size: Size, low: u8, high: u8, at: Place) -> Judgement
     kept(n <= high as usize, at)
 }
 
-// The value v, whose text is good, by its kind.
+// The value v by its kind alone.
 fn judge_kind(d: Dialect, kind: Kind, v: &[u8], at: Place) -> Judgement
     ensures { λ r. ⌜ r ≡ judgementAt at (kindJudged d kind (now (v .entry))) ⌝ }
 {
@@ -109,7 +110,30 @@ fn judge_kind(d: Dialect, kind: Kind, v: &[u8], at: Place) -> Judgement
     }
 }
 
-// The value that stands at a place of the file, by its kind.
+// Whether a good value of the kind may hold more than printable ASCII.
+fn is_free_text(kind: Kind) -> bool
+    ensures { λ r. ⌜ r ≡ isFreeText kind ⌝ }
+{
+    match kind {
+        Kind::Entries => true,
+        Kind::Passphrase => true,
+        Kind::Text(_, _) => true,
+        _ => false,
+    }
+}
+
+// The value v, which breaks its kind: broken text goes before that.
+fn broken_judgement(v: &[u8]) -> Judgement
+    ensures { λ r. ⌜ r ≡ brokenJudgement (valueText (now (v .entry))) ⌝ }
+{
+    if utf8::is_value_text(v) {
+        return Judgement::BrokenKind;
+    }
+    Judgement::BrokenText
+}
+
+// The value that stands at a place of the file, by its kind. Free text is asked for its text first; a good value of any other
+// kind is printable ASCII, so only one that breaks its kind is asked.
 pub fn judge(d: Dialect, kind: Kind, file: &[u8], at: Place) -> Judgement
     requires { ⌜ Inside (length (now file)) at ⌝ }
     ensures { λ r. ⌜ r ≡ judgementAt at (judged d kind (partAt (now (file .entry)) at)) ⌝ }
@@ -117,8 +141,12 @@ pub fn judge(d: Dialect, kind: Kind, file: &[u8], at: Place) -> Judgement
     let start = at.start;
     let end = at.end;
     let v = &file[start..end];
-    if utf8::is_value_text(v) {
-        return judge_kind(d, kind, v, at);
+    if is_free_text(kind) && !utf8::is_value_text(v) {
+        return Judgement::BrokenText;
     }
-    Judgement::BrokenText
+    let j = judge_kind(d, kind, v, at);
+    match j {
+        Judgement::BrokenKind => broken_judgement(v),
+        _ => j,
+    }
 }

@@ -1,7 +1,7 @@
 // The kinds of values, and the judgement of a value by its kind.
 //
 // This is document 01's "Settings and their kinds". The readers of each kind are in the crates below, over a part of the
-// file that is indexed from zero; `judge` asks refusal 11 before refusal 12 and gives the value of a line. The definitions
+// file that is indexed from zero; `judge` answers refusal 11 before refusal 12 and gives the value of a line. The definitions
 // are in specs/Kinds and specs/Typed, their layout in the types below in specs/Answers.
 pub mod judging;
 

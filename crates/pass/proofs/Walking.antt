@@ -5,12 +5,12 @@ use native.Mathlib.Numerals.{add-one}
 use mathlib.Core.Path.{_≡_, refl, ap, sym, _∙_, subst}
 use mathlib.Core.List.{List, [], _∷_}
 use mathlib.Core.Option.{Option, none, some}
-use lib.ListN.{length, drop, replicate, length-replicate, getD-replicate, drop-of-length-le, length-append}
+use lib.ListN.{length, drop, getD, replicate, length-replicate, getD-replicate, drop-of-length-le, length-append}
 use Rattle.text.specs.Bytes.{inLine}
 use Rattle.text.specs.Parts.{part, lines}
 use Rattle.text.specs.Scans.{Stop}
 use Rattle.text.proofs.ScanLaws.{stop-low, lines-at}
-use Rattle.text.specs.Laws.{part-long}
+use Rattle.text.specs.Laws.{lead-more, part-long, part-next}
 use Rattle.text.specs.Words.{place}
 use Rattle.text.specs.declared.Dialect.{Dialect}
 use Rattle.lines.specs.Lines.{Line, blank, comment, header, setting, broken, lineOf, valueStart}
@@ -137,6 +137,22 @@ module _ {d : Dialect} {file : List ℕ} {x : List ℕ} {st : State} {at line : 
           rest = rw add-one (ap (λ (i : ℕ). lineFault d (suc line) i (afterLine d line at this (h .known .groups)) (lines (drop (end + 1) file))) (sym next) ∙ sym (ap (lineFault d line at (h .known .groups)) view ∙ line-good d line at (h .known .groups) this (lines (drop (end + 1) file)) (k .0)) ∙ h .rest);
           all = rw add-one (ap (λ (i : ℕ). grown d (suc line) i (afterLine d line at this (h .known .groups)) (lines (drop (end + 1) file))) (sym next) ∙ sym (ap (grown d line at (h .known .groups)) view ∙ line-next d line at (h .known .groups) this (lines (drop (end + 1) file))) ∙ h .all);
         }
+
+  -- a line that starts with `#` is a comment, and what is known before it is known behind it
+  module _ (l : at < length file) {end : ℕ} (t : Stop inLine file at end) (b : getD file at 0 ≡ 35) where
+    not-empty : at < end
+    not-empty = omega (arith, t .is, lead-more inLine file at l (ap inLine b))
+
+    is-comment : lineOf d (part at end file) ≡ comment
+    unfolding lineOf
+    is-comment = ap (lineOf d) (part-next file at end not-empty l ∙ ap (λ (c : ℕ). c ∷ part (at + 1) end file) b)
+
+    passed-over : StepSays d file st x line at (valueStart d (part at end file)) (lineOf d (part at end file)) x (Goes st)
+    unfolding fault withLine
+    passed-over = record { says = λ gs k. rw is-comment (refl, k) }
+
+    pub running-comment : Running d file x st (end + 1) (line + 1)
+    running-comment = running-turn l t passed-over refl
 
   module _ (l : length file ≤ at) where
     none-left : lines (drop at file) ≡ []

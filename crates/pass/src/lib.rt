@@ -57,7 +57,8 @@ fn kind_of(d: Dialect, name: &[u8]) -> FileKind
     }
 }
 
-// Walks over the lines of a file, and stops at the first faulty one.
+// Walks over the lines of a file, and stops at the first faulty one. A line that starts with `#` is a comment: it is passed over at
+// once, since it changes nothing of what is known.
 fn walk(d: Dialect, file: &[u8], x: &mut Places) -> Walked
     requires small { ⌜ length (now file) ≤ fileLimit ⌝ }
     requires empty { ⌜ now x ≡ replicate tableLength 0 ⌝ }
@@ -72,6 +73,11 @@ fn walk(d: Dialect, file: &[u8], x: &mut Places) -> Walked
     let mut line = 1;
     while at < file.len() {
         let end = text::scan::line_end(file, at);
+        if file[at] == 35 {
+            at = end + 1;
+            line += 1;
+            continue;
+        }
         let stepped = reader::steps::step(d, file, x, st, at, end, line);
         match stepped {
             Stepped::Stops(refusal) => {

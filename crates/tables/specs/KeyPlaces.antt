@@ -40,6 +40,11 @@ at-place-named w (x ∷ t) = go (same w (x .0)) (place w (tableWords t)) (at-pla
     go false zero h = sym (at-place-zero t) ∙ h
     go false (suc p) h = h
 
+-- the place of a word among words that are counted on from n, or 0
+unfoldable pub placeFrom : ℕ → List ℕ → List (List ℕ) → ℕ
+placeFrom n w [] = 0
+placeFrom n w (x ∷ xs) = cond (same w x) n (placeFrom (suc n) w xs)
+
 abbrev pub keyNames : Group → List (List ℕ)
 keyNames g = tableWords (keysOf g)
 

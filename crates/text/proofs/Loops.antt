@@ -1,7 +1,7 @@
 -- What the loops of `scan` and `words` keep, and a turn and the ends of each.
 use mathlib.Core.Path.{_≡_, refl, ap, ap₂, sym, _∙_, subst}
 use borrow.Author.Tests.{eq-eqb, ne-eqb, eqb-true}
-use Prim.Native.Nat.{ℕ, zero, suc, _+_, _-_, _≤_, _<_}
+use Prim.Native.Nat.{ℕ, suc, _+_, _-_, _≤_, _<_}
 use native.Mathlib.Nat.{le-refl}
 use native.Mathlib.Numerals.{add-one}
 use native.Mathlib.Omega.{arith}
@@ -9,12 +9,12 @@ use mathlib.Core.Bool.{Bool, true, false, _&&_, and-assoc, and-false}
 use mathlib.Core.List.{List, [], _∷_, _++_}
 use lib.Dec.{eqb}
 use lib.ListN.{length, take, drop, getD, drop-of-length-le, length-drop}
-use lib.Seq.{drop-cons, take-suc, getD-drop, take-all, drop-drop, drop-nil}
+use lib.Seq.{drop-cons, take-suc, getD-drop, take-all}
 use Rattle.text.specs.Bytes.{isBlank}
 use Rattle.text.specs.Parts.{all, part, trimmed}
-use Rattle.text.specs.Words.{same, further, place, wordsAfter, wordsIn, wholeAfter, Table}
-use Rattle.text.specs.Scans.{Scan, Trim}
-use Rattle.text.proofs.ScanLaws.{scan-none, scan-turn}
+use Rattle.text.specs.Words.{same}
+use Rattle.text.specs.Scans.{Scan, Stop, Trim}
+use Rattle.text.proofs.ScanLaws.{scan-none, scan-turn, scan-then}
 
 -- ---- a block: the run goes on to j unless there was a hit
 
@@ -33,6 +33,26 @@ module _ {p : ℕ → Bool} {s : List ℕ} {i : ℕ} where
 
   pub quiet-end : {j e h : ℕ} → Quiet p s i j h → j ≡ e → eqb h 0 ≡ true → Scan p s i e
   quiet-end {h = h} q w b = subst (λ (x : ℕ). Scan p s i x) w (q .passed (eqb-true h 0 b))
+
+-- ---- the sixteen bytes at i, byte by byte: the run goes on at i + j
+
+pub record Along (p : ℕ → Bool) (s : List ℕ) (i j : ℕ) : Type 0 where
+  pub few : j ≤ 16
+  pub scan : Scan p s i (i + j)
+
+module _ {p : ℕ → Bool} {s : List ℕ} {i : ℕ} where
+  pub goes : {e f : ℕ} → e ≡ f → Scan p s i e → Scan p s i f
+  goes w h = subst (λ (x : ℕ). Scan p s i x) w h
+
+  pub along-none : i ≤ length s → Along p s i 0
+  along-none l = record { few = omega arith; scan = goes (omega arith) (scan-none l) }
+
+  module _ {j : ℕ} (h : Along p s i j) where
+    pub along-turn : j < 16 → i + j < length s → p (getD s (i + j) 0) ≡ true → Along p s i (j + 1)
+    along-turn k l e = record { few = omega arith; scan = goes (omega arith) (scan-turn (h .scan) l e) }
+
+    pub along-end : {e : ℕ} → 16 ≤ j → Stop p s (i + 16) e → Stop p s i e
+    along-end k t = scan-then (goes (omega (arith, h .few)) (h .scan)) t
 
 -- ---- trailing blanks
 
@@ -129,74 +149,3 @@ module _ {a b : List ℕ} {i : ℕ} (h : SameSoFar a b i) where
   alike-end l =
       let k : length b ≤ i = omega (arith, h .lengths) in
       sym (ap₂ same (drop-of-length-le a l) (drop-of-length-le b k)) ∙ h .rest
-
--- ---- a word in a table
-
-words-after : (k : ℕ) (t : List ℕ) → wordsAfter k t ≡ wordsIn (drop k t)
-words-after zero [] = refl
-words-after (suc k) [] = refl
-words-after zero (n ∷ t) = refl
-words-after (suc k) (x ∷ t) = words-after k t
-
-whole-after : (k : ℕ) (t : List ℕ) → wholeAfter k t ≡ true → (k ≤ length t) × (wholeAfter 0 (drop k t) ≡ true)
-whole-after k [] e = (omega (arith, eqb-true k 0 e), rw (drop-nil {A = ℕ} k))
-whole-after zero (n ∷ t) e = (omega arith, e)
-whole-after (suc k) (x ∷ t) e = (omega (arith, whole-after k t e .0), whole-after k t e .1)
-
--- a place in the rest, whose first word is number n
-abbrev shift : ℕ → ℕ → ℕ
-shift n zero = 0
-shift n (suc j) = n + j
-
-shift-one : (p : ℕ) → p ≡ shift 1 p
-shift-one zero = refl
-shift-one (suc j) = omega arith
-
-shift-further : (n p : ℕ) → shift n (further p) ≡ shift (n + 1) p
-shift-further n zero = refl
-shift-further n (suc j) = omega arith
-
-pub record SeekingWord (t w : List ℕ) (at n : ℕ) : Type 0 where
-  pub small : length t ≤ 4096
-  pub low : n ≤ at + 1
-  pub within : at ≤ length t
-  pub whole : wholeAfter 0 (drop at t) ≡ true
-  pub rest : place w (wordsIn t) ≡ shift n (place w (wordsIn (drop at t)))
-
-pub seeking-first : {t w : List ℕ} → Table t → SeekingWord t w 0 1
-seeking-first h = record { small = h .small; low = omega arith; within = omega arith; whole = h .whole; rest = shift-one _ }
-
-module _ {t w : List ℕ} {at n : ℕ} (h : SeekingWord t w at n) where
-  pub seeking-end : length t ≤ at → 0 ≡ place w (wordsIn t)
-  seeking-end l = sym (h .rest ∙ ap (λ (x : List ℕ). shift n (place w (wordsIn x))) (drop-of-length-le t l))
-
-  module _ (l : at < length t) where
-    size : ℕ
-    size = getD t at 0
-
-    tail : wholeAfter (getD t at 0) (drop (suc at) t) ≡ true
-    tail = rw (drop-cons t at 0 l) at (h .whole)
-
-    pub seeking-fits : at + 1 + getD t at 0 ≤ length t
-    seeking-fits = omega (arith, simp length-drop at (whole-after (getD t at 0) (drop (suc at) t) tail .0))
-
-    view : wordsIn (drop at t) ≡ part (at + 1) (at + 1 + getD t at 0) t ∷ wordsIn (drop (at + 1 + getD t at 0) t)
-    view =
-        let k : at + 1 + getD t at 0 - (at + 1) ≡ getD t at 0 = omega arith in
-        rw (drop-cons t at 0 l, k, add-one at, words-after (getD t at 0) (drop (suc at) t), drop-drop (getD t at 0) (suc at) t)
-
-    module _ {b : Bool} (is : b ≡ same w (part (at + 1) (at + 1 + getD t at 0) t)) where
-      pub seeking-found : b ≡ true → n ≡ place w (wordsIn t)
-      seeking-found q =
-          let k : n + 0 ≡ n = omega arith in
-          sym (h .rest ∙ ap (λ (x : List (List ℕ)). shift n (place w x)) view ∙ rw (sym is ∙ q) k)
-
-      pub seeking-turn : b ≡ false → SeekingWord t w (at + 1 + getD t at 0) (n + 1)
-      seeking-turn q =
-          record {
-            small = h .small;
-            low = omega (arith, h .low);
-            within = seeking-fits;
-            whole = rw (add-one at, ← drop-drop (getD t at 0) (suc at) t) (whole-after (getD t at 0) (drop (suc at) t) tail .1);
-            rest = h .rest ∙ ap (λ (x : List (List ℕ)). shift n (place w x)) view ∙ rw (sym is ∙ q) (shift-further n (place w (wordsIn (drop (at + 1 + getD t at 0) t))));
-          }

@@ -1,9 +1,10 @@
 -- Laws of scans: a run goes on byte by byte or block by block to its end, and its end bounds a part, a line or a piece.
-use mathlib.Core.Path.{_≡_, refl, ap, ap₂, _∙_, sym, subst}
+use mathlib.Core.Path.{_≡_, refl, ap, ap₂, _∙_, sym, subst, fun-ext}
 use mathlib.Core.Logic.{_≢_}
 use mathlib.Core.Bool.{Bool, true, false, cond}
 use mathlib.Core.List.{List, [], _∷_}
-use Prim.Native.Nat.{ℕ, suc, _+_, _-_, _≤_, _<_}
+use Prim.Native.Nat.{ℕ, zero, suc, _+_, _-_, _≤_, _<_}
+use native.Mathlib.Nat.{le-refl}
 use native.Mathlib.Omega.{arith}
 use borrow.Author.Tests.{eqb-true, eqb-false}
 use lib.Dec.{eqb}
@@ -35,6 +36,50 @@ module _ {p : ℕ → Bool} {s : List ℕ} {from : ℕ} where
 
     pub scan-then : {e : ℕ} → Stop p s i e → Stop p s from e
     scan-then t = record { is = t .is ∙ h .rest; within = t .within }
+
+-- two tests alike at every byte stop a run alike
+pub stop-as : {p q : ℕ → Bool} {s : List ℕ} {from r : ℕ} → ((x : ℕ) → p x ≡ q x) → Stop p s from r → Stop q s from r
+stop-as {s = s} {from = from} {r = r} e h = subst (λ (f : ℕ → Bool). Stop f s from r) (fun-ext e) h
+
+-- ---- a run that goes on from k to e: so does what starts between, each byte passes, and so the run of a weaker test goes on
+
+module _ {p : ℕ → Bool} {s : List ℕ} {k e : ℕ} (t : Scan p s k e) where
+  reach : (n j : ℕ) → j ≡ k + n → j ≤ e → j + lead p (drop j s) ≡ e + lead p (drop e s)
+  reach zero j w l = subst (λ (x : ℕ). x + lead p (drop x s) ≡ e + lead p (drop e s)) (let v : k ≡ j = omega (arith, w) in v) (sym (t .rest))
+  reach (suc n) j w l = go (p (getD s (j - 1) 0)) refl (reach n (j - 1) (omega (arith, w)) (omega arith))
+    where
+      m : j - 1 < length s
+      m = omega (arith, w, t .within)
+
+      v : j - 1 + 1 ≡ j
+      v = omega (arith, w)
+
+      go : (b : Bool) → p (getD s (j - 1) 0) ≡ b → j - 1 + lead p (drop (j - 1) s) ≡ e + lead p (drop e s) → j + lead p (drop j s) ≡ e + lead p (drop e s)
+      go true q h = subst (λ (x : ℕ). x + lead p (drop x s) ≡ e + lead p (drop e s)) v (omega (arith, lead-more p s (j - 1) m q, h))
+      go false q h = absurd (omega (arith, lead-stop p s (j - 1) m q, h, w))
+
+  pub scan-within : {i : ℕ} → k ≤ i → i ≤ e → Scan p s i e
+  scan-within {i} l m = record { within = t .within; rest = sym (reach (i - k) i (omega arith) m) }
+
+  scan-byte : (i : ℕ) → k ≤ i → i < e → p (getD s i 0) ≡ true
+  scan-byte i l m = go (p (getD s i 0)) refl
+    where
+      n : i < length s
+      n = omega (arith, t .within)
+
+      go : (b : Bool) → p (getD s i 0) ≡ b → b ≡ true
+      go true q = refl
+      go false q = absurd (omega (arith, lead-stop p s i n q, reach (i - k) i (omega arith) (omega arith)))
+
+  module _ {q : ℕ → Bool} (f : (x : ℕ) → p x ≡ true → q x ≡ true) where
+    so-far : (n : ℕ) → k + n ≤ e → Scan q s k (k + n)
+    so-far zero l = subst (λ (x : ℕ). Scan q s k x) (let v : k ≡ k + 0 = omega arith in v) (scan-none (omega (arith, t .within)))
+    so-far (suc n) l =
+        subst (λ (x : ℕ). Scan q s k x) (let v : k + n + 1 ≡ k + suc n = omega arith in v)
+        (scan-turn (so-far n (omega arith)) (omega (arith, t .within)) (f _ (scan-byte (k + n) (omega arith) (omega arith))))
+
+    pub scan-as : k ≤ e → Scan q s k e
+    scan-as l = subst (λ (x : ℕ). Scan q s k x) (let v : k + (e - k) ≡ e = omega arith in v) (so-far (e - k) (omega arith))
 
 -- the byte behind a run does not pass
 after-fails : (p : ℕ → Bool) (v : List ℕ) {c : ℕ} {r : List ℕ} → after p v ≡ c ∷ r → p c ≡ false

@@ -5,7 +5,7 @@ use lib.Dec.{eqb, leb, ltb}
 use Rattle.text.specs.declared.Dialect.{Dialect}
 use Rattle.text.specs.declared.Dialect.the-variants.{Iwd, ConnMan}
 use Rattle.text.specs.declared.Class.{Class}
-use Rattle.text.specs.declared.Class.the-variants.{Space, Header, Plain, Alphanumeric, Identifier, LowerHex, Entry}
+use Rattle.text.specs.declared.Class.the-variants.{Space, Header, Plain, Alphanumeric, Identifier, HexDigit, LowerHex, Entry}
 
 -- a number that is a byte
 abbrev pub isByte : ℕ → Bool
@@ -27,6 +27,10 @@ isDigit x = between 48 57 x
 
 abbrev pub isAlphanumeric : ℕ → Bool
 isAlphanumeric x = isLetter x || isDigit x
+
+-- "Hex digits may be either case."
+abbrev pub isHexDigit : ℕ → Bool
+isHexDigit x = isDigit x || (between 97 102 x || between 65 70 x)
 
 -- "lower-case hex"
 abbrev pub isLowerHex : ℕ → Bool
@@ -74,5 +78,6 @@ memberOf Header = isHeaderByte
 memberOf Plain = isPlain
 memberOf Alphanumeric = isAlphanumeric
 memberOf Identifier = isIdentifier
+memberOf HexDigit = isHexDigit
 memberOf LowerHex = isLowerHex
 memberOf Entry = isEntryByte

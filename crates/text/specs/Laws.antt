@@ -10,7 +10,7 @@ use mathlib.Core.List.{List, [], _∷_, _++_}
 use lib.Dec.{eqb, leb}
 use lib.ListN.{length, take, drop, set, getD, replicate, drop-of-length-le, length-append, length-take, length-drop}
 use lib.Seq.{drop-cons, set-at, append-snoc, drop-drop, take-add, take-take, take-nil}
-use Rattle.text.specs.Bytes.{between, other, inLine}
+use Rattle.text.specs.Bytes.{between, other, inLine, isEntryByte}
 use Rattle.text.specs.Parts.{lead, front, after, all, onto, lines, pieces, part, empty, padded}
 use Rattle.text.specs.Words.{same}
 
@@ -45,6 +45,12 @@ is-other x b e = ap not (ne-eqb x b e)
 
 pub not-other : (x b : ℕ) → x ≡ b → other b x ≡ false
 not-other x b e = ap not (eq-eqb x b e)
+
+-- a byte above the comma is one of an entry
+pub above-comma : (x : ℕ) → between 45 255 x ≡ true → isEntryByte x ≡ true
+above-comma x e =
+    let h : 45 ≤ x = between-low {x = x} 45 255 e in
+    rw (ne-eqb x 44 (λ k. omega (arith, k, h)), ne-eqb x 32 (λ k. omega (arith, k, h)), ne-eqb x 9 (λ k. omega (arith, k, h)))
 
 -- a byte that passes a test is none that does not
 pub pass-other : (p : ℕ → Bool) (b : ℕ) → p b ≡ false → (x : ℕ) → p x ≡ true → eqb x b ≡ false

@@ -15,5 +15,8 @@ pub mod OptionLaws
 pub mod RelationLaws
 pub mod OccurrenceLaws
 pub mod Decides
--- For the proofs only: what the scans of the code answer, by index
+pub mod Printable
+pub mod ByteTableLaws
+-- For the proofs only: the table of bytes in code, and what the scans of the code answer, by index
+pub mod ByteTable
 pub mod Scans

@@ -48,3 +48,11 @@ module _ {A B : Type 0} (R S : A → B → Type 0) (f : (x : A) (y : B) → R x 
   pairwise-weaken [] (y ∷ ys) h = absurd h
   pairwise-weaken (x ∷ xs) [] h = absurd h
   pairwise-weaken (x ∷ xs) (y ∷ ys) h = (f x y (h .0), pairwise-weaken xs ys (h .1))
+
+-- what each pair says of its first element holds of each first element
+module _ {A B : Type 0} (R : A → B → Type 0) (P : A → Type 0) (f : (x : A) (y : B) → R x y → P x) where
+  pub pairwise-first : (xs : List A) (ys : List B) → Pairwise R xs ys → Each P xs
+  pairwise-first [] [] h = tt
+  pairwise-first [] (y ∷ ys) h = absurd h
+  pairwise-first (x ∷ xs) [] h = absurd h
+  pairwise-first (x ∷ xs) (y ∷ ys) h = (f x y (h .0), pairwise-first xs ys (h .1))

@@ -1,14 +1,12 @@
 -- Words, and a word's place in a table of words.
-use Prim.Native.Nat.{ℕ, zero, suc, _≤_}
+use Prim.Native.Nat.{ℕ, zero, suc}
 use Prim.Native.String.{String}
 use Prim.Native.String as S
 use Prim.Native.Char.{code}
-use mathlib.Core.Path.{_≡_}
 use mathlib.Core.Bool.{Bool, true, false, cond, _&&_}
 use mathlib.Core.List.{List, [], _∷_}
 use mathlib.Core.Option.{Option, none, some}
 use lib.Dec.{eqb}
-use lib.ListN.{length, take}
 
 -- the bytes of a quoted text
 abbrev pub word : String → List ℕ
@@ -35,22 +33,3 @@ place w (x ∷ xs) = cond (same w x) 1 (further (place w xs))
 abbrev pub named : {A : Type 0} → List ℕ → List (List ℕ × A) → Option A
 named w [] = none
 named w (x ∷ xs) = cond (same w (x .0)) (some (x .1)) (named w xs)
-
--- the words of a table in which each has its length in front of it, after k bytes of the word before
-abbrev pub wordsAfter : ℕ → List ℕ → List (List ℕ)
-wordsAfter k [] = []
-wordsAfter zero (n ∷ t) = take n t ∷ wordsAfter n t
-wordsAfter (suc k) (x ∷ t) = wordsAfter k t
-
-abbrev pub wordsIn : List ℕ → List (List ℕ)
-wordsIn t = wordsAfter 0 t
-
--- such a table ends with a word's last byte
-abbrev pub wholeAfter : ℕ → List ℕ → Bool
-wholeAfter k [] = eqb k 0
-wholeAfter zero (n ∷ t) = wholeAfter n t
-wholeAfter (suc k) (x ∷ t) = wholeAfter k t
-
-pub record Table (t : List ℕ) : Type 0 where
-  pub small : length t ≤ 4096
-  pub whole : wholeAfter 0 t ≡ true

@@ -1,8 +1,61 @@
-// The classes of bytes, one function for each.
+// The classes of bytes: by the table of bytes, or by comparing.
 ghost use mathlib.Core.Path.{_≡_};
-ghost use Rattle.text.specs.Bytes.{between, isLetter, isDigit, isAlphanumeric, isLowerHex, isBlank, isHeaderByte, isJoint, isKeyByte, isPlain, isIdentifier, isEntryByte, memberOf};
+ghost use Rattle.text.specs.Bytes.{between, isDigit, isAlphanumeric, isLowerHex, isBlank, isHeaderByte, isEntryByte, memberOf};
+ghost use Rattle.text.specs.ByteTable.{columnsOf, keyColumns};
 use crate::Class;
 use crate::Dialect;
+use crate::table::DIGIT;
+use crate::table::DOT;
+use crate::table::HEX_DIGIT;
+use crate::table::LETTER;
+use crate::table::MINUS;
+use crate::table::SPACE;
+use crate::table::UNDERSCORE;
+use crate::table::is_in;
+
+const ALPHANUMERIC: u8 = LETTER | DIGIT;
+
+const IDENTIFIER: u8 = ALPHANUMERIC | UNDERSCORE;
+
+const KEY: u8 = IDENTIFIER | MINUS;
+
+// What the bytes of a key may be.
+pub(crate) fn key_columns(d: Dialect) -> u8
+    ensures { λ r. ⌜ r ≡ keyColumns d ⌝ }
+{
+    match d {
+        Dialect::Iwd => KEY,
+        Dialect::ConnMan => KEY | DOT,
+    }
+}
+
+// What the bytes of a class may be; 0 for a class whose bytes are compared.
+pub(crate) fn columns_of(c: Class) -> u8
+    ensures { λ r. ⌜ r ≡ columnsOf c ⌝ }
+{
+    match c {
+        Class::Space => SPACE,
+        Class::Plain => KEY | SPACE,
+        Class::Alphanumeric => ALPHANUMERIC,
+        Class::Identifier => IDENTIFIER,
+        Class::HexDigit => HEX_DIGIT,
+        Class::Header => 0,
+        Class::LowerHex => 0,
+        Class::Entry => 0,
+    }
+}
+
+pub fn is_digit(x: u8) -> bool
+    ensures { λ r. ⌜ r ≡ isDigit x ⌝ }
+{
+    is_in(x, DIGIT)
+}
+
+pub fn is_alphanumeric(x: u8) -> bool
+    ensures { λ r. ⌜ r ≡ isAlphanumeric x ⌝ }
+{
+    is_in(x, ALPHANUMERIC)
+}
 
 // Whether x is a byte from low to high.
 pub fn within(low: u8, high: u8, x: u8) -> bool
@@ -11,39 +64,21 @@ pub fn within(low: u8, high: u8, x: u8) -> bool
     low <= x && x <= high
 }
 
-pub fn is_letter(x: u8) -> bool
-    ensures { λ r. ⌜ r ≡ isLetter x ⌝ }
-{
-    within(97, 122, x) || within(65, 90, x)
-}
-
-pub fn is_digit(x: u8) -> bool
-    ensures { λ r. ⌜ r ≡ isDigit x ⌝ }
-{
-    within(48, 57, x)
-}
-
-pub fn is_alphanumeric(x: u8) -> bool
-    ensures { λ r. ⌜ r ≡ isAlphanumeric x ⌝ }
-{
-    is_letter(x) || is_digit(x)
-}
-
-pub fn is_lower_hex(x: u8) -> bool
-    ensures { λ r. ⌜ r ≡ isLowerHex x ⌝ }
-{
-    is_digit(x) || within(97, 102, x)
-}
-
-// Space or tab.
+// Space or tab: compared where it stands, since mostly one or two bytes are asked.
 pub fn is_blank(x: u8) -> bool
     ensures { λ r. ⌜ r ≡ isBlank x ⌝ }
 {
     x == 32 || x == 9
 }
 
+fn is_lower_hex(x: u8) -> bool
+    ensures { λ r. ⌜ r ≡ isLowerHex x ⌝ }
+{
+    within(48, 57, x) || within(97, 102, x)
+}
+
 // A byte of a group's name.
-pub fn is_header_byte(x: u8) -> bool
+fn is_header_byte(x: u8) -> bool
     ensures { λ r. ⌜ r ≡ isHeaderByte x ⌝ }
 {
     if x == 91 {
@@ -55,47 +90,8 @@ pub fn is_header_byte(x: u8) -> bool
     within(32, 126, x)
 }
 
-// Underscore or minus.
-fn is_joint(x: u8) -> bool
-    ensures { λ r. ⌜ r ≡ isJoint x ⌝ }
-{
-    x == 95 || x == 45
-}
-
-pub fn is_key_byte(d: Dialect, x: u8) -> bool
-    ensures { λ r. ⌜ r ≡ isKeyByte d x ⌝ }
-{
-    if is_alphanumeric(x) {
-        return true;
-    }
-    if is_joint(x) {
-        return true;
-    }
-    match d {
-        Dialect::Iwd => false,
-        Dialect::ConnMan => x == 46,
-    }
-}
-
-// A byte of a network name that stands in a file name as it is.
-pub fn is_plain(x: u8) -> bool
-    ensures { λ r. ⌜ r ≡ isPlain x ⌝ }
-{
-    if x == 32 {
-        return true;
-    }
-    is_alphanumeric(x) || is_joint(x)
-}
-
-// A byte of a service's identifier.
-pub fn is_identifier(x: u8) -> bool
-    ensures { λ r. ⌜ r ≡ isIdentifier x ⌝ }
-{
-    x == 95 || is_alphanumeric(x)
-}
-
 // A byte of an entry of a list.
-pub fn is_entry_byte(x: u8) -> bool
+fn is_entry_byte(x: u8) -> bool
     ensures { λ r. ⌜ r ≡ isEntryByte x ⌝ }
 {
     if x == 44 {
@@ -104,16 +100,19 @@ pub fn is_entry_byte(x: u8) -> bool
     !is_blank(x)
 }
 
-pub fn member(c: Class, x: u8) -> bool
+// Whether x is of a class whose bytes are compared; no other is asked.
+pub(crate) fn is_compared(c: Class, x: u8) -> bool
+    requires { ⌜ columnsOf c ≡ 0 ⌝ }
     ensures { λ r. ⌜ r ≡ memberOf c x ⌝ }
 {
     match c {
-        Class::Space => x == 32,
         Class::Header => is_header_byte(x),
-        Class::Plain => is_plain(x),
-        Class::Alphanumeric => is_alphanumeric(x),
-        Class::Identifier => is_identifier(x),
         Class::LowerHex => is_lower_hex(x),
         Class::Entry => is_entry_byte(x),
+        Class::Space => false,
+        Class::Plain => false,
+        Class::Alphanumeric => false,
+        Class::Identifier => false,
+        Class::HexDigit => false,
     }
 }

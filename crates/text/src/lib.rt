@@ -1,9 +1,10 @@
-// Bytes of a file: the two dialects, the classes of bytes, the parts of a slice that scanning finds, and words in a table.
+// Bytes of a file: the two dialects, the classes of bytes, the parts of a slice that scanning finds, and words.
 //
-// This is what document 01 says of bytes under "Lines, alike in both". `classes` judges one byte, `scan` finds where a
-// run of bytes ends, `words` compares. The definitions are in specs/Bytes, specs/Parts and specs/Words.
+// This is what document 01 says of bytes under "Lines, alike in both". `classes` judges one byte, by `table` or by comparing,
+// `scan` finds where a run of bytes ends, `words` compares. The definitions are in specs/Bytes, specs/Parts and specs/Words.
 pub mod classes;
 pub mod scan;
+mod table;
 pub mod words;
 
 // The two kinds of file.
@@ -25,6 +26,7 @@ pub enum Class {
     Plain,
     Alphanumeric,
     Identifier,
+    HexDigit,
     LowerHex,
     Entry,
 }

@@ -8,6 +8,7 @@ use borrow.Author.Tests.{ne-eqb}
 use Rattle.text.specs.Bytes.{between}
 use Rattle.text.specs.Parts.{all, after}
 use Rattle.text.specs.Laws.{and-true, all-cons, inside, between-low, between-high}
+use Rattle.text.specs.Printable.{isPrintable, Printable}
 use Rattle.utf8.specs.Utf8.{Range, follow, utf8From, utf8, textByte, text}
 
 from-append : (rs : List Range) (s t : List ℕ) → utf8From rs s ≡ true → utf8From rs (s ++ t) ≡ utf8 t
@@ -21,9 +22,6 @@ pub utf8-append : (s t : List ℕ) → utf8 s ≡ true → utf8 (s ++ t) ≡ utf
 utf8-append s t h = from-append [] s t h
 
 -- ---- printable ASCII, bytes 32 to 126
-
-abbrev pub isPrintable : ℕ → Bool
-isPrintable b = between 32 126 b
 
 pub follow-ascii : (b : ℕ) → b ≤ 127 → follow b ≡ []
 unfolding follow
@@ -56,7 +54,7 @@ text-after line (b ∷ s) = go (isPrintable b) refl (text-after line s)
     go true e ih = rw (e, printable-text line b e, utf8-printable b s e) ih
     go false e ih = rw e
 
-pub text-printable : (line : Bool) (s : List ℕ) → all isPrintable s ≡ true → text line s ≡ true
+pub text-printable : (line : Bool) (s : List ℕ) → Printable s → text line s ≡ true
 unfolding text utf8From
 text-printable line [] h = refl
 text-printable line (b ∷ s) h = rw (printable-text line b (all-cons isPrintable b s h .0), utf8-printable b s (all-cons isPrintable b s h .0)) (text-printable line s (all-cons isPrintable b s h .1))

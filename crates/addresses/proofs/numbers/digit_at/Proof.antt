@@ -1,5 +1,5 @@
 -- The digit at a place: the byte less 48, or none at the end (`digit-byte`, `digit-end`).
-use Rattle.addresses.proofs.Reading.{digit-end, digit-byte}
+use Rattle.addresses.proofs.Octets.{digit-end, digit-byte}
 use borrow.Author.Needs.{needs}
 use Rattle.addresses.proofs.numbers.digit_at.Statement.{statement}
 use Rattle.addresses.proofs.numbers.digit_at.Tie as tie

@@ -1,6 +1,6 @@
 -- One, two or three digits, which are a number if nothing else stands before the next dot: a law for each return.
 use native.Mathlib.Omega.{arith}
-use Rattle.addresses.proofs.Reading.{octet-none, octet-one, octet-led, octet-two, octet-big, octet-three}
+use Rattle.addresses.proofs.Octets.{octet-none, octet-one, octet-led, octet-two, octet-big, octet-three}
 use borrow.Author.Needs.{needs}
 use Rattle.addresses.proofs.numbers.read_octet.Statement.{statement}
 use Rattle.addresses.proofs.numbers.read_octet.Tie as tie

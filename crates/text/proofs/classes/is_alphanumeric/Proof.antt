@@ -1,4 +1,8 @@
-use mathlib.Core.Path.{sym, _∙_}
+-- A letter or a digit by its bits in the table of bytes.
+use mathlib.Core.Path.{_∙_}
+use native.Mathlib.Omega.{arith}
+use Rattle.text.specs.declared.Class.the-variants.{Alphanumeric}
+use Rattle.text.specs.ByteTableLaws.{chosen-member}
 use borrow.Author.Needs.{needs}
 use Rattle.text.proofs.classes.is_alphanumeric.Statement.{statement}
 use Rattle.text.proofs.classes.is_alphanumeric.Tie as tie
@@ -8,6 +12,4 @@ is-alphanumeric-spec =
     tie.close
     (tie.spec
     (λ c κs. search needs)
-    (λ c κs. search needs)
-    (λ c. rw (sym (c .before .is-letter .ensures) ∙ c .if1 .taken) (c .if1 .taken))
-    (λ c. rw (sym (c .before .before .is-letter .ensures) ∙ c .before .if1 .left) (c .is-digit .ensures)))
+    (λ c. c .is-in .ensures ∙ chosen-member Alphanumeric (λ e. omega (arith, e)) _))

@@ -1,3 +1,4 @@
+-- A digit or a letter from a to f, one comparison after the other.
 use mathlib.Core.Path.{sym, _∙_}
 use borrow.Author.Needs.{needs}
 use Rattle.text.proofs.classes.is_lower_hex.Statement.{statement}
@@ -9,5 +10,5 @@ is-lower-hex-spec =
     (tie.spec
     (λ c κs. search needs)
     (λ c κs. search needs)
-    (λ c. rw (sym (c .before .is-digit .ensures) ∙ c .if1 .taken) (c .if1 .taken))
-    (λ c. rw (sym (c .before .before .is-digit .ensures) ∙ c .before .if1 .left) (c .within .ensures)))
+    (λ c. rw (sym (c .before .within .ensures) ∙ c .if1 .taken) (c .if1 .taken))
+    (λ c. rw (sym (c .before .before .within .ensures) ∙ c .before .if1 .left) (c .within2 .ensures)))

@@ -1,3 +1,4 @@
+-- The run of the range goes on byte by byte unless there was a hit (`Quiet`).
 use Prim.Native.Nat.{_≤_, _-_}
 use mathlib.Core.Path.{sym, _∙_}
 use mathlib.Core.Logic.{⊎-elim}
@@ -11,9 +12,8 @@ pub range-block-spec : {M : Type 1} → statement M
 range-block-spec =
     tie.close
     (tie.spec
-    (λ s i low high e hit₀ j₀ hit j. (i ≤ j) × (j ≤ e) × Quiet (between low high) s i j hit)
-    (λ s i low high e hit₀ j₀ hit j. e - j)
-    (λ c. search needs)
+    (λ s i e low high hit₀ j₀ hit j. (i ≤ j) × (j ≤ e) × Quiet (between low high) s i j hit)
+    (λ s i e low high hit₀ j₀ hit j. e - j)
     (λ c. (search needs, search needs, quiet-none (search needs)))
     (λ c. search needs)
     (λ c κs. search needs)

@@ -1,3 +1,4 @@
+-- The run of zeros goes on block by block (`Scan`), and byte by byte in the block that ends it or behind the blocks.
 use Prim.Native.Nat.{_-_}
 use lib.ListN.{length}
 use Rattle.text.specs.Bytes.{between}
@@ -14,6 +15,7 @@ zeros-end-spec =
     (λ s from i₀ i. Scan (between 0 0) s from i)
     (λ s from i₀ i. length s - i)
     (λ c. scan-none (search needs))
+    (λ c. search needs)
     (λ c. search needs)
     (λ c κs. search needs)
     (λ c. search needs)
