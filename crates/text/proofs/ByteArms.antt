@@ -24,50 +24,53 @@ abbrev stepped : ℕ → ℕ → List ℕ
 stepped a zero = []
 stepped a (suc n) = a ∷ stepped (a + 2) n
 
-abbrev pub tab : List ℕ
-tab = stepped 137 1
+-- the keys of each arm, in the order of the code
+abbrev table : List (List ℕ)
+table =
+    (stepped 137 1)
+    ∷ (stepped 160 1)
+    ∷ (stepped 223 1)
+    ∷ (stepped 173 1)
+    ∷ (stepped 174 1)
+    ∷ (stepped 176 5)
+    ∷ (stepped 177 5)
+    ∷ (stepped 194 3 ++ stepped 226 3)
+    ∷ (stepped 193 3 ++ stepped 225 3)
+    ∷ (stepped 200 10)
+    ∷ (stepped 199 10)
+    ∷ (stepped 232 10)
+    ∷ (stepped 231 10)
+    ∷ (stepped 128 5 ++ stepped 162 6)
+    ∷ (stepped 129 4 ++ stepped 161 6)
+    ∷ (stepped 138 11)
+    ∷ (stepped 139 11)
+    ∷ (stepped 186 4 ++ stepped 220 3 ++ stepped 252 2)
+    ∷ (stepped 175 1 ++ stepped 187 3 ++ stepped 219 2 ++ stepped 251 3)
+    ∷ (stepped 0 17)
+    ∷ (stepped 1 17)
+    ∷ (stepped 34 17)
+    ∷ (stepped 35 17)
+    ∷ (stepped 68 17)
+    ∷ (stepped 69 17)
+    ∷ (stepped 102 13)
+    ∷ (stepped 103 12)
+    ∷ []
 
-abbrev pub space : List ℕ
-space = stepped 160 1
+abbrev nth : List (List ℕ) → ℕ → List ℕ
+nth [] n = []
+nth (ks ∷ kss) zero = ks
+nth (ks ∷ kss) (suc n) = nth kss n
 
-abbrev pub underscore : List ℕ
-underscore = stepped 223 1
-
-abbrev pub minus : List ℕ
-minus = stepped 173 1
-
-abbrev pub dot : List ℕ
-dot = stepped 174 1
-
-abbrev pub evenDigits : List ℕ
-evenDigits = stepped 176 5
-
-abbrev pub oddDigits : List ℕ
-oddDigits = stepped 177 5
-
-abbrev pub evenHexLetters : List ℕ
-evenHexLetters = stepped 194 3 ++ stepped 226 3
-
-abbrev pub oddHexLetters : List ℕ
-oddHexLetters = stepped 193 3 ++ stepped 225 3
-
-abbrev pub evenLetters : List ℕ
-evenLetters = stepped 200 10 ++ stepped 232 10
-
-abbrev pub oddLetters : List ℕ
-oddLetters = stepped 199 10 ++ stepped 231 10
-
-abbrev pub evenOthers : List ℕ
-evenOthers = stepped 0 64 ++ stepped 128 5 ++ stepped 138 11 ++ stepped 162 6 ++ stepped 186 4 ++ stepped 220 3 ++ stepped 252 2
-
-abbrev pub oddOthers : List ℕ
-oddOthers = stepped 1 63 ++ stepped 129 4 ++ stepped 139 11 ++ stepped 161 6 ++ stepped 175 1 ++ stepped 187 3 ++ stepped 219 2 ++ stepped 251 3
+abbrev pub arm : ℕ → List ℕ
+arm = nth table
 
 -- the arms, the last first
+abbrev reversed : List (List ℕ) → List (List ℕ) → List (List ℕ)
+reversed [] kss = kss
+reversed (ks ∷ rest) kss = reversed rest (ks ∷ kss)
+
 abbrev arms : List (List ℕ)
-arms =
-    oddOthers ∷ evenOthers ∷ oddLetters ∷ evenLetters ∷ oddHexLetters ∷ evenHexLetters ∷ oddDigits ∷ evenDigits
-    ∷ dot ∷ minus ∷ underscore ∷ space ∷ tab ∷ []
+arms = reversed table []
 
 -- ---- in an arm
 
