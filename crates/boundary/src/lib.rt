@@ -5,6 +5,8 @@
 // and kept as bytes. `answer_layout` lays out what the reading, the lookups, the joins, the writer and the move answer,
 // `settings_layout` the settings; the codes are crate `codes`'s, and the record with its struct is `record_layout`'s. The
 // definitions are in specs/Answers and specs/Settings.
+#![tactic(auto)]
+
 pub mod answer_layout;
 pub mod settings_layout;
 
@@ -12,7 +14,7 @@ use record_layout::CRecord;
 
 // What a reading answers.
 #[repr(C)]
-#[derive(Drop)]
+#[derive(Clone, Copy)]
 pub struct CReading {
     pub line: usize,
     pub settings: usize,
@@ -23,7 +25,7 @@ pub struct CReading {
 
 // What a string lookup answers: where the value stands.
 #[repr(C)]
-#[derive(Drop)]
+#[derive(Clone, Copy)]
 pub struct CText {
     pub line: usize,
     pub start: usize,
@@ -34,7 +36,7 @@ pub struct CText {
 
 // What the writer and the move answer: how many bytes are new in each buffer.
 #[repr(C)]
-#[derive(Drop)]
+#[derive(Clone, Copy)]
 pub struct CWritten {
     pub line: usize,
     pub name_len: usize,
@@ -45,7 +47,7 @@ pub struct CWritten {
 
 // The answer to a question for a join record.
 #[repr(C)]
-#[derive(Drop)]
+#[derive(Clone, Copy)]
 pub struct CRecordAnswer {
     pub line: usize,
     pub number: u8,
@@ -55,7 +57,7 @@ pub struct CRecordAnswer {
 
 // iwd's group Settings.
 #[repr(C)]
-#[derive(Drop)]
+#[derive(Clone, Copy)]
 pub struct CGeneral {
     pub auto_connect: u8,
     pub hidden: u8,
@@ -66,7 +68,7 @@ pub struct CGeneral {
 
 // iwd's group Security.
 #[repr(C)]
-#[derive(Drop)]
+#[derive(Clone, Copy)]
 pub struct CSecurity {
     pub passphrase_line: usize,
     pub has_pre_shared_key: u8,
@@ -76,7 +78,7 @@ pub struct CSecurity {
 
 // iwd's group IPv4.
 #[repr(C)]
-#[derive(Drop)]
+#[derive(Clone, Copy)]
 pub struct CIpv4 {
     pub domain_name_line: usize,
     pub dns_count: usize,
@@ -94,7 +96,7 @@ pub struct CIpv4 {
 
 // iwd's group IPv6.
 #[repr(C)]
-#[derive(Drop)]
+#[derive(Clone, Copy)]
 pub struct CIpv6 {
     pub enabled: u8,
     pub has_address: u8,
@@ -106,7 +108,7 @@ pub struct CIpv6 {
 
 // The answer to a question for the settings of an iwd file, and these.
 #[repr(C)]
-#[derive(Drop)]
+#[derive(Clone, Copy)]
 pub struct CIwdSettings {
     pub line: usize,
     pub number: u8,
@@ -119,7 +121,7 @@ pub struct CIwdSettings {
 
 // A list of entries, each by its place in the file.
 #[repr(C)]
-#[derive(Drop)]
+#[derive(Clone, Copy)]
 pub struct CEntries {
     pub count: usize,
     pub start: [usize; 4],
@@ -128,7 +130,7 @@ pub struct CEntries {
 
 // Which network a ConnMan service joins, and how.
 #[repr(C)]
-#[derive(Drop)]
+#[derive(Clone, Copy)]
 pub struct CNetwork {
     pub name_line: usize,
     pub passphrase_line: usize,
@@ -142,7 +144,7 @@ pub struct CNetwork {
 
 // The addresses of a ConnMan service.
 #[repr(C)]
-#[derive(Drop)]
+#[derive(Clone, Copy)]
 pub struct CAddresses {
     pub domain_line: usize,
     pub search_domains: CEntries,
@@ -167,7 +169,7 @@ pub struct CAddresses {
 
 // The answer to a question for the settings of a ConnMan service, and these.
 #[repr(C)]
-#[derive(Drop)]
+#[derive(Clone, Copy)]
 pub struct CServiceSettings {
     pub line: usize,
     pub number: u8,

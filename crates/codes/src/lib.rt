@@ -2,6 +2,8 @@
 //
 // They are the codes of what `kinds` and `records` declare; the header `include/qewaris.h` has them as enumerators. The
 // definitions are in specs/Codes, and that each case comes back from its code in specs/Laws.
+#![tactic(auto)]
+
 ghost use Rattle.std.specs.Prelude.{◌≡◌, cond};
 ghost use Rattle.codes.specs.Codes.{bit_of, word_code, credential_code, method_code, given_method_code, credential_in, method_in};
 

@@ -2,6 +2,8 @@
 //
 // This is document 01's "Two records are equal when they agree in every place, unused ones included." What is compared is in
 // specs/Same, and that it is equality in specs/SameLaws.
+#![tactic(auto)]
+
 ghost use Rattle.std.specs.Prelude.{◌≡◌};
 ghost use Rattle.text.specs.Words.{same};
 ghost use Rattle.comparing.specs.Same.{same_flag, credential_case, method_case, same_name, same_credential, same_method, same_ipv4, same_ipv6, same_domain, same_choices, same_record, same_servers};

@@ -2,6 +2,8 @@
 //
 // This is document 01's sentence "ConnMan IPv4 is .." under "Settings and their kinds". The definition is in specs/ConnmanIpv4, its layout in
 // the type below in specs/Answers.
+#![tactic(auto)]
+
 ghost use Rattle.std.specs.Prelude.{◌≡◌, true, false};
 ghost use Rattle.std.proofs.Math.Option.{none};
 ghost use Rattle.addresses.specs.Addresses.{address, no_address, netmask_answer};
@@ -18,7 +20,7 @@ use text::scan::find_near;
 use text::words::equal;
 
 // ConnMan's IPv4. What the method does not use is zero.
-#[derive(Drop)]
+#[derive(Clone, Copy)]
 pub struct Ipv4 {
     pub ok: bool,
     pub method: Method,

@@ -8,7 +8,7 @@ use Rattle.text.specs.declared.Dialect.{Dialect}
 use Rattle.text.specs.declared.Dialect.TheVariants.{Iwd, ConnMan}
 use Rattle.utf8.specs.Utf8.{follow, utf8_from, text}
 use Rattle.escapes.specs.Escapes.{unescape, escape, unescape_from, escape_from}
-use Rattle.hex.specs.Hex.{nibble, unhex, hex, hex_digit}
+use Rattle.hex_digits.specs.Hex.{nibble, unhex, hex, hex_digit}
 use Rattle.addresses.specs.Addresses.{number, address, prefix_length_of, length_up_to, mask_length, netmask, addresses, decimal_value}
 use Rattle.named_words.specs.NamedWords.{flag, word_of}
 use Rattle.connman_ipv4.specs.ConnmanIpv4.{ipv4}

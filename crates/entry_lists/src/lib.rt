@@ -2,6 +2,8 @@
 //
 // This is document 01's "1 to 4 entries .., one comma between" under "Settings and their kinds". The definitions are in
 // specs/EntryLists, their layout in the type below in specs/Answers.
+#![tactic(auto)]
+
 ghost use Rattle.std.specs.Prelude.{◌≡◌, ◌+◌, ◌≤◌, length};
 ghost use Rattle.std.proofs.Math.Option.{none};
 ghost use Rattle.text.specs.Options.{is_some};
@@ -11,7 +13,7 @@ ghost use Rattle.entry_lists.specs.Answers.{entries_answer};
 use text::scan;
 
 // A list of 1 to 4 entries by their places; count 0 where it is broken.
-#[derive(Drop)]
+#[derive(Clone, Copy)]
 pub struct Entries {
     pub count: usize,
     pub starts: [usize; 4],

@@ -1,4 +1,6 @@
 // Strings: the five escapes, their length and bytes once unescaped, and how a string is written.
+#![tactic(auto)]
+
 ghost use Rattle.std.specs.Prelude.{◌≡◌, ◌+◌, ◌≤◌, length};
 ghost use Rattle.text.specs.Options.{or_empty, ReadsUpTo};
 ghost use Rattle.text.specs.Parts.{padded};
@@ -10,7 +12,7 @@ ghost use Rattle.escapes.specs.Letters.{Letter};
 use text::scan;
 
 // How many bytes a string has once unescaped, or that a backslash begins no escape.
-#[derive(Drop)]
+#[derive(Clone, Copy)]
 pub enum Size {
     Long(usize),
     Broken,

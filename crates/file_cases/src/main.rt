@@ -5,6 +5,8 @@
 // the answer: `accepted` with the numbers of settings and services, the new name and the new file as the moving program
 // writes them, or `refused` with the number and the line. The expected side, the file stdout, is written by hand from
 // documents 01 and 02 and docs/DECISIONS.md.
+#![tactic(auto)]
+
 ghost use Rattle.std.specs.Prelude.{◌≤◌, length};
 
 use intake::streams;
@@ -61,7 +63,7 @@ fn answer(input: &[u8]) {
     streams::say(b" = ");
     let from = end + 1;
     if end == 1 {
-        move_service(&input[from..], hex::digit_value(input[0]) as usize);
+        move_service(&input[from..], hex_digits::digit_value(input[0]) as usize);
     } else {
         check(&input[0..end], &input[from..]);
     }

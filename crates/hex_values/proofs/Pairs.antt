@@ -14,8 +14,8 @@ use Rattle.text.specs.Parts.{padded}
 use Rattle.text.specs.Options.{is_some, and_then, only, sized, prepend, glue, or_empty, ReadsUpTo}
 use Rattle.text.specs.Relations.{Sized}
 use Rattle.text.specs.OptionLaws.{some_is, none_is, is_sized, unsized, glue_prepend, sized_then}
-use Rattle.hex.specs.Hex.{nibble, pair_byte, unhex}
-use Rattle.hex.specs.Laws.{unhex_length}
+use Rattle.hex_digits.specs.Hex.{nibble, pair_byte, unhex}
+use Rattle.hex_digits.specs.Laws.{unhex_length}
 use Rattle.hex_values.specs.HexValues.{colon_pairs, pairs, mac, pre_shared_key_of, ssid}
 use Rattle.hex_values.specs.Answers.{mac_answer, pre_shared_key_answer, ssid_answer}
 

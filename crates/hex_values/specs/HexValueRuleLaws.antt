@@ -4,9 +4,9 @@ use Rattle.std.proofs.Common.{arith, ap, ◌∙◌, subst, eqb-true}
 use Rattle.std.proofs.Math.Option.{Option, some, some-injective, none-ne-some}
 use Rattle.text.specs.Options.{and_then, prepend}
 use Rattle.text.specs.OptionLaws.{only_some, then_some, is_sized, sized_then, prepend_some}
-use Rattle.hex.specs.Hex.{pair_byte, unhex}
-use Rattle.hex.specs.HexRules.{HexPair}
-use Rattle.hex.specs.HexRuleLaws.{pair_is, is_pair, unhex_writes, writes_unhex}
+use Rattle.hex_digits.specs.Hex.{pair_byte, unhex}
+use Rattle.hex_digits.specs.HexRules.{HexPair}
+use Rattle.hex_digits.specs.HexRuleLaws.{pair_is, is_pair, unhex_writes, writes_unhex}
 use Rattle.hex_values.specs.HexValues.{colon_pairs, pairs, mac, pre_shared_key_of, ssid}
 use Rattle.hex_values.specs.HexValueRules.{ColonPairs, last, next, MacIs, PreSharedKeyIs, SsidIs}
 

@@ -1,7 +1,7 @@
 -- Values in hex, said of the bytes: `HexValueRuleLaws` shows that `mac`, `pre_shared_key_of` and `ssid` keep to it.
 use Rattle.std.specs.Prelude.{ℕ, List, [], ◌∷◌}
 use Rattle.text.specs.Relations.{Sized}
-use Rattle.hex.specs.HexRules.{HexPair, Hex}
+use Rattle.hex_digits.specs.HexRules.{HexPair, Hex}
 
 -- pairs of hex digits with colons between, and the bytes that they write
 pub data ColonPairs : List ℕ → List ℕ → Type 0 where

@@ -2,7 +2,7 @@
 use Rattle.std.specs.Prelude.{ℕ, List, [], ◌∷◌, eqb}
 use Rattle.std.proofs.Math.Option.{Option, none, some}
 use Rattle.text.specs.Options.{and_then, only, sized, prepend}
-use Rattle.hex.specs.Hex.{pair_byte, unhex}
+use Rattle.hex_digits.specs.Hex.{pair_byte, unhex}
 
 -- a colon and a pair, again and again
 unfoldable pub colon_pairs : List ℕ → Option (List ℕ)

@@ -5,8 +5,8 @@ use Rattle.std.proofs.Math.Option.{some}
 use Rattle.text.specs.Bytes.{is_byte}
 use Rattle.text.specs.Parts.{all}
 use Rattle.text.specs.OptionLaws.{is_sized, sized_then}
-use Rattle.hex.specs.Hex.{unhex, hex}
-use Rattle.hex.specs.Laws.{unhex_length, unhex_bytes, unhex_hex, hex_length}
+use Rattle.hex_digits.specs.Hex.{unhex, hex}
+use Rattle.hex_digits.specs.Laws.{unhex_length, unhex_bytes, unhex_hex, hex_length}
 use Rattle.hex_values.specs.HexValues.{pre_shared_key_of, ssid}
 
 pub pre_shared_key_size : (v : List ℕ) {k : List ℕ} → pre_shared_key_of v ≡ some k → (length k ≡ 32) × (all is_byte k ≡ true)

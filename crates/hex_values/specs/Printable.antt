@@ -1,7 +1,7 @@
 -- A MAC, a key and a network name in hex are printable, since hex digits and colons are.
 use Rattle.std.specs.Prelude.{ℕ, ◌≡◌, refl, List}
 use Rattle.text.specs.Printable.{Printable}
-use Rattle.hex.specs.Printable.{digit_printable, hex_printable}
+use Rattle.hex_digits.specs.Printable.{digit_printable, hex_printable}
 use Rattle.hex_values.specs.HexValueRules.{ColonPairs, last, next, MacIs, PreSharedKeyIs, SsidIs}
 
 pairs_printable : {s t : List ℕ} → ColonPairs s t → Printable s

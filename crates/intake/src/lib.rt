@@ -4,6 +4,8 @@
 // may have any length. `forms` tells whether a name line is a ConnMan file name while it comes in, `numbers` gives the service's
 // number, `keeping` takes the input part by part, `streams` reads all of it and writes answers. What is kept is in specs/Input,
 // and why it is enough in specs/Enough.
+#![tactic(auto)]
+
 pub mod forms;
 pub mod keeping;
 pub mod numbers;
@@ -11,7 +13,7 @@ pub mod streams;
 
 // How far a name line is "one or more letters or digits, then `.config`": no byte yet, letters and digits, these and some
 // bytes of `.config`, or something else.
-#[derive(Drop)]
+#[derive(Clone, Copy)]
 pub enum Form {
     Empty,
     Stem,
@@ -21,7 +23,7 @@ pub enum Form {
 
 // How much is kept of a name line and the file behind it: whether the line has ended, its bytes and form, and the bytes of the
 // file.
-#[derive(Drop)]
+#[derive(Clone, Copy)]
 pub struct NamedFile {
     pub ended: bool,
     pub name: usize,
@@ -30,7 +32,7 @@ pub struct NamedFile {
 }
 
 // How much is kept of an input: whether the number line has ended, its bytes, and what is kept behind it.
-#[derive(Drop)]
+#[derive(Clone, Copy)]
 pub struct Input {
     pub ended: bool,
     pub number: usize,
@@ -38,7 +40,7 @@ pub struct Input {
 }
 
 // How reading goes, and what is kept: whether it is over, and whether all that is asked for has come in.
-#[derive(Drop)]
+#[derive(Clone, Copy)]
 pub struct ReadInput {
     pub over: bool,
     pub whole: bool,
@@ -46,7 +48,7 @@ pub struct ReadInput {
 }
 
 // Where a part of the input is cut: what stands before `end` belongs to the line, and what stands from `from` on is behind it.
-#[derive(Drop)]
+#[derive(Clone, Copy)]
 pub struct Cut {
     pub end: usize,
     pub from: usize,

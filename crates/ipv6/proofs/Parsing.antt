@@ -15,7 +15,7 @@ use Rattle.text.specs.Options.{only}
 use Rattle.text.specs.Laws.{inside, over, is_other, not_other, lead_more, part_none, part_next, part_add, part_long}
 use Rattle.text.specs.Scans.{Stop, Scan}
 use Rattle.text.proofs.ScanLaws.{scan_none, scan_turn, scan_stop, scan_end, scan_then}
-use Rattle.hex.specs.Hex.{nibble}
+use Rattle.hex_digits.specs.Hex.{nibble}
 use Rattle.ipv6.specs.Ipv6.{hex_value, group}
 use Rattle.ipv6.specs.Answers.{group_answer}
 use Rattle.ipv6.specs.Places.{GroupAt}

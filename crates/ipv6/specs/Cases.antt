@@ -3,7 +3,7 @@ use Rattle.std.specs.Prelude.{◌≡◌, refl, List, [], ◌∷◌, map, ℕ}
 use Rattle.std.proofs.Math.Option.{Option, none, some}
 use Rattle.text.specs.Words.{word}
 use Rattle.text.specs.Options.{mapped}
-use Rattle.hex.specs.Hex.{nibble, hex_digit}
+use Rattle.hex_digits.specs.Hex.{nibble, hex_digit}
 use Rattle.addresses.specs.Addresses.{decimal_value, number, address}
 use Rattle.ipv6.specs.Ipv6.{hex_value, group, groups, side, halves, ipv6, groups_of, group_digits, longest, canonical}
 

@@ -8,8 +8,8 @@ use Rattle.text.specs.Bytes.{between, other, is_lower_hex}
 use Rattle.text.specs.Parts.{all}
 use Rattle.text.specs.Options.{only}
 use Rattle.text.specs.Laws.{is_other}
-use Rattle.hex.specs.Hex.{hex_digit}
-use Rattle.hex.specs.Laws.{nibble_digit, digit_lower}
+use Rattle.hex_digits.specs.Hex.{hex_digit}
+use Rattle.hex_digits.specs.Laws.{nibble_digit, digit_lower}
 use Rattle.ipv6.specs.Ipv6.{hex_value, group, group_digits}
 
 -- ---- one group

@@ -4,7 +4,7 @@ use Rattle.std.proofs.Math.Option.{Option, none, some}
 use Rattle.text.specs.Bytes.{between, is_lower_hex}
 use Rattle.text.specs.Parts.{pieces}
 use Rattle.text.specs.Options.{and_then, mapped, or_else, only, sized, glue}
-use Rattle.hex.specs.Hex.{nibble, hex_digit}
+use Rattle.hex_digits.specs.Hex.{nibble, hex_digit}
 use Rattle.addresses.specs.Addresses.{is_bytes, address}
 use Rattle.ipv6.specs.declared.Run.{Run}
 

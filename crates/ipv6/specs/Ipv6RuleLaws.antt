@@ -11,9 +11,9 @@ use Rattle.text.specs.RunLaws.{cons_nil}
 use Rattle.text.specs.Options.{and_then, mapped, or_else, only, sized, glue}
 use Rattle.text.specs.OptionLaws.{only_some, then_some, sized_is, is_sized, glue_some, glue_glue, glue_nil}
 use Rattle.text.specs.Laws.{inside, is_other, between_low, between_high}
-use Rattle.hex.specs.Hex.{nibble}
-use Rattle.hex.specs.HexRules.{HexDigit, decimal, lower, upper}
-use Rattle.hex.specs.HexRuleLaws.{digit_value, digit_small, value_digit}
+use Rattle.hex_digits.specs.Hex.{nibble}
+use Rattle.hex_digits.specs.HexRules.{HexDigit, decimal, lower, upper}
+use Rattle.hex_digits.specs.HexRuleLaws.{digit_value, digit_small, value_digit}
 use Rattle.addresses.specs.Addresses.{address}
 use Rattle.addresses.specs.AddressRuleLaws.{address_is, is_address_lem, address_undotted, some_address}
 use Rattle.ipv6.specs.Ipv6.{hex_value, group, group_bytes, is_last, groups, side, Halves, halves, spread, whole, ipv6}

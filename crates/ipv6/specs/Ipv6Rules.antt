@@ -3,7 +3,7 @@
 use Rattle.std.specs.Prelude.{ℕ, ◌+◌, ◌*◌, ◌≤◌, ◌<◌, ◌≡◌, List, [], ◌∷◌, ◌++◌, length, replicate}
 use Rattle.text.specs.Pieces.{Pieces}
 use Rattle.text.specs.Relations.{Sized, Pairwise}
-use Rattle.hex.specs.HexRules.{HexDigit}
+use Rattle.hex_digits.specs.HexRules.{HexDigit}
 use Rattle.addresses.specs.AddressRules.{AddressIs}
 
 -- ---- groups

@@ -7,8 +7,8 @@ use Rattle.text.specs.Bytes.{between}
 use Rattle.text.specs.Parts.{all}
 use Rattle.text.specs.Relations.{Sized, Pairwise}
 use Rattle.text.specs.Laws.{all_append, inside}
-use Rattle.hex.specs.HexRules.{HexDigit}
-use Rattle.hex.specs.HexRuleLaws.{digit_small}
+use Rattle.hex_digits.specs.HexRules.{HexDigit}
+use Rattle.hex_digits.specs.HexRuleLaws.{digit_small}
 use Rattle.addresses.specs.Laws.{bytes_each, are_bytes, address_bytes_lem}
 use Rattle.addresses.specs.AddressRuleLaws.{is_address_lem}
 use Rattle.ipv6.specs.Ipv6.{ipv6, is_ipv6}

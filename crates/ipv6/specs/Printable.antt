@@ -4,8 +4,8 @@ use Rattle.text.specs.Relations.{Each, Pairwise}
 use Rattle.text.specs.RelationLaws.{each_append}
 use Rattle.text.specs.Laws.{all_append}
 use Rattle.text.specs.Printable.{is_printable, Printable, pieces_printable}
-use Rattle.hex.specs.HexRules.{HexDigit}
-use Rattle.hex.specs.Printable.{digit_printable}
+use Rattle.hex_digits.specs.HexRules.{HexDigit}
+use Rattle.hex_digits.specs.Printable.{digit_printable}
 use Rattle.addresses.specs.Printable.{address_printable}
 use Rattle.ipv6.specs.Ipv6Rules.{GroupIs, GroupsAre, no_more, next, TailedAre, plain, dotted, Colons, nothing, some_pieces, Ipv6Is, full, compressed}
 

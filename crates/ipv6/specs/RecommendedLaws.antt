@@ -9,10 +9,10 @@ use Rattle.text.specs.Parts.{all, pieces}
 use Rattle.text.specs.PieceLaws.{pieces_only, pieces_split, pieces_text}
 use Rattle.text.specs.Relations.{Each}
 use Rattle.text.specs.Laws.{and_true, all_cons, all_other, pieces_some}
-use Rattle.hex.specs.Hex.{nibble, hex_digit}
-use Rattle.hex.specs.HexRules.{HexDigit}
-use Rattle.hex.specs.HexRuleLaws.{digit_value, digit_small}
-use Rattle.hex.specs.Laws.{nibble_digit, digit_nibble, digit_lower}
+use Rattle.hex_digits.specs.Hex.{nibble, hex_digit}
+use Rattle.hex_digits.specs.HexRules.{HexDigit}
+use Rattle.hex_digits.specs.HexRuleLaws.{digit_value, digit_small}
+use Rattle.hex_digits.specs.Laws.{nibble_digit, digit_nibble, digit_lower}
 use Rattle.addresses.specs.AddressRuleLaws.{is_address_lem, address_undotted}
 use Rattle.ipv6.specs.Ipv6.{halves, ipv6, is_ipv6, groups_of, group_digits, joined_groups, canonical}
 use Rattle.ipv6.specs.Ipv6Rules.{GroupIs, GroupsAre, no_more, next, TailedAre, plain, dotted, Colons, nothing, some_pieces, Ipv6Is, full, compressed}

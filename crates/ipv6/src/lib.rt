@@ -2,11 +2,13 @@
 //
 // `reading` reads a group, a side of "::" and an address, and `writing` writes them. The definitions are in specs/Ipv6;
 // specs/Ipv6Rules and specs/Recommended say the rules of the two papers once more, of the texts themselves.
+#![tactic(auto)]
+
 pub mod reading;
 pub mod writing;
 
 // A group and the end of its text, or a refusal, which holds 0.
-#[derive(Drop)]
+#[derive(Clone, Copy)]
 struct Group {
     end: usize,
     ok: bool,
@@ -14,7 +16,7 @@ struct Group {
 }
 
 // The bytes on one side of "::" with zeros behind them, or a refusal, which holds none.
-#[derive(Drop)]
+#[derive(Clone, Copy)]
 struct Side {
     ok: bool,
     len: usize,
@@ -22,14 +24,14 @@ struct Side {
 }
 
 // An address, or a refusal, which holds ::.
-#[derive(Drop)]
+#[derive(Clone, Copy)]
 pub struct Address {
     pub ok: bool,
     pub bytes: [u8; 16],
 }
 
 // A run of zero groups: the place of the first, and how many they are.
-#[derive(Drop)]
+#[derive(Clone, Copy)]
 struct Run {
     start: usize,
     len: usize,

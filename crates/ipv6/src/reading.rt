@@ -30,7 +30,7 @@ fn read_group(s: &[u8], at: usize) -> Group
     let mut i = at;
     while i < s.len() {
         let c = s[i];
-        let d = hex::digit_value(c);
+        let d = hex_digits::digit_value(c);
         if 16 <= d {
             if c == 58 {
                 return Group {

@@ -2,7 +2,7 @@
 ghost use Rattle.std.specs.Prelude.{◌≡◌, cond, [], ◌∷◌, suc, ◌+◌, ◌*◌, ◌/◌, ◌%◌, ◌≤◌, ◌<◌, eqb, length};
 ghost use Rattle.std.proofs.Math.Seq.{slice};
 ghost use Rattle.put.specs.Put.{Wrote};
-ghost use Rattle.hex.specs.Hex.{hex_digit};
+ghost use Rattle.hex_digits.specs.Hex.{hex_digit};
 ghost use Rattle.ipv6.specs.Ipv6.{groups_of, group_digits, colon_groups, joined_groups, longest, canonical};
 ghost use Rattle.ipv6.specs.Places.{longer};
 
@@ -67,8 +67,8 @@ fn put_two(out: &mut [u8], at: usize, b: u8) -> usize
     requires { at + 2 ≤ length out.old }
     ensures { Wrote (hex_digit (b / 16) ∷ hex_digit (b % 16) ∷ []) at out.old out.new result }
 {
-    out[at] = hex::hex_digit(b / 16);
-    out[at + 1] = hex::hex_digit(b % 16);
+    out[at] = hex_digits::hex_digit(b / 16);
+    out[at + 1] = hex_digits::hex_digit(b % 16);
     at + 2
 }
 
@@ -78,7 +78,7 @@ fn put_byte(out: &mut [u8], at: usize, b: u8) -> usize
     ensures { Wrote (group_digits b) at out.old out.new result }
 {
     if b < 16 {
-        return put::put_byte(out, at, hex::hex_digit(b));
+        return put::put_byte(out, at, hex_digits::hex_digit(b));
     }
     put_two(out, at, b)
 }

@@ -2,6 +2,8 @@
 //
 // This is request 2026-03's "ConnMan's IPv6 gains address/length with an optional gateway, iwd's group gains Address (length 128 if left
 // off)". The definitions are in specs/Ipv6Values, their layout in the types below in specs/Answers.
+#![tactic(auto)]
+
 ghost use Rattle.std.specs.Prelude.{◌≡◌, false, [], ◌∷◌};
 ghost use Rattle.std.proofs.Math.Option.{none};
 ghost use Rattle.text.specs.Parts.{pieces};
@@ -18,7 +20,7 @@ use text::scan::find_near;
 use text::words::equal;
 
 // ConnMan's IPv6. What the method does not use is zero.
-#[derive(Drop)]
+#[derive(Clone, Copy)]
 pub struct Ipv6 {
     pub ok: bool,
     pub method: Method,
@@ -29,7 +31,7 @@ pub struct Ipv6 {
 }
 
 // An address and its length, or a refusal, which holds zeros.
-#[derive(Drop)]
+#[derive(Clone, Copy)]
 pub struct WithLength {
     pub ok: bool,
     pub address: [u8; 16],

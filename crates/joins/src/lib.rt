@@ -3,6 +3,8 @@
 // The definitions are in specs/Joins; that a Passphrase line is never lost and that every record answered is well formed, in
 // specs/Saturday and specs/Answered. `parts` reads one part of a record each, by the rows of the table of places;
 // `joining` puts them together.
+#![tactic(auto)]
+
 pub mod joining;
 pub mod parts;
 
@@ -10,14 +12,14 @@ use records::{Credential, JoinRecord};
 use rules::Answer;
 
 // The answer, and the record where it is good; a refused answer's record is all zero.
-#[derive(Drop)]
+#[derive(Clone, Copy)]
 pub struct RecordAnswer {
     pub answer: Answer,
     pub record: JoinRecord,
 }
 
 // A passphrase, the first `length` of `bytes`, with zeros behind it; one that is absent is not ok, and zeros.
-#[derive(Drop)]
+#[derive(Clone, Copy)]
 pub struct Phrase {
     pub ok: bool,
     pub length: usize,
@@ -25,14 +27,14 @@ pub struct Phrase {
 }
 
 // A domain, the first `length` of `bytes`, with zeros behind it; one that is absent has length 0.
-#[derive(Drop)]
+#[derive(Clone, Copy)]
 pub struct Domain {
     pub length: usize,
     pub bytes: [u8; 253],
 }
 
 // A record's credential with its places.
-#[derive(Drop)]
+#[derive(Clone, Copy)]
 pub struct Login {
     pub credential: Credential,
     pub length: usize,
@@ -41,7 +43,7 @@ pub struct Login {
 }
 
 // The line for which a service has no record, if there is one.
-#[derive(Drop)]
+#[derive(Clone, Copy)]
 pub enum Hindrance {
     Nothing,
     At(usize),

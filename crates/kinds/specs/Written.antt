@@ -11,8 +11,8 @@ use Rattle.utf8.specs.Laws.{text_printable}
 use Rattle.escapes.specs.Escapes.{escape}
 use Rattle.escapes.specs.Laws.{unescape_escape, escape_line, escape_start}
 use Rattle.escapes.specs.TextLaws.{escape_text}
-use Rattle.hex.specs.Hex.{hex}
-use Rattle.hex.specs.Laws.{hex_lower}
+use Rattle.hex_digits.specs.Hex.{hex}
+use Rattle.hex_digits.specs.Laws.{hex_lower}
 use Rattle.addresses.specs.Addresses.{is_address, are_addresses, decimal, dotted, with_separators, listed, is_list_byte}
 use Rattle.addresses.specs.Laws.{are_cons}
 use Rattle.addresses.specs.Written.{decimal_digits, dotted_bytes, dotted_some, listed_bytes}

@@ -3,6 +3,8 @@
 // This is document 01's "Settings and their kinds". The readers of each kind are in the crates below, over a part of the
 // file that is indexed from zero; `judge` answers refusal 11 before refusal 12 and gives the value of a line. The definitions
 // are in specs/Kinds and specs/Typed, their layout in the types below in specs/Answers.
+#![tactic(auto)]
+
 pub mod judging;
 
 use addresses::Separator;
@@ -10,7 +12,7 @@ use named_words::{Word, WordList};
 use text::Place;
 
 // The kinds; a text has its least and greatest length.
-#[derive(Drop)]
+#[derive(Clone, Copy)]
 pub enum Kind {
     Flag,
     Named(WordList),
@@ -30,7 +32,7 @@ pub enum Kind {
 }
 
 // The value of a setting: yes or no, a mask's length, a named word, or where any other value stands.
-#[derive(Drop)]
+#[derive(Clone, Copy)]
 pub enum Value {
     Flag(bool),
     Mask(u8),
@@ -39,7 +41,7 @@ pub enum Value {
 }
 
 // A value that is good, whose text is broken (11), or that breaks its kind (12).
-#[derive(Drop)]
+#[derive(Clone, Copy)]
 pub enum Judgement {
     Good(Value),
     BrokenText,

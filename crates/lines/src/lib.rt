@@ -2,6 +2,8 @@
 //
 // This is document 01's "Lines, alike in both": one grammar for both dialects, which differ in the bytes of a key, in
 // where a value ends, and in `[@`. What a value means is not asked here.
+#![tactic(auto)]
+
 ghost use Rattle.std.specs.Prelude.{◌≡◌, ◌+◌, ◌≤◌, ◌<◌, length, drop};
 ghost use Rattle.lines.specs.Lines.{bracket_of, setting_of};
 ghost use Rattle.lines.specs.Forms.{Begins, ValueEnd, form_in, form_at};
@@ -9,7 +11,7 @@ ghost use Rattle.lines.specs.Forms.{Begins, ValueEnd, form_in, form_at};
 use text::{Class, Dialect, Place};
 
 // The rules that a line by itself can break: it is no line at all, an extension block's header, or no header.
-#[derive(Drop)]
+#[derive(Clone, Copy)]
 pub enum Break {
     Unrecognized,
     Extension,
@@ -17,7 +19,7 @@ pub enum Break {
 }
 
 // A line by the places in it: a header's name, a setting's key and its value.
-#[derive(Drop)]
+#[derive(Clone, Copy)]
 pub enum Form {
     Blank,
     Comment,

@@ -6,7 +6,7 @@ use Rattle.text.specs.Words.{word}
 use Rattle.text.specs.Worked.{shop}
 use Rattle.utf8.specs.Utf8.{follow, utf8_from, text}
 use Rattle.escapes.specs.Escapes.{unescape_from}
-use Rattle.hex.specs.Hex.{nibble, unhex}
+use Rattle.hex_digits.specs.Hex.{nibble, unhex}
 use Rattle.addresses.specs.Addresses.{decimal_value, number, address, prefix_length_of, length_up_to, mask_length, netmask, addresses}
 use Rattle.named_words.specs.NamedWords.{flag, word_of}
 use Rattle.connman_ipv4.specs.ConnmanIpv4.{ipv4}

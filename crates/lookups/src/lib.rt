@@ -3,6 +3,8 @@
 // None of the public functions has a `requires`. `number` and `line` are result fields, set on every answer: document 01's
 // number, and the line of the refusal or of the setting, 0 where it is absent. A refusal and an absent setting hand back
 // the empty part. `by_place` has the same lookups by place, and these hand back the part that stands there.
+#![tactic(auto)]
+
 pub mod by_place;
 
 ghost use Rattle.std.specs.Prelude.{◌≡◌, ◌≤◌, length};
@@ -18,7 +20,7 @@ use rules::Group;
 use text::Dialect;
 
 // Where the value of a string setting stands in the file, document 01's number, and the line of the refusal or of the setting.
-#[derive(Drop)]
+#[derive(Clone, Copy)]
 pub struct TextPlace {
     pub number: u8,
     pub line: usize,

@@ -7,7 +7,7 @@ use Rattle.text.specs.Words.{word}
 use Rattle.text.specs.Worked.{shop, desk}
 use Rattle.utf8.specs.Utf8.{follow, utf8_from, text}
 use Rattle.escapes.specs.Escapes.{unescape_from, escape_from}
-use Rattle.hex.specs.Hex.{nibble, unhex, hex_digit}
+use Rattle.hex_digits.specs.Hex.{nibble, unhex, hex_digit}
 use Rattle.addresses.specs.Addresses.{decimal_value, number, address, prefix_length_of, length_up_to, mask_length, netmask, addresses, decimal, dotted, mask_bytes}
 use Rattle.named_words.specs.NamedWords.{flag, word_of}
 use Rattle.connman_ipv4.specs.ConnmanIpv4.{ipv4}

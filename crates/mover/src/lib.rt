@@ -2,6 +2,8 @@
 //
 // The definition is in specs/Moves, demand 3 in specs/Demand and its theorem in specs/Theorem. `unplaced` finds the earliest
 // line that iwd has no place for.
+#![tactic(auto)]
+
 pub mod unplaced;
 
 ghost use Rattle.values.specs.Rows.{RowOf};

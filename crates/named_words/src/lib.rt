@@ -2,6 +2,8 @@
 //
 // This is what document 01's "Settings and their kinds" gives as bool, and its lists of words. A reader gives the value,
 // or says that it is broken. The definitions are in specs/NamedWords, their layout in the types below in specs/Answers.
+#![tactic(auto)]
+
 ghost use Rattle.std.specs.Prelude.{◌≡◌};
 ghost use Rattle.named_words.specs.NamedWords.{flag, word_of};
 ghost use Rattle.named_words.specs.Answers.{yes_no, named_word};
@@ -10,7 +12,7 @@ use text::Dialect;
 use text::words::equal;
 
 // The named words.
-#[derive(Drop)]
+#[derive(Clone, Copy)]
 pub enum Word {
     Wifi,
     Ethernet,
@@ -24,20 +26,20 @@ pub enum Word {
 }
 
 // The lists of named words.
-#[derive(Drop)]
+#[derive(Clone, Copy)]
 pub enum WordList {
     ServiceType,
     Privacy,
     Security,
 }
 
-#[derive(Drop)]
+#[derive(Clone, Copy)]
 pub enum YesNo {
     Is(bool),
     Broken,
 }
 
-#[derive(Drop)]
+#[derive(Clone, Copy)]
 pub enum NamedWord {
     Is(Word),
     Broken,

@@ -17,8 +17,8 @@ use Rattle.text.specs.Options.{is_some, and_then, only, sized, or_empty, ReadsUp
 use Rattle.text.specs.Laws.{inside, over, part_some}
 use Rattle.text.specs.Scans.{Stop}
 use Rattle.text.proofs.ScanLaws.{stop_front, stop_after}
-use Rattle.hex.specs.Hex.{unhex, hex}
-use Rattle.hex.specs.Laws.{hex_length, unhex_length}
+use Rattle.hex_digits.specs.Hex.{unhex, hex}
+use Rattle.hex_digits.specs.Laws.{hex_length, unhex_length}
 use Rattle.names.specs.declared.Suffix.{Suffix}
 use Rattle.names.specs.declared.Suffix.TheVariants.{Open, Psk}
 use Rattle.names.specs.declared.IwdName.{IwdName}

@@ -4,7 +4,7 @@ use Rattle.std.proofs.Math.Option.{Option, none}
 use Prim.Native.String.{String}
 use Rattle.text.specs.Bytes.{is_plain}
 use Rattle.text.specs.Words.{word}
-use Rattle.hex.specs.Hex.{nibble, unhex, hex_digit, hex}
+use Rattle.hex_digits.specs.Hex.{nibble, unhex, hex_digit, hex}
 use Rattle.names.specs.declared.Suffix.TheVariants.{Open, Psk}
 use Rattle.names.specs.Names.{stem, name_of, Network, network, network_of, file_name, connman_name}
 

@@ -8,8 +8,8 @@ use Rattle.text.specs.Parts.{all, lead, front, after}
 use Rattle.text.specs.Words.{same, named}
 use Rattle.text.specs.Options.{and_then, only}
 use Rattle.text.specs.Laws.{inside, over, between_low, between_high, pass_other, all_cons, all_weaken, all_other, front_append, after_append, same_eq}
-use Rattle.hex.specs.Hex.{unhex, hex}
-use Rattle.hex.specs.Laws.{unhex_hex, hex_unhex, hex_lower, hex_length, unhex_bytes}
+use Rattle.hex_digits.specs.Hex.{unhex, hex}
+use Rattle.hex_digits.specs.Laws.{unhex_hex, hex_unhex, hex_lower, hex_length, unhex_bytes}
 use Rattle.names.specs.declared.Suffix.{Suffix}
 use Rattle.names.specs.declared.Suffix.TheVariants.{Open, Psk}
 use Rattle.names.specs.Names.{NetworkName, stem, unplain, hex_name, name_of, suffix_of, suffixes, Network, network, network_of, file_name, name_max}

@@ -5,7 +5,7 @@ use Rattle.text.specs.Bytes.{is_byte, other, is_alphanumeric, is_plain, is_lower
 use Rattle.text.specs.Parts.{all, front, after, empty, padded}
 use Rattle.text.specs.Words.{word, same, named}
 use Rattle.text.specs.Options.{and_then, only, sized}
-use Rattle.hex.specs.Hex.{unhex, hex}
+use Rattle.hex_digits.specs.Hex.{unhex, hex}
 use Rattle.names.specs.declared.Suffix.{Suffix}
 use Rattle.names.specs.declared.Suffix.TheVariants.{Open, Psk}
 use Rattle.names.specs.declared.IwdName.{IwdName}

@@ -2,6 +2,8 @@
 //
 // This is document 01's section "File names"; the definitions are in specs/Names, the laws (one network and kind has one
 // file name) in specs/Laws. `dialects` tells which dialect a name asks for.
+#![tactic(auto)]
+
 pub mod dialects;
 
 ghost use Rattle.std.specs.Prelude.{◌≡◌, ◌+◌, ◌≤◌, length};
@@ -13,7 +15,7 @@ ghost use Rattle.names.specs.Names.{stem, hex_name, name_of, name_answer, suffix
 use text::Class;
 
 // The kinds of iwd file.
-#[derive(Drop)]
+#[derive(Clone, Copy)]
 pub enum Suffix {
     Open,
     Psk,
@@ -21,7 +23,7 @@ pub enum Suffix {
 
 // The network of an iwd file name: its name is the first `length` of `bytes`, with zeros behind it. A refused one is not
 // ok, Open, and zeros.
-#[derive(Drop)]
+#[derive(Clone, Copy)]
 pub struct IwdName {
     pub ok: bool,
     pub suffix: Suffix,
@@ -50,10 +52,10 @@ fn hex_name(h: &[u8], suffix: Suffix) -> IwdName
     if !text::scan::all_of(h, Class::LowerHex) {
         return refused();
     }
-    if !hex::is_hex(h) {
+    if !hex_digits::is_hex(h) {
         return refused();
     }
-    let bytes = hex::unhexed_32(h);
+    let bytes = hex_digits::unhexed_32(h);
     let length = h.len() / 2;
     if text::scan::all_of(&bytes[0..length], Class::Plain) {
         return refused();
@@ -145,7 +147,7 @@ fn put_stem(out: &mut [u8], at: usize, name: &[u8]) -> usize
         return put::put_text(out, at, name);
     }
     let behind = put::put_byte(out, at, 61);
-    hex::put_hex(out, behind, name)
+    hex_digits::put_hex(out, behind, name)
 }
 
 fn put_suffix(out: &mut [u8], at: usize, suffix: Suffix) -> usize

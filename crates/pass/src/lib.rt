@@ -2,6 +2,8 @@
 //
 // The pass stops at the first faulty line; after the last line the groups are judged as a whole. What stands where is left
 // in the lent table of places (`places::store`).
+#![tactic(auto)]
+
 ghost use Rattle.std.specs.Prelude.{◌≡◌, ◌≤◌, length, replicate};
 ghost use Rattle.names.specs.Names.{network_of, connman_name};
 ghost use Rattle.rules.specs.Reading.{name_in};
@@ -16,7 +18,7 @@ use text::Dialect;
 use verdicts::FileKind;
 
 // What is known after every line, or the first faulty line.
-#[derive(Drop)]
+#[derive(Clone, Copy)]
 pub enum Walked {
     Through(State),
     Stopped(Refusal, usize),

@@ -3,6 +3,8 @@
 // The pass over a file leaves behind a few scalars (`State`) and a lent table (`store`): a row for each group and each service
 // (`rows`), by the keys' places in it (`keys`), with what each value is (`value_codes`), and the places of the services' names
 // (`services`).
+#![tactic(auto)]
+
 pub mod keys;
 pub mod rows;
 pub mod services;
@@ -43,7 +45,7 @@ pub const IPV6_ROW: usize = 3 * ROW;
 pub const NAMES: usize = 9 * ROW;
 
 // The keys that document 01 lists, by group.
-#[derive(Drop)]
+#[derive(Clone, Copy)]
 pub enum KeyName {
     AutoConnect,
     IwdHidden,
@@ -80,14 +82,14 @@ pub enum KeyName {
 }
 
 // The group in force, and where its row starts.
-#[derive(Drop)]
+#[derive(Clone, Copy)]
 pub enum Current {
     Outside,
     In(Group, usize),
 }
 
 // What is known of the lines before, beside the table of places.
-#[derive(Drop)]
+#[derive(Clone, Copy)]
 pub struct State {
     pub current: Current,
     pub services: usize,

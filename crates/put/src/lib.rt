@@ -2,6 +2,8 @@
 //
 // A writer is given a place in the buffer and answers the place behind what it wrote; every other byte stays as it was
 // (specs/Put). Writers in turn make one writer of the texts together (specs/Laws, `then`).
+#![tactic(auto)]
+
 ghost use Rattle.std.specs.Prelude.{◌≡◌, [], ◌∷◌, ◌+◌, ◌≤◌, ◌<◌, length};
 ghost use Rattle.text.specs.Parts.{padded};
 ghost use Rattle.put.specs.Put.{Wrote};

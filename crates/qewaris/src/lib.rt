@@ -4,6 +4,8 @@
 // `typed` gives its settings, `strings` the bytes of its strings, `joined` its join record, `is_well_formed` judges a record,
 // and `files` writes the iwd file of a record or of a ConnMan service. What they promise together is in specs/Demands.
 // `exports` has the same for programs in C and Rust.
+#![tactic(auto)]
+
 pub mod exports;
 pub mod files;
 pub mod joined;

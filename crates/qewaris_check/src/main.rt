@@ -2,6 +2,8 @@
 //
 // The line is `accepted` and the number of settings, or `refused` with the number and the line. Name and file may have any
 // length. Where reading fails nothing is written: no file is judged that was cut off.
+#![tactic(auto)]
+
 ghost use Rattle.std.specs.Prelude.{◌≡◌, List, ℕ, ◌≤◌, length};
 ghost use Rattle.names.specs.Dialects.{dialect_of};
 ghost use Rattle.rules.specs.Reading.{reading};

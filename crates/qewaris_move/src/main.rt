@@ -3,6 +3,8 @@
 //
 // The line is `refused` with the number and the line. Each part of the input may have any length. Where reading fails nothing
 // is written: no file is judged that was cut off.
+#![tactic(auto)]
+
 ghost use Rattle.std.specs.Prelude.{List, ℕ, ◌≤◌, ◌≡◌, length};
 ghost use Rattle.writer.specs.Writing.{Writes};
 ghost use Rattle.mover.specs.Moves.{moving};

@@ -1,6 +1,8 @@
 // The round trip of the code: `reads_back` writes a record, reads the bytes back and compares, and finds them the same.
 //
 // What it answers is in specs/Back; that it does is `round_trip`'s theorem.
+#![tactic(auto)]
+
 ghost use Rattle.std.specs.Prelude.{◌≡◌};
 ghost use Rattle.reading_back.specs.Back.{read_same, RoundTrips};
 
@@ -9,7 +11,7 @@ use rules::Answer;
 use writer::Written;
 
 // What was written, and whether it reads back as the record that was written.
-#[derive(Drop)]
+#[derive(Clone, Copy)]
 pub struct Back {
     pub written: Written,
     pub same: bool,

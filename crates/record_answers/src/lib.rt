@@ -1,6 +1,8 @@
 // The join record of an iwd file, and of a ConnMan service by its number, as a caller is answered.
 //
 // What is answered is said in `joins` specs/Joins. That a refused file is refused by every entry point alike, in specs/Refused.
+#![tactic(auto)]
+
 ghost use Rattle.std.specs.Prelude.{◌≡◌};
 ghost use Rattle.values.specs.Rows.{RowOf};
 ghost use Rattle.records.specs.Record.{laid, laid_servers};

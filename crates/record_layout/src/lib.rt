@@ -2,6 +2,8 @@
 //
 // `include/qewaris.h` has the same struct. A record is bytes only, and its name servers are 16 of them. The definitions are in
 // specs/Records; that what is handed out comes back, and what is brought in goes out again, in specs/Laws.
+#![tactic(auto)]
+
 ghost use Rattle.std.specs.Prelude.{◌≡◌};
 ghost use Rattle.record_layout.specs.Records.{sixteen, fours, FitsBytes, record_at, known, record_in};
 
@@ -9,7 +11,7 @@ use records::JoinRecord;
 
 // A join record with its name servers: bytes only, so that it has no padding.
 #[repr(C)]
-#[derive(Drop)]
+#[derive(Clone, Copy)]
 pub struct CRecord {
     pub name_len: u8,
     pub name: [u8; 32],

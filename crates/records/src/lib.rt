@@ -2,12 +2,14 @@
 //
 // This is document 01's section "The join record". The abstract record and its layout are in specs/Record, what is well
 // formed in specs/Formed, and that the two agree in specs/Laws.
+#![tactic(auto)]
+
 ghost use Rattle.std.specs.Prelude.{◌≡◌, ◌≤◌, length};
 ghost use Rattle.records.specs.Formed.{zeros, held, passphrase_formed, credential_formed, unaddressed, addressed, addressing_formed, ipv4_formed, ipv6_formed, servers_formed, domain_formed, formed};
 
 use addressing::Method;
 
-#[derive(Drop)]
+#[derive(Clone, Copy)]
 pub enum Credential {
     None,
     Passphrase,
@@ -16,7 +18,7 @@ pub enum Credential {
 
 // The name, the passphrase and the domain are the first `.._len` bytes of their arrays. What is not in use is zero. The
 // name servers, the first `server_count` of four, stand beside the record.
-#[derive(Drop)]
+#[derive(Clone, Copy)]
 pub struct JoinRecord {
     pub name_len: usize,
     pub name: [u8; 32],

@@ -10,7 +10,7 @@ use Rattle.text.specs.Words.{word}
 use Rattle.put.specs.Put.{Wrote}
 use Rattle.put.specs.Laws.{then, room_first, room_then}
 use Rattle.escapes.specs.Escapes.{escape}
-use Rattle.hex.specs.Hex.{hex}
+use Rattle.hex_digits.specs.Hex.{hex}
 use Rattle.addresses.specs.Addresses.{decimal}
 use Rattle.addressing.specs.Addressing.{Addressing, static, gateway_if, addressing_in}
 use Rattle.addressing.specs.declared.Method.{Method}

@@ -2,7 +2,7 @@
 ghost use Rattle.std.specs.Prelude.{◌≡◌, [], ◌∷◌, ◌++◌, ◌+◌, ◌≤◌, length, take};
 ghost use Rattle.text.specs.Words.{word};
 ghost use Rattle.escapes.specs.Escapes.{escape};
-ghost use Rattle.hex.specs.Hex.{hex};
+ghost use Rattle.hex_digits.specs.Hex.{hex};
 ghost use Rattle.addresses.specs.Addresses.{dotted};
 ghost use Rattle.ipv6.specs.Ipv6.{canonical};
 ghost use Rattle.put.specs.Put.{Wrote};
@@ -31,7 +31,7 @@ pub fn put_key(out: &mut [u8], at: usize, front: &[u8], k: &[u8]) -> usize
     ensures { Wrote (front.now ++ hex k.now ++ 10 ∷ []) at out.old out.new result }
 {
     let p = put::put_text(out, at, front);
-    let q = hex::put_hex(out, p, k);
+    let q = hex_digits::put_hex(out, p, k);
     put::put_byte(out, q, 10)
 }
 

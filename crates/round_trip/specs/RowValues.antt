@@ -10,7 +10,7 @@ use Rattle.text.specs.Laws.{inside}
 use Rattle.text.specs.declared.Dialect.TheVariants.{Iwd}
 use Rattle.escapes.specs.Escapes.{unescape, escape}
 use Rattle.escapes.specs.Laws.{unescape_escape}
-use Rattle.hex.specs.Hex.{hex}
+use Rattle.hex_digits.specs.Hex.{hex}
 use Rattle.addresses.specs.Addresses.{is_address, mask_bytes, addresses, dotted, listed}
 use Rattle.addresses.specs.Written.{address_dotted, mask_address, netmask_dotted, addresses_listed}
 use Rattle.addresses.specs.declared.Separator.TheVariants.{Spaces}

@@ -2,9 +2,11 @@
 // answers. Crate `tables` has the tables in code.
 //
 // This is document 01's "The numbers a caller sees", its lists of groups and keys, and "Rules over a group".
+#![tactic(auto)]
+
 
 // The refusals, in the order of document 01's numbers 1 to 19.
-#[derive(Drop)]
+#[derive(Clone, Copy)]
 pub enum Refusal {
     Size,
     FileName,
@@ -28,21 +30,21 @@ pub enum Refusal {
 }
 
 // What a reading answers: the numbers of settings and services, or the refusal and its line.
-#[derive(Drop)]
+#[derive(Clone, Copy)]
 pub enum Reading {
     Accepted(usize, usize),
     Refused(Refusal, usize),
 }
 
 // What else is asked of a file: it is answered, or the refusal and its line.
-#[derive(Drop)]
+#[derive(Clone, Copy)]
 pub enum Answer {
     Good,
     Refused(Refusal, usize),
 }
 
 // The groups: iwd's four, and ConnMan's two.
-#[derive(Drop)]
+#[derive(Clone, Copy)]
 pub enum Group {
     Settings,
     Security,

@@ -3,6 +3,8 @@
 //
 // A string gives its line here; its bytes are looked up. The name servers stand beside the settings, in an array that the
 // caller lends.
+#![tactic(auto)]
+
 pub mod iwd;
 pub mod rows;
 pub mod services;
@@ -16,7 +18,7 @@ use rules::Answer;
 use values::{Choice, Chosen};
 
 // iwd's group Settings.
-#[derive(Drop)]
+#[derive(Clone, Copy)]
 pub struct GeneralSettings {
     pub auto_connect: Choice,
     pub hidden: Choice,
@@ -25,14 +27,14 @@ pub struct GeneralSettings {
 }
 
 // iwd's group Security.
-#[derive(Drop)]
+#[derive(Clone, Copy)]
 pub struct SecuritySettings {
     pub passphrase: usize,
     pub pre_shared_key: PreSharedKey,
 }
 
 // iwd's group IPv4.
-#[derive(Drop)]
+#[derive(Clone, Copy)]
 pub struct Ipv4Settings {
     pub address: Address,
     pub gateway: Address,
@@ -44,7 +46,7 @@ pub struct Ipv4Settings {
 }
 
 // iwd's group IPv6.
-#[derive(Drop)]
+#[derive(Clone, Copy)]
 pub struct Ipv6Settings {
     pub enabled: Choice,
     pub address: WithLength,
@@ -52,7 +54,7 @@ pub struct Ipv6Settings {
 }
 
 // The settings of an iwd file, by its groups. An absent address, MAC or key is not ok; an absent mask, list or string is 0.
-#[derive(Drop)]
+#[derive(Clone, Copy)]
 pub struct IwdSettings {
     pub general: GeneralSettings,
     pub security: SecuritySettings,
@@ -61,7 +63,7 @@ pub struct IwdSettings {
 }
 
 // Which network a ConnMan service joins, and how.
-#[derive(Drop)]
+#[derive(Clone, Copy)]
 pub struct NetworkSettings {
     pub service_type: Chosen,
     pub name: usize,
@@ -72,7 +74,7 @@ pub struct NetworkSettings {
 }
 
 // The addresses of a ConnMan service. The entries of a list stand at places in the file.
-#[derive(Drop)]
+#[derive(Clone, Copy)]
 pub struct AddressSettings {
     pub ipv4: Ipv4,
     pub ipv6: Ipv6,
@@ -85,21 +87,21 @@ pub struct AddressSettings {
 }
 
 // The settings of a ConnMan service; what is absent is as in iwd's.
-#[derive(Drop)]
+#[derive(Clone, Copy)]
 pub struct ServiceSettings {
     pub network: NetworkSettings,
     pub addresses: AddressSettings,
 }
 
 // The answer and the settings of an iwd file; where it is refused, all are absent.
-#[derive(Drop)]
+#[derive(Clone, Copy)]
 pub struct IwdAnswer {
     pub answer: Answer,
     pub settings: IwdSettings,
 }
 
 // The answer and the settings of a service; where it is refused, all are absent.
-#[derive(Drop)]
+#[derive(Clone, Copy)]
 pub struct ServiceAnswer {
     pub answer: Answer,
     pub settings: ServiceSettings,

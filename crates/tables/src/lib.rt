@@ -2,6 +2,8 @@
 // answered to a question about a file that was read.
 //
 // This is document 01's lists under "Settings and their kinds" and its table of numbers; what they say is in crate `rules`.
+#![tactic(auto)]
+
 pub mod asking;
 pub mod groups;
 pub mod key_kinds;
@@ -12,21 +14,21 @@ use kinds::Kind;
 use rules::Group;
 
 // The group that a header names, or that it names none.
-#[derive(Drop)]
+#[derive(Clone, Copy)]
 pub enum Named {
     Is(Group),
     Unknown,
 }
 
 // The kind of the key at a place, or that there is none.
-#[derive(Drop)]
+#[derive(Clone, Copy)]
 pub enum KindAt {
     Is(Kind),
     Unknown,
 }
 
 // A key by its place among the keys of its group, from 1, and its kind.
-#[derive(Drop)]
+#[derive(Clone, Copy)]
 pub enum Listed {
     Is(usize, Kind),
     Unknown,

@@ -2,27 +2,29 @@
 //
 // This is what document 01 says of bytes under "Lines, alike in both". `classes` judges one byte, by `table` or by comparing,
 // `scan` finds where a run of bytes ends, `words` compares. The definitions are in specs/Bytes, specs/Parts and specs/Words.
+#![tactic(auto)]
+
 pub mod classes;
 pub mod scan;
 mod table;
 pub mod words;
 
 // The two kinds of file.
-#[derive(Drop)]
+#[derive(Clone, Copy)]
 pub enum Dialect {
     Iwd,
     ConnMan,
 }
 
 // A part of a slice, by its start and its end.
-#[derive(Drop)]
+#[derive(Clone, Copy)]
 pub struct Place {
     pub start: usize,
     pub end: usize,
 }
 
 // The classes of bytes that a run is made of; blanks and key bytes have a scan of their own.
-#[derive(Drop)]
+#[derive(Clone, Copy)]
 pub enum Class {
     Space,
     Header,

@@ -1,7 +1,7 @@
 -- Laws of UTF-8 and of texts: what is written piece by piece, and printable ASCII.
 use Rattle.std.specs.Prelude.{◌≡◌, refl, Bool, true, false, ◌&&◌, List, [], ◌∷◌, ◌++◌, ℕ, ◌≤◌}
 use Rattle.std.proofs.lemmas.Bool.{false≢true}
-use Rattle.std.proofs.Common.{arith, ne_eqb}
+use Rattle.std.proofs.Common.{ap, arith, ne_eqb}
 use Rattle.text.specs.Bytes.{between}
 use Rattle.text.specs.Parts.{all, after}
 use Rattle.text.specs.Laws.{and_true, all_cons, inside, between_low, between_high}
@@ -26,7 +26,7 @@ follow_ascii b h = rw (inside {x = b} 0 127 (omega arith) h)
 
 pub utf8_printable : (b : ℕ) (s : List ℕ) → is_printable b ≡ true → utf8 (b ∷ s) ≡ utf8 s
 unfolding utf8_from
-utf8_printable b s h = rw (follow_ascii b (omega (arith, between_high {x = b} 32 126 h)))
+utf8_printable b s h = ap (λ (rs : List Range). utf8_from rs s) (follow_ascii b (omega (arith, between_high {x = b} 32 126 h)))
 
 pub printable_text : (line : Bool) (b : ℕ) → is_printable b ≡ true → text_byte line b ≡ true
 printable_text line b h = go line

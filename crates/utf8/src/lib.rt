@@ -1,10 +1,12 @@
 // Well-formed UTF-8, and the two texts that document 01 asks for: of a value in a file, and of a record.
+#![tactic(auto)]
+
 ghost use Rattle.std.specs.Prelude.{◌≡◌, ◌≤◌, length};
 ghost use Rattle.utf8.specs.Utf8.{follow, text_byte, text, value_text, record_text};
 ghost use Rattle.utf8.specs.Due.{ranges, StepsOver};
 
 // The bytes due after a first byte: how many more, and the range of the next. Each one after it is 128 to 191.
-#[derive(Drop)]
+#[derive(Clone, Copy)]
 pub struct Due {
     pub more: u8,
     pub low: u8,

@@ -2,6 +2,8 @@
 // section "Settings and their kinds".
 //
 // A slot that keeps nothing has no bytes, and no kind reads a value from none.
+#![tactic(auto)]
+
 ghost use Rattle.std.specs.Prelude.{◌≡◌, length};
 ghost use Rattle.addresses.specs.Addresses.{address, addresses, address_answer, rows};
 ghost use Rattle.ipv6.specs.Ipv6.{ipv6};
@@ -29,7 +31,7 @@ use places::rows::{code_of, start_of, value_of};
 use places::{KeyName, Places};
 
 // A yes/no that may be absent.
-#[derive(Drop)]
+#[derive(Clone, Copy)]
 pub enum Choice {
     Absent,
     No,
@@ -37,7 +39,7 @@ pub enum Choice {
 }
 
 // A named word that may be absent.
-#[derive(Drop)]
+#[derive(Clone, Copy)]
 pub enum Chosen {
     Absent,
     Is(Word),

@@ -2,6 +2,8 @@
 //
 // What is answered and what the buffers hold is in specs/Writing; the text itself is crate `written`. How long it is is known
 // before the first byte is written.
+#![tactic(auto)]
+
 
 ghost use Rattle.std.specs.Prelude.{◌≡◌, true};
 ghost use Rattle.records.specs.Record.{joined};
@@ -14,7 +16,7 @@ use rules::{Answer, Refusal};
 use written::parts;
 
 // The answer, and how many bytes are new in the buffers of the name and of the file; 0 where nothing was written.
-#[derive(Drop)]
+#[derive(Clone, Copy)]
 pub struct Written {
     pub answer: Answer,
     pub name_len: usize,

@@ -6,7 +6,7 @@ use Rattle.text.specs.Bytes.{is_plain}
 use Rattle.text.specs.Words.{word}
 use Rattle.text.specs.Worked.{desk}
 use Rattle.escapes.specs.Escapes.{escape_from}
-use Rattle.hex.specs.Hex.{hex_digit}
+use Rattle.hex_digits.specs.Hex.{hex_digit}
 use Rattle.addresses.specs.Addresses.{decimal, dotted, mask_bytes}
 use Rattle.addressing.specs.Addressing.{Addressing, auto, off, static}
 use Rattle.ipv6.specs.Ipv6.{group_digits, longest, canonical}

@@ -4,7 +4,7 @@ use Rattle.std.proofs.Common.{arith}
 use Rattle.text.specs.Bytes.{is_plain}
 use Rattle.utf8.specs.Utf8.{follow, utf8_from, text}
 use Rattle.escapes.specs.Escapes.{escape_from}
-use Rattle.hex.specs.Hex.{hex}
+use Rattle.hex_digits.specs.Hex.{hex}
 use Rattle.addresses.specs.Addresses.{decimal, dotted, mask_bytes}
 use Rattle.ipv6.specs.Ipv6.{group_digits, longest, canonical}
 use Rattle.names.specs.Names.{NetworkName, stem, name_max}

@@ -6,7 +6,7 @@ use Rattle.text.specs.OptionLaws.{IfSome}
 use Rattle.text.specs.Words.{word}
 use Rattle.text.specs.declared.Dialect.TheVariants.{Iwd}
 use Rattle.escapes.specs.Laws.{escape_length}
-use Rattle.hex.specs.Laws.{hex_length}
+use Rattle.hex_digits.specs.Laws.{hex_length}
 use Rattle.addresses.specs.Addresses.{decimal, dotted, mask_bytes}
 use Rattle.addresses.specs.Laws.{bytes_length}
 use Rattle.addresses.specs.Sizes.{decimal_short, dotted_short, listed_short}

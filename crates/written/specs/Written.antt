@@ -4,7 +4,7 @@ use Rattle.std.proofs.Math.Option.{Option, none, some}
 use Rattle.text.specs.Words.{word}
 use Rattle.text.specs.declared.Dialect.TheVariants as D
 use Rattle.escapes.specs.Escapes.{escape}
-use Rattle.hex.specs.Hex.{hex}
+use Rattle.hex_digits.specs.Hex.{hex}
 use Rattle.addresses.specs.Addresses.{decimal, dotted, mask_bytes, listed}
 use Rattle.addresses.specs.declared.Separator.TheVariants.{Spaces}
 use Rattle.addressing.specs.Addressing.{Addressing, auto, off, static}

@@ -5,8 +5,8 @@ use lib.ListN.{length}
 use Rattle.text.specs.Words.{word}
 use Rattle.escapes.specs.Escapes.{escape}
 use Rattle.escapes.specs.Laws.{escape_length}
-use Rattle.hex.specs.Hex.{hex}
-use Rattle.hex.specs.Laws.{hex_length}
+use Rattle.hex_digits.specs.Hex.{hex}
+use Rattle.hex_digits.specs.Laws.{hex_length}
 use Rattle.rendering.proofs.ExactSizes.{line_size}
 use Rattle.rendering.proofs.GroupTexts.{security_none, security_passphrase, security_key}
 use borrow.Author.Rules.{rules}

@@ -1,0 +1,13 @@
+use Rattle.escapes.proofs.Loops.{Sizing, sizing_first, sizing_few, sizing_short, sizing_bad, sizing_turn, sizing_end}
+use native.Mathlib.Omega.{arith}
+use Rattle.text.proofs.ScanLaws.{stop_low}
+use lib.ListN.{length}
+use Prim.Native.Nat.{◌-◌}
+use borrow.Author.Rules.{rules}
+use Rattle.escapes.proofs.string_len.Given as goal
+
+abbrev pub invariant-loop-i : goal.invariant-loop-i
+invariant-loop-i l = Sizing l.s l.i l.less
+
+abbrev pub decreases-loop-i : goal.decreases-loop-i
+decreases-loop-i l = length l.s - l.i

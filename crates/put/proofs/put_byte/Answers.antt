@@ -1,0 +1,6 @@
+use Rattle.put.specs.Laws.{wrote_byte}
+use borrow.Author.Rules.{rules}
+use Rattle.put.proofs.put_byte.Goals as goal
+
+pub returns : goal.returns
+returns c = wrote_byte _ _ _ c.requires

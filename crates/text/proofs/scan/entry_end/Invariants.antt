@@ -1,0 +1,15 @@
+use Prim.Native.Nat.{◌-◌}
+use mathlib.Core.Path.{refl}
+use lib.ListN.{length}
+use Rattle.text.specs.Bytes.{is_entry_byte}
+use Rattle.text.specs.Scans.{Scan}
+use Rattle.text.specs.Laws.{above_comma}
+use Rattle.text.proofs.ScanLaws.{scan_none, scan_on, scan_then, scan_as}
+use borrow.Author.Rules.{rules}
+use Rattle.text.proofs.scan.entry_end.Given as goal
+
+abbrev pub invariant-loop-i : goal.invariant-loop-i
+invariant-loop-i l = Scan is_entry_byte l.s l.from l.i
+
+abbrev pub decreases-loop-i : goal.decreases-loop-i
+decreases-loop-i l = length l.s - l.i

@@ -1,0 +1,14 @@
+use Prim.Native.Nat.{◌-◌}
+use lib.ListN.{length}
+use mathlib.Core.Path.{sym, ◌∙◌}
+use Rattle.text.specs.ByteTable.{chosen}
+use Rattle.text.specs.Scans.{Scan}
+use Rattle.text.proofs.ScanLaws.{scan_none, scan_turn, scan_stop, scan_end}
+use borrow.Author.Rules.{rules}
+use Rattle.text.proofs.table.masked_end.Given as goal
+
+abbrev pub invariant-loop-i : goal.invariant-loop-i
+invariant-loop-i l = Scan (chosen l.mask) l.s l.from l.i
+
+abbrev pub decreases-loop-i : goal.decreases-loop-i
+decreases-loop-i l = length l.s - l.i
