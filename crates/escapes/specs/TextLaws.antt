@@ -25,7 +25,7 @@ whole (r ∷ rs) b = false
 low : (rs : List Range) → AllTrailing rs → (x : ℕ) → x < 128 → (s : List ℕ) →
     utf8_from rs (x ∷ s) ≡ whole rs (utf8_from [] s)
 unfolding utf8_from
-low [] a x l s = rw (follow_ascii x (omega arith))
+low [] a x l s = ap (λ (rs : List Range). utf8_from rs s) (follow_ascii x (omega arith))
 low (r ∷ rs) (more h a) x l s = rw (trailing_ascii h x l)
 
 -- what is written of a byte, in front of what is written of the rest
@@ -87,7 +87,7 @@ escape_ascii backslash = (omega arith, omega arith)
 
 utf8_ascii : (b : ℕ) (s : List ℕ) → b ≤ 127 → utf8 (b ∷ s) ≡ utf8 s
 unfolding utf8_from
-utf8_ascii b s h = rw (follow_ascii b h)
+utf8_ascii b s h = ap (λ (rs : List Range). utf8_from rs s) (follow_ascii b h)
 
 unescaped_utf8 : {s t : List ℕ} (rs : List Range) → AllTrailing rs → Unescaped s t → utf8_from rs s ≡ true →
     utf8_from rs t ≡ true
