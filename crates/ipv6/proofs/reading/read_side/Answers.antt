@@ -2,7 +2,6 @@
 use Prim.Native.Nat.{◌-◌}
 use Rattle.ipv6.proofs.Siding.{side_empty, Siding, siding_first, siding_full, siding_broken, siding_dotted, siding_turn, siding_whole}
 use borrow.Author.Rules.{rules}
-use Rattle.std.proofs.Common.{ap, not}
 use Rattle.ipv6.proofs.reading.read_side.Goals as goal
 
 pub returns-then-s-eq0 : goal.returns-then-s-eq0
@@ -12,7 +11,7 @@ pub loop-n-init : goal.loop-n-init
 loop-n-init c = search siding_first
 
 pub returns-then-e-s : goal.returns-then-e-s
-returns-then-e-s c = siding_dotted c.loop-n.invariant c.read_group-g.ensures (ap not c.if-not-g.true) c.if-e-s.true c.end_dotted.ensures
+returns-then-e-s c = siding_dotted c.loop-n.invariant c.read_group-g.ensures c.if-not-g.true c.if-e-s.true c.end_dotted.ensures
 
 pub returns-then-not-g : goal.returns-then-not-g
 returns-then-not-g c = search siding_broken
