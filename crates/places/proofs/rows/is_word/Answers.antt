@@ -1,0 +1,21 @@
+-- The code at the slot.
+use native.Mathlib.Omega.{arith}
+use mathlib.Core.Path.{refl, sym}
+use Rattle.places.specs.KeyLaws.{listed_few}
+use borrow.Author.Rules.{rules}
+use Rattle.places.proofs.rows.is_word.Goals as goal
+
+pub overflow_add-i : goal.overflow_add-i
+overflow_add-i c = omega (arith, c.key_place.ensures, (listed_few c.args.k).1, c.requires.row)
+
+pub overflow_add-result : goal.overflow_add-result
+overflow_add-result c = omega (arith, c.key_place.ensures, (listed_few c.args.k).1, c.requires.row)
+
+pub offset_bounds-x-i : goal.offset_bounds-x-i
+offset_bounds-x-i c = omega (arith, c.key_place.ensures, (listed_few c.args.k).1, c.requires.row)
+
+pub bounds-x-i : goal.bounds-x-i
+bounds-x-i c = omega (arith, c.key_place.ensures, (listed_few c.args.k).1, c.requires.row, c.requires.long)
+
+pub returns : goal.returns
+returns c = rw (sym c.key_place.ensures, sym c.word_number.ensures) refl

@@ -1,0 +1,67 @@
+-- The kind at each place of the table.
+use mathlib.Core.Path.{ap, sym}
+use Rattle.rules.specs.Tables.{keys_of}
+use Rattle.tables.specs.KeyPlaces.{kind_answer}
+use Rattle.tables.proofs.KindPlaces.{at_place_none}
+use Rattle.rules.specs.declared.Group.TheVariants.{Service}
+use Rattle.tables.proofs.key_kinds.service_kind.Goals as goal
+
+pub returns-in-1 : goal.returns-in-1
+unfolding keys_of
+returns-in-1 c = rw c.in-1.is
+
+pub returns-in-2 : goal.returns-in-2
+unfolding keys_of
+returns-in-2 c = rw c.in-2.is
+
+pub returns-in-3 : goal.returns-in-3
+unfolding keys_of
+returns-in-3 c = rw c.in-3.is
+
+pub returns-in-4 : goal.returns-in-4
+unfolding keys_of
+returns-in-4 c = rw c.in-4.is
+
+pub returns-in-5 : goal.returns-in-5
+unfolding keys_of
+returns-in-5 c = rw c.in-5.is
+
+pub returns-in-6 : goal.returns-in-6
+unfolding keys_of
+returns-in-6 c = rw c.in-6.is
+
+pub returns-in-7 : goal.returns-in-7
+unfolding keys_of
+returns-in-7 c = rw c.in-7.is
+
+pub returns-in-8 : goal.returns-in-8
+unfolding keys_of
+returns-in-8 c = rw c.in-8.is
+
+pub returns-in-9 : goal.returns-in-9
+unfolding keys_of
+returns-in-9 c = rw c.in-9.is
+
+pub returns-in-10 : goal.returns-in-10
+unfolding keys_of
+returns-in-10 c = rw c.in-10.is
+
+pub returns-in-11 : goal.returns-in-11
+unfolding keys_of
+returns-in-11 c = rw c.in-11.is
+
+pub returns-in-12 : goal.returns-in-12
+unfolding keys_of
+returns-in-12 c = rw c.in-12.is
+
+pub returns-in-13 : goal.returns-in-13
+unfolding keys_of
+returns-in-13 c = rw c.in-13.is
+
+pub returns-in-14 : goal.returns-in-14
+unfolding keys_of
+returns-in-14 c = rw c.in-14.is
+
+pub returns-in_default : goal.returns-in_default
+unfolding keys_of
+returns-in_default c = ap kind_answer (sym (at_place_none c.args.n (keys_of Service) c.in_default.in_default-own.rest))

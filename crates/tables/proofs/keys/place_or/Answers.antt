@@ -1,0 +1,10 @@
+-- Whether the key is the word, by cases.
+use mathlib.Core.Path.{sym, ◌∙◌}
+use borrow.Author.Rules.{rules}
+use Rattle.tables.proofs.keys.place_or.Goals as goal
+
+pub returns-then-equal : goal.returns-then-equal
+returns-then-equal c = rw (sym c.equal.ensures ∙ c.if-equal.true)
+
+pub returns : goal.returns
+returns c = rw (sym c.equal.ensures ∙ c.if-equal.false)
