@@ -15,7 +15,7 @@ use Rattle.rules.specs.Reading.{sections_of, reading}
 use Rattle.rules.specs.Asking.{iwd_entry, service_at, asked}
 use Rattle.rules.specs.FileRules.{AcceptedFile, Answers}
 use Rattle.rules.specs.ListedValues.{value_of}
-use Rattle.rules.specs.GivenValues.{Gives, service_entry}
+use Rattle.rules.proofs.GivenValues.{Gives, service_entry}
 use Rattle.rules.specs.declared.Answer.{Answer}
 use Rattle.rules.specs.declared.Answer.TheVariants.{Good, Refused}
 use Rattle.rules.specs.declared.Group.{Group}

@@ -10,8 +10,8 @@ use Rattle.rules.specs.Sections.{Entry, entry_of, entries_in}
 use Rattle.rules.specs.Numbers.{number_of, seen_of, answer_number, answer_line}
 use Rattle.rules.specs.Reading.{sections_of, reading}
 use Rattle.rules.specs.Asking.{iwd_entry, service_at, asked, asked_of}
-use Rattle.rules.specs.Exactly.{every_input_answered, one_answer, answers_exactly}
-use Rattle.rules.specs.GivenValues.{group_gives, service_gives}
+use Rattle.rules.proofs.Exactly.{every_input_answered, one_answer, answers_exactly}
+use Rattle.rules.proofs.GivenValues.{group_gives, service_gives}
 use Rattle.rules.specs.declared.Answer.{Answer}
 use Rattle.rules.specs.declared.Answer.TheVariants.{Good, Refused}
 use Rattle.rules.specs.declared.Reading.{Reading}

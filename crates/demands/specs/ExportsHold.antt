@@ -14,7 +14,7 @@ use Rattle.rules.specs.Numbers.{number_of}
 use Rattle.rules.specs.Reading.{sections_of, reading}
 use Rattle.rules.specs.Asking.{iwd_entry, service_at, asked, asked_of}
 use Rattle.rules.specs.Tables.{keys_of}
-use Rattle.rules.specs.EntryPlaces.{EntryStands, group_stands, service_stands}
+use Rattle.rules.proofs.EntryPlaces.{EntryStands, group_stands, service_stands}
 use Rattle.rules.specs.AnswerRows.{AnswerRow, bare, placed, has_row, own_rows}
 use Rattle.rules.specs.declared.Answer.{Answer}
 use Rattle.rules.specs.declared.Answer.TheVariants.{Good, Refused}

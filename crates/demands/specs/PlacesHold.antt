@@ -17,7 +17,7 @@ use Rattle.rules.specs.Sections.{Entry}
 use Rattle.rules.specs.Reading.{sections_of, reading}
 use Rattle.rules.specs.Asking.{iwd_entry, service_at, read_as, entry_start, asked, asked_of}
 use Rattle.rules.specs.Tables.{keys_of}
-use Rattle.rules.specs.EntryPlaces.{EntryStands, group_stands, service_stands}
+use Rattle.rules.proofs.EntryPlaces.{EntryStands, group_stands, service_stands}
 use Rattle.rules.specs.Numbers.{number_of, answer_number}
 use Rattle.rules.specs.declared.Answer.{Answer}
 use Rattle.rules.specs.declared.Answer.TheVariants.{Good, Refused}

@@ -4,8 +4,8 @@ use Rattle.std.proofs.Common.{arith}
 use Rattle.rules.specs.declared.Refusal.TheVariants.{Malformed}
 use Rattle.records.specs.Record.{joined}
 use Rattle.records.specs.Laws.{joined_good}
-use Rattle.written.specs.LengthLaws.{name_short, file_short, name_max_lem, file_max_lem}
-use Rattle.written.specs.LargestLaws.{largest_file_lem, largest_name_lem}
+use Rattle.written.proofs.LengthLaws.{name_short, file_short, name_max_lem, file_max_lem}
+use Rattle.written.proofs.LargestLaws.{largest_file_lem, largest_name_lem}
 use Rattle.writer.specs.Writing.{Writing, refuses, writing}
 use Rattle.writer.specs.Room.{written_number, writing_never_17, less_name_17, less_file_17}
 use Rattle.mover.specs.Order.{moving_never_17}

@@ -11,7 +11,7 @@ use Rattle.names.specs.Names.{network_of}
 use Rattle.rules.specs.Numbers.{number_of, answer_number}
 use Rattle.rules.specs.Reading.{sections_of, reading}
 use Rattle.rules.specs.Asking.{iwd_entry, service_at, asked, asked_of}
-use Rattle.rules.specs.Exactly.{accepted_exactly}
+use Rattle.rules.proofs.Exactly.{accepted_exactly}
 use Rattle.rules.specs.GoodAnswers.{asked_reading, asked_service}
 use Rattle.rules.specs.declared.Answer.{Answer}
 use Rattle.rules.specs.declared.Answer.TheVariants.{Good, Refused}

@@ -24,9 +24,9 @@ use Rattle.rules.specs.WordNumbers.{is_word}
 use Rattle.rules.specs.Numbers.{number_of, answer_number, answer_line}
 use Rattle.rules.specs.Reading.{sections_of, reading}
 use Rattle.rules.specs.Asking.{iwd_entry, service_at, read_as, entry_line, asked, asked_of}
-use Rattle.rules.specs.EntryPlaces.{is_line, EntryStands, service_stands}
+use Rattle.rules.proofs.EntryPlaces.{is_line, EntryStands, service_stands}
 use Rattle.rules.specs.AnswerRows.{AnswerRow, bare, lined, is_row, has_row, own_rows}
-use Rattle.rules.specs.AnswerRowLaws.{has_row_append, reading_has_row}
+use Rattle.rules.proofs.AnswerRowLaws.{has_row_append, reading_has_row}
 use Rattle.rules.specs.declared.Answer.{Answer}
 use Rattle.rules.specs.declared.Answer.TheVariants.{Good, Refused}
 use Rattle.rules.specs.declared.Reading.{Reading}

@@ -10,7 +10,7 @@ use Rattle.text.specs.Laws.{all_cons, front_append, after_append}
 use Rattle.text.specs.declared.Dialect.{Dialect}
 use Rattle.addresses.specs.Addresses.{decimal_value}
 use Rattle.rules.specs.Reading.{reading, name_in}
-use Rattle.rules.specs.Acceptance.{reading_large}
+use Rattle.rules.proofs.Acceptance.{reading_large}
 use Rattle.intake.specs.Number.{or_zero, service_number}
 use Rattle.intake.specs.Input.{Parted, first_line, behind_line}
 

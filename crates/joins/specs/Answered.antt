@@ -31,7 +31,7 @@ use Rattle.escapes.specs.TextLaws.{unescape_text}
 use Rattle.addresses.specs.MaskRuleLaws.{netmask_good}
 use Rattle.connman_ipv4.specs.Laws.{ipv4_good}
 use Rattle.hex_values.specs.Laws.{pre_shared_key_size, ssid_size}
-use Rattle.kinds.specs.ValueRuleLaws.{string_size}
+use Rattle.kinds.proofs.ValueRuleLaws.{string_size}
 use Rattle.kinds.specs.declared.Kind.TheVariants as Kind
 use Rattle.named_words.specs.declared.Word.{Word}
 use Rattle.named_words.specs.declared.Word.TheVariants as W
@@ -44,10 +44,10 @@ use Rattle.rules.specs.WordNumbers.{is_word}
 use Rattle.rules.specs.Groups.{type_is, security_is, lacks}
 use Rattle.rules.specs.Reading.{Name, iwd_name, sections_of, reading}
 use Rattle.rules.specs.Asking.{iwd_entry, service_at, read_as, entry_line, asked}
-use Rattle.rules.specs.Acceptance.{accepted_obeys}
+use Rattle.rules.proofs.Acceptance.{accepted_obeys}
 use Rattle.rules.specs.GoodAnswers.{asked_reading}
-use Rattle.rules.specs.GoodValues.{GoodValue, group_value_lem, service_value}
-use Rattle.rules.specs.GivenValues.{read_holds, entry_given}
+use Rattle.rules.proofs.GoodValues.{GoodValue, group_value_lem, service_value}
+use Rattle.rules.proofs.GivenValues.{read_holds, entry_given}
 use Rattle.rules.specs.declared.Reading.TheVariants.{Accepted}
 use Rattle.records.specs.Record.{Join}
 use Rattle.records.specs.Formed.{GoodPassphrase, GoodKey, GoodSecret, GoodIpv4, GoodIpv6, GoodServers, GoodDomain, WellFormed}

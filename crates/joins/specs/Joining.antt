@@ -11,7 +11,7 @@ use Rattle.rules.specs.Faults.{fault_at}
 use Rattle.rules.specs.Groups.{lacks, clashes, lack_or_clash, service_fault, services_fault}
 use Rattle.rules.specs.Reading.{Name, connman_file, name_in, groups_fault, sections_of, reading}
 use Rattle.rules.specs.Asking.{first_or, service_at, asked_of}
-use Rattle.rules.specs.Acceptance.{obeys_accepted, accepted_obeys}
+use Rattle.rules.proofs.Acceptance.{obeys_accepted, accepted_obeys}
 use Rattle.rules.specs.GoodAnswers.{asked_service}
 use Rattle.rules.specs.declared.Answer.{Answer}
 use Rattle.rules.specs.declared.Answer.TheVariants as A

@@ -27,7 +27,7 @@ use Rattle.rules.specs.Faults.{key_fault, value_fault, fault, Fault}
 use Rattle.rules.specs.Reading.{Name, name_in, after_line, line_fault, sections_of, reading}
 use Rattle.rules.specs.Asking.{iwd_entry, read_as, asked}
 use Rattle.rules.specs.GoodAnswers.{asked_reading}
-use Rattle.rules.specs.GoodValues.{GoodValue, group_value_lem, service_value}
+use Rattle.rules.proofs.GoodValues.{GoodValue, group_value_lem, service_value}
 use Rattle.rules.specs.declared.Group.{Group}
 use Rattle.rules.specs.declared.Group.TheVariants.{Settings, Security, Ipv4, Ipv6, Global, Service}
 use Rattle.rules.specs.declared.Refusal.{Refusal}

@@ -19,7 +19,7 @@ use Rattle.rules.specs.Groups.{type_is, security_is, wireless}
 use Rattle.rules.specs.Reading.{sections_of}
 use Rattle.rules.specs.Asking.{service_at}
 use Rattle.rules.specs.ListedValues.{value_of}
-use Rattle.rules.specs.GivenValues.{service_given}
+use Rattle.rules.proofs.GivenValues.{service_given}
 use Rattle.rules.specs.declared.Group.TheVariants as G
 use Rattle.records.specs.Record.{Join}
 use Rattle.joins.specs.Joins.{joined, secret_from, secret_given, needs_key, service_setting, service_joined}

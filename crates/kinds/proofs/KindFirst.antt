@@ -9,7 +9,7 @@ use Rattle.utf8.specs.Utf8.{value_text}
 use Rattle.kinds.specs.Typed.{Judged, good, broken_text, broken_kind, kind_judged, judged}
 use Rattle.kinds.specs.Answers.{judgement_at}
 use Rattle.kinds.specs.Judging.{is_free_text, broken_judgement}
-use Rattle.kinds.specs.Printable.{good_text}
+use Rattle.kinds.proofs.Printable.{good_text}
 use Rattle.kinds.specs.declared.Kind.{Kind}
 use Rattle.kinds.specs.declared.Kind.TheVariants as K
 use Rattle.kinds.specs.declared.Judgement.{Judgement}

@@ -16,7 +16,7 @@ use Rattle.rules.specs.Sections.{entry_of, entries_in, Entry}
 use Rattle.rules.specs.Reading.{sections_of}
 use Rattle.rules.specs.Asking.{service_at, asked, asked_of}
 use Rattle.rules.specs.ListedValues.{group_name}
-use Rattle.rules.specs.GivenValues.{group_of_name}
+use Rattle.rules.proofs.GivenValues.{group_of_name}
 use Rattle.rules.specs.declared.Answer.{Answer}
 use Rattle.rules.specs.declared.Answer.TheVariants.{Good, Refused}
 use Rattle.rules.specs.declared.Group.{Group}

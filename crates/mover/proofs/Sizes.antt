@@ -17,7 +17,7 @@ use Rattle.kinds.specs.Kinds.{string}
 use Rattle.addresses.specs.Laws.{addresses_good}
 use Rattle.connman_ipv4.specs.Laws.{ipv4_good}
 use Rattle.hex_values.specs.Laws.{ssid_size}
-use Rattle.kinds.specs.ValueRuleLaws.{string_size}
+use Rattle.kinds.proofs.ValueRuleLaws.{string_size}
 use Rattle.rules.specs.Tables.{keys_of}
 use Rattle.rules.specs.Sections.{Entry}
 use Rattle.rules.specs.Asking.{read_as}

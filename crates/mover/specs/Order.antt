@@ -8,7 +8,7 @@ use Rattle.text.specs.Laws.{between_low, between_high}
 use Rattle.text.specs.declared.Dialect.TheVariants as D
 use Rattle.rules.specs.Asking.{asked_of}
 use Rattle.rules.specs.Reading.{reading}
-use Rattle.rules.specs.Refusals.{reading_number}
+use Rattle.rules.proofs.Refusals.{reading_number}
 use Rattle.rules.specs.declared.Answer.TheVariants as A
 use Rattle.rules.specs.declared.Reading.{Reading}
 use Rattle.rules.specs.declared.Reading.TheVariants as R

@@ -6,8 +6,6 @@ use mathlib.Core.Bool.{Bool, true, false}
 use mathlib.Core.List.{List, [], ◌∷◌}
 use mathlib.Core.Option.{Option, none, some, none-ne-some, some-injective}
 use borrow.Author.Tests.{le-leb, lt-leb}
-use denote.Enum.Declared.{tag_of}
-use types.Run.{OneOf, miss}
 use lib.ListN.{length, replicate}
 use Rattle.text.specs.Options.{mapped, only}
 use Rattle.text.specs.Parts.{lines}
@@ -24,7 +22,6 @@ use Rattle.verdicts.specs.Ending.{kind_of_name, name_dialect, EndSays}
 use Rattle.verdicts.specs.declared.FileKind.{FileKind}
 use Rattle.verdicts.specs.declared.FileKind.TheVariants as K
 use Rattle.places.specs.declared.State.{State}
-use Rattle.verdicts.specs.contracts.FileKind.{the_type}
 use Rattle.pass.specs.Pass.{WalkIs, Walks, ReadsKind, ReadsFile}
 use Rattle.pass.specs.declared.Walked.{Walked}
 use Rattle.pass.specs.declared.Walked.TheVariants.{Through, Stopped}
@@ -48,8 +45,8 @@ some_kind : (n : Name) → K.Misnamed ≡ kind_of_name (some n) → ⊥
 some_kind (iwd_name s) e = let z : ◌≡◌ {A = ℕ} 0 1 = cc in omega arith
 some_kind connman_file e = let z : ◌≡◌ {A = ℕ} 0 1 = cc in omega arith
 
-none_kind : (k : FileKind) → OneOf (1 ∷ 2 ∷ []) (tag_of the_type k) → k ≡ kind_of_name none → ⊥
-none_kind K.Misnamed t e = miss (1 ∷ 2 ∷ []) 0 tt t
+none_kind : (k : FileKind) → (k ≡ K.Misnamed → ⊥) → k ≡ kind_of_name none → ⊥
+none_kind K.Misnamed t e = t refl
 none_kind (K.Iwd s) t e = let z : ◌≡◌ {A = ℕ} 0 1 = cc in omega arith
 none_kind K.ConnMan t e = let z : ◌≡◌ {A = ℕ} 0 1 = cc in omega arith
 
@@ -73,7 +70,7 @@ module _ {d : Dialect} {file : List ℕ} {x : List ℕ} {r : Walked} (h : Walks 
   pub walked_held : {st : State} → r ≡ Through st → (length x ≡ table_length) × (st.services ≤ 8)
   walked_held e = ((walked e).1.table.long, (walked e).1.spans.few)
 
-  module _ {k : FileKind} (t : OneOf (1 ∷ 2 ∷ []) (tag_of the_type k)) where
+  module _ {k : FileKind} (t : k ≡ K.Misnamed → ⊥) where
     pub kind_stopped : {f : Refusal} {l : ℕ} → r ≡ Stopped f l → ReadsKind k d file x (Refused f l)
     kind_stopped {f} {l} e = record { is = λ name q. go (name_in d name) q; found = λ q. refused_accepted q; few = λ q. refused_accepted q }
       where

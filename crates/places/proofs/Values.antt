@@ -16,7 +16,7 @@ use Rattle.rules.specs.Asking.{first_or, service_at, read_as, entry_line, entry_
 use Rattle.places.specs.Store.{last_row, row_length, Slot}
 use Rattle.places.specs.History.{row_number, base, row_after, latest}
 use Rattle.places.specs.Holds.{OfText, SlotKeeps, RowKeeps, TableKeeps}
-use Rattle.rules.specs.GoodEntries.{serves_service}
+use Rattle.rules.proofs.GoodEntries.{serves_service}
 use Rattle.rules.specs.declared.Group.{Group}
 use Rattle.rules.specs.declared.Group.TheVariants.{Settings, Security, Ipv4, Ipv6, Global, Service}
 use Rattle.rules.specs.Sections.{Entry, Section, serves, services}

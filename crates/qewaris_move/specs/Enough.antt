@@ -14,7 +14,7 @@ use Rattle.mover.specs.Moves.{moving, moving_of, moved_if_good}
 use Rattle.intake.specs.declared.Form.TheVariants.{Empty}
 use Rattle.intake.specs.Forms.{form_from, complete}
 use Rattle.intake.specs.Laws.{form_connman}
-use Rattle.rules.specs.Acceptance.{reading_large}
+use Rattle.rules.proofs.Acceptance.{reading_large}
 use Rattle.intake.specs.Enough.{reading_name}
 
 module _ (w : ℕ) (n f : List ℕ) where

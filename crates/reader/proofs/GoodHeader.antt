@@ -15,7 +15,7 @@ use Rattle.lines.specs.Lines as Lines
 use Rattle.rules.specs.Tables.{group_of}
 use Rattle.rules.specs.Sections.{Section, name_given, serves, services, with_line}
 use Rattle.rules.specs.Faults.{header_fault, fault}
-use Rattle.rules.specs.GoodEntries.{serves_service}
+use Rattle.rules.proofs.GoodEntries.{serves_service}
 use Rattle.rules.specs.declared.Group.{Group}
 use Rattle.rules.specs.declared.Group.TheVariants.{Service}
 use Rattle.rules.specs.declared.Refusal.{Refusal}

@@ -13,7 +13,7 @@ use Rattle.rules.specs.Tables.{group_of}
 use Rattle.tables.specs.KeyPlaces.{named_answer}
 use Rattle.rules.specs.Sections.{Section, name_given, serves, services}
 use Rattle.rules.specs.Faults.{header_fault, fault}
-use Rattle.rules.specs.GoodEntries.{serves_service}
+use Rattle.rules.proofs.GoodEntries.{serves_service}
 use Rattle.rules.specs.declared.Group.{Group}
 use Rattle.tables.specs.declared.Named.{Named}
 use Rattle.tables.specs.declared.Named.TheVariants as N

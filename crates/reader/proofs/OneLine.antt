@@ -5,8 +5,6 @@ use mathlib.Core.Path.{◌≡◌, refl, ap, ap₂, sym, ◌∙◌, subst}
 use mathlib.Core.Bool.{Bool, true, false, cond, true≢false}
 use mathlib.Core.List.{List, [], ◌∷◌}
 use mathlib.Core.Option.{Option, none, some, none-ne-some, some-injective}
-use denote.Enum.Declared.{tag_of}
-use types.Run.{OneOf, miss}
 use lib.ListN.{length}
 use Rattle.text.specs.Parts.{part_at, Inside}
 use Rattle.text.specs.Words.{place}
@@ -47,7 +45,6 @@ use Rattle.reader.specs.declared.Line.{Line}
 use Rattle.reader.specs.declared.Line.TheVariants as L
 use Rattle.reader.specs.declared.Stepped.{Stepped}
 use Rattle.reader.specs.declared.Stepped.TheVariants.{Goes, Stops}
-use Rattle.reader.specs.contracts.Line.{the_type}
 use Rattle.places.proofs.RowLaws.{keys_few, lies, own_row}
 use Rattle.reader.proofs.SettingLine.{Head, head}
 use Rattle.places.proofs.RowKeys.{good_typed}
@@ -142,6 +139,11 @@ place_inside {d} {file} u = let t = reads_typed u.place (judged d u.new.kind (pa
     go (T.with_length w) = u.inside
     go (T.bytes b) = u.inside
 
+
+-- a line that is no header, no setting and not refused
+abbrev Passed : Line → Type 0
+Passed f = ((p : Place) → f ≡ L.Header p → ⊥) × ((r : Refusal) → f ≡ L.Refused r → ⊥) × ((i : ℕ) (v : Value) → f ≡ L.Setting i v → ⊥)
+
 module _ {d : Dialect} {file : List ℕ} {st : State} {x : List ℕ} {s : ℕ} {l : List ℕ} {f : Line} (says : LineSays d file x st.current s l f) where
   line_is : {gs : List Section} → HoldsGroups d file st x gs → LineIs d file gs s l f
   line_is {gs} h = says.says gs h.current h.table.rows
@@ -165,18 +167,19 @@ module _ {d : Dialect} {file : List ℕ} {st : State} {x : List ℕ} {s : ℕ} {
   pub step_refused : {n : ℕ} {r : Refusal} → f ≡ L.Refused r → {y : List ℕ} → StepSays d file st x n s (value_start d l) (line_of d l) y (Stops r)
   step_refused q = record { says = λ gs h. subst (LineIs d file gs s l) q (line_is h) }
 
-  -- ---- a line that is passed over: what `if let` and `let .. else` leave, as the tags of the variants
+  -- ---- a line that is passed over: what `if let` and `let .. else` leave is none of the three
 
-  pub step_passed : {n : ℕ} → OneOf (0 ∷ 1 ∷ 3 ∷ 4 ∷ []) (tag_of the_type f) → OneOf (0 ∷ 1 ∷ 2 ∷ 3 ∷ []) (tag_of the_type f) → OneOf (0 ∷ 1 ∷ 2 ∷ 4 ∷ []) (tag_of the_type f) → StepSays d file st x n s (value_start d l) (line_of d l) x (Goes st)
+  pub step_passed : {n : ℕ} → ((p : Place) → f ≡ L.Header p → ⊥) → ((r : Refusal) → f ≡ L.Refused r → ⊥) → ((i : ℕ) (v : Value) → f ≡ L.Setting i v → ⊥) →
+      StepSays d file st x n s (value_start d l) (line_of d l) x (Goes st)
   unfolding fault with_line
-  step_passed {n} a b c = record { says = λ gs h. go f a b c gs h (line_is h) }
+  step_passed {n} a b c = record { says = λ gs h. go f (a, b, c) gs h (line_is h) }
     where
-      go : (f : Line) → OneOf (0 ∷ 1 ∷ 3 ∷ 4 ∷ []) (tag_of the_type f) → OneOf (0 ∷ 1 ∷ 2 ∷ 3 ∷ []) (tag_of the_type f) → OneOf (0 ∷ 1 ∷ 2 ∷ 4 ∷ []) (tag_of the_type f) → (gs : List Section) → HoldsGroups d file st x gs → LineIs d file gs s l f → StepIs d file gs n s (value_start d l) (line_of d l) x (Goes st)
-      go L.Blank a b c gs h u = rw u (refl, h)
-      go L.Comment a b c gs h u = rw u (refl, h)
-      go (L.Header p) a b c gs h u = absurd (miss (0 ∷ 1 ∷ 3 ∷ 4 ∷ []) 2 tt a)
-      go (L.Setting i v) a b c gs h u = absurd (miss (0 ∷ 1 ∷ 2 ∷ 4 ∷ []) 3 tt c)
-      go (L.Refused r) a b c gs h u = absurd (miss (0 ∷ 1 ∷ 2 ∷ 3 ∷ []) 4 tt b)
+      go : (f : Line) → Passed f → (gs : List Section) → HoldsGroups d file st x gs → LineIs d file gs s l f → StepIs d file gs n s (value_start d l) (line_of d l) x (Goes st)
+      go L.Blank h gs k u = rw u (refl, k)
+      go L.Comment h gs k u = rw u (refl, k)
+      go (L.Header p) h gs k u = absurd (h.0 p refl)
+      go (L.Setting i v) h gs k u = absurd (h.2 i v refl)
+      go (L.Refused r) h gs k u = absurd (h.1 r refl)
 
   -- ---- a setting
 

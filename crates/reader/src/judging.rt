@@ -22,7 +22,7 @@ pub fn setting_line(
     key: Place,
     value: Place,
 ) -> Line
-    requires keyIn { Inside (length file.now) key }
+    requires key_in { Inside (length file.now) key }
     requires value_in { Inside (length file.now) value }
     requires rows { CurrentRow x.now current }
     ensures { SettingSays d file.now x.now current key value result }

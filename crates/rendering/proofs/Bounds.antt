@@ -14,7 +14,7 @@ use Rattle.records.specs.Record.{joined}
 use Rattle.records.specs.declared.JoinRecord.{JoinRecord}
 use Rattle.written.specs.Written.{WrittenRow, row_lines, headed_lines, hidden_rows, secret_rows, gateway_rows, number_rows, server_rows, domain_rows, ipv4_rows, ipv6_rows}
 use Rattle.written.specs.GreatestLengths.{LineRoom, settings_room, security_room, number_room, server_room, domain_room, ipv4_room, ipv6_room, total, Under}
-use Rattle.written.specs.LengthLaws.{under_total, hidden_under, secret_under, ipv4_gateway_under, ipv6_gateway_under, numbers_under, servers_under, domain_under, ipv4_under, ipv6_under}
+use Rattle.written.proofs.LengthLaws.{under_total, hidden_under, secret_under, ipv4_gateway_under, ipv6_gateway_under, numbers_under, servers_under, domain_under, ipv4_under, ipv6_under}
 use Rattle.written.specs.RecordParts.{CountsWithin}
 use Rattle.written.specs.Texts.{rows_text, group_text}
 

@@ -10,7 +10,7 @@ use Rattle.addressing.specs.Addressing.{Addressing}
 use Rattle.records.specs.Record.{Join}
 use Rattle.written.specs.Written.{WrittenRow, hidden_rows, secret_rows, number_rows, server_rows, domain_rows, ipv4_rows, ipv6_rows, file_text}
 use Rattle.written.specs.Texts.{rows_text, group_text, some_row}
-use Rattle.written.specs.TextLaws.{rows_append, group_text_lem, file_groups}
+use Rattle.written.proofs.TextLaws.{rows_append, group_text_lem, file_groups}
 
 -- a line: what stands in front of its value, the value, and byte 10
 pub line_size : (k v : List ℕ) → length (k ++ v ++ 10 ∷ []) ≡ length k + (length v + 1)

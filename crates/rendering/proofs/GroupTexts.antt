@@ -22,7 +22,7 @@ use Rattle.records.specs.declared.Credential.{Credential}
 use Rattle.records.specs.declared.Credential.TheVariants as C
 use Rattle.written.specs.Written.{WrittenRow, hidden_rows, secret_rows, gateway_rows, number_rows, server_rows, domain_rows, ipv4_rows, lengthened, ipv6_rows, file_text}
 use Rattle.written.specs.Texts.{rows_text, group_text, some_row}
-use Rattle.written.specs.TextLaws.{rows_append, group_text_lem, file_groups}
+use Rattle.written.proofs.TextLaws.{rows_append, group_text_lem, file_groups}
 use Rattle.rendering.proofs.ExactSizes.{line_size}
 use Rattle.rendering.proofs.Three.{Three}
 use Rattle.rendering.proofs.Four.{Four}

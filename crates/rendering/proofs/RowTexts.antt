@@ -16,7 +16,7 @@ use Rattle.rendering.proofs.Three.{Three}
 use Rattle.written.specs.Written.{WrittenRow, gateway_rows, number_rows, server_rows, domain_rows}
 use Rattle.written.specs.RecordParts.{numbers_in, static_rows}
 use Rattle.written.specs.Texts.{rows_text}
-use Rattle.written.specs.TextLaws.{rows_append}
+use Rattle.written.proofs.TextLaws.{rows_append}
 use Rattle.rendering.proofs.ExactSizes.{line_size}
 
 module _ (text : List ℕ → List ℕ) (a : List ℕ) where

@@ -20,7 +20,7 @@ use Rattle.named_words.specs.NamedWords.{flag}
 use Rattle.addressing.specs.Addressing.{Addressing, auto, off, static}
 use Rattle.kinds.specs.Kinds.{string}
 use Rattle.hex_values.specs.Laws.{pre_shared_key_hex}
-use Rattle.kinds.specs.Written.{string_escape}
+use Rattle.kinds.proofs.Written.{string_escape}
 use Rattle.rules.specs.Sections.{Section, entries_in}
 use Rattle.rules.specs.Groups.{has, is_no, flag_given, ipv6_disabled, unpaired_by, file_fault}
 use Rattle.records.specs.Record.{Secret, no_secret, passphrase, key}

@@ -15,7 +15,7 @@ use Rattle.lines.specs.Laws.{line_render, lines_rendered}
 use Rattle.rules.specs.Sections.{Entry, Section, given, name_given, with_line}
 use Rattle.rules.specs.Faults.{fault}
 use Rattle.rules.specs.Reading.{grown, sections_of}
-use Rattle.rules.specs.Acceptance.{LinesObey}
+use Rattle.rules.proofs.Acceptance.{LinesObey}
 use Rattle.rules.specs.declared.Group.{Group}
 use Rattle.written.specs.Written.{WrittenRow, Block, row_lines, headed_lines, block_lines}
 use Rattle.round_trip.specs.Blocks.{bare, bare_blocks, or_skipped, kept, row_value, GoodRow, GoodRows, keys_apart, GoodBlock, GoodBlocks, name_free, names_apart, Unnamed}

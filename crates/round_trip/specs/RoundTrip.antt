@@ -22,15 +22,15 @@ use Rattle.rules.specs.Sections.{Entry, Section}
 use Rattle.rules.specs.Groups.{has}
 use Rattle.rules.specs.Reading.{iwd_name, sections_of, reading}
 use Rattle.rules.specs.Asking.{iwd_entry, read_as, asked}
-use Rattle.rules.specs.Acceptance.{Obeys, obeys_accepted}
-use Rattle.rules.specs.GoodEntries.{iwd_services}
+use Rattle.rules.proofs.Acceptance.{Obeys, obeys_accepted}
+use Rattle.rules.proofs.GoodEntries.{iwd_services}
 use Rattle.rules.specs.declared.Answer.TheVariants.{Good}
 use Rattle.rules.specs.declared.Reading.{Reading}
 use Rattle.rules.specs.declared.Reading.TheVariants.{Accepted}
 use Rattle.records.specs.Record.{Join, laid, laid_servers}
 use Rattle.records.specs.Formed.{WellFormed}
 use Rattle.written.specs.Written.{number_rows, blocks_of, file_text, suffix_for, name_text, ipv4_placed, ipv6_placed, has_place}
-use Rattle.written.specs.LengthLaws.{file_short}
+use Rattle.written.proofs.LengthLaws.{file_short}
 use Rattle.joins.specs.Joins.{Joined, joined, secret_from, or_false, iwd_secret, iwd_ipv4, iwd_ipv6, iwd_join, network_name, iwd_joined, record_answer, servers_after, iwd_record, iwd_record_servers, joined_if_good}
 use Rattle.round_trip.specs.Blocks.{bare_blocks, kept, row_value, rows_in, row_count}
 use Rattle.round_trip.specs.Readings.{file_obeys, file_blocks}

@@ -22,10 +22,10 @@ use Rattle.named_words.specs.NamedWords as NamedWords
 use Rattle.kinds.specs.Typed as T
 use Rattle.kinds.specs.Typed.{Typed, typed, string_broken}
 use Rattle.hex_values.specs.Laws.{pre_shared_key_hex}
-use Rattle.kinds.specs.Written.{StandsOnLine, escape_stands, string_escape, printable_stands, hex_stands, dotted_stands, listed_stands, canonical_stands, with_length_stands}
+use Rattle.kinds.proofs.Written.{StandsOnLine, escape_stands, string_escape, printable_stands, hex_stands, dotted_stands, listed_stands, canonical_stands, with_length_stands}
 use Rattle.kinds.specs.declared.Kind.{Kind}
 use Rattle.rules.specs.Tables.{keys_of, kind_of}
-use Rattle.rules.specs.GoodValues.{value_faultless}
+use Rattle.rules.proofs.GoodValues.{value_faultless}
 use Rattle.rules.specs.declared.Group.{Group}
 use Rattle.rules.specs.declared.Group.TheVariants.{Settings, Security, Ipv4, Ipv6}
 use Rattle.records.specs.Formed.{GoodPassphrase, GoodKey, GoodServers, GoodDomain}

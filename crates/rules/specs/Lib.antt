@@ -15,26 +15,9 @@ pub mod LineOrder
 pub mod GroupRules
 pub mod FileRules
 pub mod AnswerRows
--- The laws: the reading gives the one answer of the rules (`Exactly`); its numbers and rows; of an accepted file every setting
--- is listed and good, its value is what its kind gives, and its place is in the file; worked cases
-pub mod Exactly
-pub mod Refusals
-pub mod AnswerRowLaws
-pub mod GoodEntries
-pub mod GivenValues
-pub mod EntryLines
-pub mod EntryPlaces
+-- Worked cases
 pub mod Cases
--- For the proofs only: the steps of `Exactly`, and what other proofs take from an accepted file
-pub mod TableLaws
-pub mod HereLaws
-pub mod SectionLaws
+-- For the proofs only: names, and what is asked of an accepted file. The theorems are in proofs/, where must-fail edits of the
+-- definitions are refused by them
 pub mod NameLaws
-pub mod LineVerdicts
-pub mod ServiceVerdicts
-pub mod GroupVerdicts
-pub mod FileVerdicts
-pub mod ReadingVerdicts
-pub mod Acceptance
-pub mod GoodValues
 pub mod GoodAnswers

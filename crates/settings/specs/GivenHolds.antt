@@ -26,8 +26,8 @@ use Rattle.rules.specs.Groups.{has}
 use Rattle.rules.specs.Reading.{sections_of, reading}
 use Rattle.rules.specs.Asking.{iwd_entry, service_at, read_as, entry_line, asked, asked_of}
 use Rattle.rules.specs.ListedValues.{group_name, value_of, group_value}
-use Rattle.rules.specs.GivenValues.{read_holds, entry_given, group_given, service_given}
-use Rattle.rules.specs.EntryLines.{group_line, service_line}
+use Rattle.rules.proofs.GivenValues.{read_holds, entry_given, group_given, service_given}
+use Rattle.rules.proofs.EntryLines.{group_line, service_line}
 use Rattle.rules.specs.GoodAnswers.{asked_reading, asked_service}
 use Rattle.rules.specs.declared.Answer.TheVariants.{Good}
 use Rattle.rules.specs.declared.Group.{Group}

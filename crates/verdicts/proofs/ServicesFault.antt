@@ -6,15 +6,13 @@ use mathlib.Core.Bool.{Bool, true, false, cond}
 use mathlib.Core.List.{List, [], ◌∷◌, ◌++◌, reverse, reverse-cons}
 use mathlib.Core.Option.{Option, none, some}
 use borrow.Author.Tests.{eq-eqb, ne_eqb, eqb-true, eqb-false}
-use denote.Enum.Declared.{tag_of}
-use types.Run.{OneOf, miss}
 use lib.Dec.{eqb}
 use Rattle.text.specs.Options.{or_else}
 use Rattle.text.specs.declared.Dialect.TheVariants.{ConnMan}
 use Rattle.rules.specs.Sections.{Section, serves, services}
 use Rattle.rules.specs.Faults.{Fault, fault_at}
 use Rattle.rules.specs.Groups.{section_fault, service_fault, services_fault}
-use Rattle.rules.specs.GoodEntries.{serves_service}
+use Rattle.rules.proofs.GoodEntries.{serves_service}
 use Rattle.rules.specs.declared.Group.{Group}
 use Rattle.rules.specs.declared.Group.TheVariants.{Settings, Security, Ipv4, Ipv6, Global, Service}
 use Rattle.rules.specs.declared.Refusal.{Refusal}
@@ -25,7 +23,6 @@ use Rattle.verdicts.specs.Closing.{slots_rule, slots_fault_at, slots_fault, rule
 use Rattle.verdicts.specs.declared.Rule.{Rule}
 use Rattle.verdicts.specs.declared.Rule.TheVariants as R
 use Rattle.verdicts.specs.declared.Pending.TheVariants as P
-use Rattle.verdicts.specs.contracts.Rule.{the_type}
 use Rattle.places.proofs.RowLaws.{lies, group_at_lem}
 use Rattle.verdicts.proofs.RowRule.{row_rule}
 
@@ -120,9 +117,9 @@ answer_broken : (o : Option Refusal) {f : Refusal} → rule_answer o ≡ R.Broke
 answer_broken none e = let z : ◌≡◌ {A = ℕ} 0 1 = cc in absurd (omega arith)
 answer_broken (some r) {f} e = let z : r ≡ f = cc in ap some z
 
-answer_obeyed : (o : Option Refusal) {r : Rule} → r ≡ rule_answer o → OneOf (0 ∷ []) (tag_of the_type r) → o ≡ none
+answer_obeyed : (o : Option Refusal) {r : Rule} → r ≡ rule_answer o → ((f : Refusal) → r ≡ R.Broken f → ⊥) → o ≡ none
 answer_obeyed none e n = refl
-answer_obeyed (some f) e n = absurd (miss (0 ∷ []) 1 tt (subst (λ (q : Rule). OneOf (0 ∷ []) (tag_of the_type q)) e n))
+answer_obeyed (some f) e n = absurd (n f e)
 
 module _ (x : List ℕ) (i : ℕ) (h : slots_fault x i ≡ none) {r : Rule} (q : r ≡ rule_answer (slots_rule x (row_length + row_length * i))) where
   pub fault_broken : {f : Refusal} → r ≡ R.Broken f → (n : ℕ) → i < n → {m : ℕ} → m ≡ (slot (row_length + row_length * i) x).line → P.At f m ≡ pending_of (slots_fault x n)
@@ -130,5 +127,5 @@ module _ (x : List ℕ) (i : ℕ) (h : slots_fault x i ≡ none) {r : Rule} (q :
       let here : slots_fault x (suc i) ≡ some (record { refusal = f; line = m }) = rw (h, answer_broken (slots_rule x (row_length + row_length * i)) (sym q ∙ e), w) in
       sym (ap pending_of (fault_kept x (suc i) n here (omega (arith, k))))
 
-  pub fault_next : OneOf (0 ∷ []) (tag_of the_type r) → slots_fault x (i + 1) ≡ none
+  pub fault_next : ((f : Refusal) → r ≡ R.Broken f → ⊥) → slots_fault x (i + 1) ≡ none
   fault_next n = let s : i + 1 ≡ suc i = omega arith in ap (slots_fault x) s ∙ rw (h, answer_obeyed (slots_rule x (row_length + row_length * i)) q n)

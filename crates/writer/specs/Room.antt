@@ -9,7 +9,7 @@ use Rattle.records.specs.Formed.{WellFormed, Arrays, formed}
 use Rattle.records.specs.Laws.{joined_good, laid_formed, joined_laid}
 use Rattle.records.specs.declared.JoinRecord.{JoinRecord}
 use Rattle.written.specs.Written.{has_place, name_text, file_text}
-use Rattle.written.specs.LengthLaws.{name_short, file_short}
+use Rattle.written.proofs.LengthLaws.{name_short, file_short}
 use Rattle.written.specs.Largest.{Takes}
 use Rattle.writer.specs.Writing.{Writing, writes, refuses, room, Ample, writing_of, writing_placed, writing, written_answer}
 

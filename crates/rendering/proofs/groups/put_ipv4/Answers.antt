@@ -1,7 +1,7 @@
 -- The header and the settings are written where there is a setting, and nothing where there is none.
 use mathlib.Core.Path.{sym, ◌∙◌}
 use Rattle.put.specs.Laws.{wrote_none}
-use Rattle.written.specs.TextLaws.{group_none}
+use Rattle.written.proofs.TextLaws.{group_none}
 use Rattle.rendering.proofs.GroupTexts.{ipv4_front, ipv4_behind, ipv4_wrote}
 use borrow.Author.Rules.{rules}
 use Rattle.rendering.proofs.groups.put_ipv4.Goals as goal

@@ -6,7 +6,7 @@ use lib.Seq.{length-take-le}
 use Rattle.text.specs.Words.{word}
 use Rattle.written.specs.Written.{ipv4_rows}
 use Rattle.written.specs.RecordParts.{numbers_in}
-use Rattle.written.specs.TextLaws.{group_none}
+use Rattle.written.proofs.TextLaws.{group_none}
 use Rattle.rendering.proofs.ExactSizes.{group_size, ipv4_rows_size}
 use Rattle.rendering.proofs.Bounds.{numbers_short, servers_short, domain_short}
 use borrow.Author.Rules.{rules}
