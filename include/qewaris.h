@@ -1,7 +1,7 @@
 /* Qewaris: the wireless files of shop tills, for programs in C and C++ on x86-64.
  *
  * Reads iwd's and ConnMan's network files, answers each broken one with a number and a line, gives typed settings and a join
- * record, writes iwd files, and moves ConnMan services to iwd. Link with libqewaris.a, which `rt staticlib qewaris` makes; it
+ * record, writes iwd files, and moves ConnMan services to iwd. Link with libqewaris.a, which `packaging/archive` makes; it
  * needs no library but C's own, keeps no state and allocates nothing, so every function may be called from any thread.
  *
  * Answers. Every answer has a `number`: QEWARIS_OK, or the refusal. With a refusal comes the `line` that is to blame, counted

@@ -1,7 +1,7 @@
 //! Finds the archive `libqewaris.a`, or has it made, and sees that it has the layout that this crate knows.
 //!
 //! `QEWARIS_LIB_DIR` names a folder that has the archive; then nothing else is needed, and nothing is written beside the build's
-//! own folder. Without that variable `rt staticlib qewaris` makes it in the repository, from proofs that it checks first, unless
+//! own folder. Without that variable `packaging/archive` makes it in the repository, from proofs that it checks first, unless
 //! it is there and newer than all that it is made of.
 
 use std::env;
@@ -38,10 +38,10 @@ fn given(folder: &Path) -> PathBuf {
     archive
 }
 
-/// The archive that `rt` makes in the repository. What is watched is what it is made of, and not itself.
+/// The archive that `rt` makes in the repository. What is watched is what it is made of, and not what `rt` keeps beside that.
 fn made() -> PathBuf {
     let root = root();
-    let sources = [root.join("crates.txt"), root.join("crates")];
+    let sources = sources(&root);
     for source in &sources {
         println!("cargo:rerun-if-changed={}", source.display());
     }
@@ -50,6 +50,16 @@ fn made() -> PathBuf {
         make(&root);
     }
     archive
+}
+
+/// What the archive is made of: the list of the crates, and of each its code, its definitions and its proofs.
+fn sources(root: &Path) -> Vec<PathBuf> {
+    let crates = fs::read_dir(root.join("crates")).into_iter().flatten().flatten();
+    let parts = crates.flat_map(|each| ["src", "specs", "proofs"].map(|part| each.path().join(part)));
+    let mut found: Vec<_> = parts.filter(|part| part.is_dir()).collect();
+    found.sort();
+    found.push(root.join("crates.txt"));
+    found
 }
 
 /// The repository that this package stands in.
@@ -76,16 +86,15 @@ fn newest(path: &Path) -> Option<SystemTime> {
 }
 
 fn make(root: &Path) {
-    match Command::new("rt").args(["staticlib", "qewaris"]).current_dir(root).output() {
+    match Command::new(root.join("packaging/archive")).output() {
         Ok(done) if done.status.success() => {}
         Ok(done) => stop(&format!(
-            "`rt staticlib qewaris` failed:\n{}{}",
+            "`packaging/archive` failed:\n{}{}",
             String::from_utf8_lossy(&done.stdout),
             String::from_utf8_lossy(&done.stderr)
         )),
         Err(error) => stop(&format!(
-            "the Rattle kit is needed to make libqewaris.a, and its command `rt` cannot be run ({error}). Install the kit and \
-             put `rt` on the path, or set QEWARIS_LIB_DIR to a folder that has libqewaris.a."
+            "`packaging/archive`, which makes libqewaris.a, cannot be run ({error}). Set QEWARIS_LIB_DIR to a folder that has it."
         )),
     }
 }
