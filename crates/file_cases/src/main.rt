@@ -7,35 +7,43 @@
 // documents 01 and 02 and docs/DECISIONS.md.
 #![tactic(auto)]
 
-ghost use Rattle.std.specs.Prelude.{◌≤◌, length};
+ghost use Rattle.std.specs.Prelude.{◌≤◌, length, IfOk};
 
 use intake::streams;
 use rules::{Answer, Reading};
+use std::io;
+use std::io::{Read, Write};
 use written::buffers;
 
-fn check(name: &[u8], file: &[u8]) {
+fn check<W: Write>(out: &mut W, name: &[u8], file: &[u8]) -> io::Result<()> {
     let read = qewaris::check(names::dialects::dialect_of(name), name, file);
     match read {
         Reading::Accepted(settings, services) => {
-            streams::say_numbers(b"accepted ", settings, services);
+            streams::say_numbers(out, b"accepted ", settings, services)
         }
-        Reading::Refused(refusal, line) => streams::say_refused(refusal, line),
+        Reading::Refused(refusal, line) => streams::say_refused(out, refusal, line),
     }
 }
 
 // The new bytes of the two buffers.
-fn say_moved(name: &[u8], name_len: usize, file: &[u8], file_len: usize) {
+fn say_moved<W: Write>(
+    out: &mut W,
+    name: &[u8],
+    name_len: usize,
+    file: &[u8],
+    file_len: usize,
+) -> io::Result<()> {
     if name.len() < name_len {
-        return;
+        return Ok(());
     }
     if file.len() < file_len {
-        return;
+        return Ok(());
     }
-    streams::say_file(&name[0..name_len], &file[0..file_len]);
-    streams::say(b"\n");
+    streams::say_file(out, &name[0..name_len], &file[0..file_len])?;
+    streams::say(out, b"\n")
 }
 
-fn move_service(file: &[u8], service: usize) {
+fn move_service<W: Write>(out: &mut W, file: &[u8], service: usize) -> io::Result<()> {
     let mut name_out = buffers::for_name();
     let mut file_out = buffers::for_file();
     let written = qewaris::files::move_service(
@@ -47,25 +55,34 @@ fn move_service(file: &[u8], service: usize) {
     );
     let answer = written.answer;
     match answer {
-        Answer::Good => say_moved(&name_out, written.name_len, &file_out, written.file_len),
-        Answer::Refused(refusal, line) => streams::say_refused(refusal, line),
+        Answer::Good => say_moved(
+            out,
+            &name_out,
+            written.name_len,
+            &file_out,
+            written.file_len,
+        ),
+        Answer::Refused(refusal, line) => streams::say_refused(out, refusal, line),
     }
 }
 
 // The answer to the input of a program, to the end of its line: of the moving one where the first line has one byte, which is no
 // file name.
-fn answer(input: &[u8]) {
+fn answer<W: Write>(out: &mut W, input: &[u8]) -> io::Result<()> {
     let end = text::scan::line_end(input, 0);
     if end == input.len() {
-        streams::say(b"\n");
-        return;
+        return streams::say(out, b"\n");
     }
-    streams::say(b" = ");
+    streams::say(out, b" = ")?;
     let from = end + 1;
     if end == 1 {
-        move_service(&input[from..], hex_digits::digit_value(input[0]) as usize);
+        move_service(
+            out,
+            &input[from..],
+            hex_digits::digit_value(input[0]) as usize,
+        )
     } else {
-        check(&input[0..end], &input[from..]);
+        check(out, &input[0..end], &input[from..])
     }
 }
 
@@ -93,24 +110,40 @@ fn decode(out: &mut [u8], s: &[u8]) -> usize
 }
 
 // A line, with its answer where it is a case.
-fn answer_line(line: &[u8]) {
+fn answer_line<W: Write>(out: &mut W, line: &[u8]) -> io::Result<()> {
     let mut input = [0u8; 1024];
     let n = decode(&mut input, line);
-    streams::say(line);
-    answer(&input[0..n]);
+    streams::say(out, line)?;
+    answer(out, &input[0..n])
 }
 
-fn answer_lines(s: &[u8]) {
+fn answer_lines<W: Write>(out: &mut W, s: &[u8]) -> io::Result<()> {
     let mut at = 0;
     while at < s.len() {
         let end = text::scan::line_end(s, at);
-        answer_line(&s[at..end]);
+        answer_line(out, &s[at..end])?;
         at = end + 1;
     }
+    Ok(())
 }
 
-fn main() {
-    let mut buf = io::large_buffer();
-    let n = io::read_full(0, &mut buf);
-    answer_lines(&buf[..n]);
+// Reads until buf is full or the input ends, and returns how many bytes it put at the front of buf.
+fn read_full<R: Read>(input: &mut R, buf: &mut [u8]) -> io::Result<usize>
+    ensures { IfOk result (λ n. n ≤ length buf.new) }
+{
+    let mut done = 0;
+    while done < buf.len() {
+        let n = input.read(&mut buf[done..])?;
+        if n == 0 {
+            break;
+        }
+        done += n;
+    }
+    Ok(done)
+}
+
+fn main(rt: HostRuntime) -> io::Result<()> {
+    let mut buf = [0u8; 65536];
+    let n = read_full(&mut rt.stdin(), &mut buf)?;
+    answer_lines(&mut rt.stdout(), &buf[..n])
 }

@@ -1,57 +1,64 @@
-// Standard input and output: the whole input into its buffers, and what a program answers.
+// Input and output: the whole input into its buffers, and what a program answers.
 //
 // Where reading fails nothing is whole, so that no file is judged that was cut off. What is written is no part of a contract, so
-// each `say` says only that it answers nothing.
-ghost use Rattle.std.specs.Prelude.{◌≡◌};
+// each `say` says only that it answers nothing, or the error of a write, before which some of the bytes may have been written.
+ghost use Rattle.std.specs.Prelude.{◌≡◌, IfOk};
 ghost use Rattle.intake.specs.Input.{SomeInput};
 
 use crate::{FileBuffer, Input, NameBuffer, NumberBuffer, ReadInput, keeping};
-use libc::{STDIN_FILENO, STDOUT_FILENO};
 use rules::Refusal;
+use std::io;
+use std::io::{Read, Write};
 
-pub fn say(s: &[u8])
-    ensures { result ≡ tt }
+pub fn say<W: Write>(out: &mut W, s: &[u8]) -> io::Result<()>
+    ensures { IfOk result (λ r. r ≡ tt) }
 {
-    io::write_all(STDOUT_FILENO, s);
+    out.write_all(s)
 }
 
-pub fn say_number(n: usize)
-    ensures { result ≡ tt }
+pub fn say_number<W: Write>(out: &mut W, n: usize) -> io::Result<()>
+    ensures { IfOk result (λ r. r ≡ tt) }
 {
-    io::print_decimal(STDOUT_FILENO, n as u64);
+    write!(out, "{n}")
 }
 
 // A word, two numbers with a blank between, and the end of the line.
-pub fn say_numbers(word: &[u8], first: usize, second: usize)
-    ensures { result ≡ tt }
+pub fn say_numbers<W: Write>(
+    out: &mut W,
+    word: &[u8],
+    first: usize,
+    second: usize,
+) -> io::Result<()>
+    ensures { IfOk result (λ r. r ≡ tt) }
 {
-    say(word);
-    say_number(first);
-    say(b" ");
-    say_number(second);
-    say(b"\n");
+    say(out, word)?;
+    say_number(out, first)?;
+    say(out, b" ")?;
+    say_number(out, second)?;
+    say(out, b"\n")
 }
 
 // The line of a refusal.
-pub fn say_refused(refusal: Refusal, line: usize)
-    ensures { result ≡ tt }
+pub fn say_refused<W: Write>(out: &mut W, refusal: Refusal, line: usize) -> io::Result<()>
+    ensures { IfOk result (λ r. r ≡ tt) }
 {
     let number = tables::numbers::number_of(refusal);
-    say_numbers(b"refused ", number as usize, line);
+    say_numbers(out, b"refused ", number as usize, line)
 }
 
 // A file name as a line, and then the file.
-pub fn say_file(name: &[u8], file: &[u8])
-    ensures { result ≡ tt }
+pub fn say_file<W: Write>(out: &mut W, name: &[u8], file: &[u8]) -> io::Result<()>
+    ensures { IfOk result (λ r. r ≡ tt) }
 {
-    say(name);
-    say(b"\n");
-    say(file);
+    say(out, name)?;
+    say(out, b"\n")?;
+    say(out, file)
 }
 
 // Reads the next part of the input, and takes it. Nothing more is asked for where reading fails, where the input ends, and where
 // the file is too long.
-fn read_part(
+fn read_part<R: Read>(
+    input: &mut R,
     number: &mut NumberBuffer,
     name: &mut NameBuffer,
     file: &mut FileBuffer,
@@ -60,16 +67,14 @@ fn read_part(
     requires { SomeInput number.old name.old file.old kept }
     ensures { SomeInput number.new name.new file.new result.kept }
 {
-    let mut buf = io::large_buffer();
-    let got = libc::read(STDIN_FILENO, &mut buf);
-    if got < 0 {
+    let mut buf = [0u8; 65536];
+    let Ok(n) = input.read(&mut buf) else {
         return ReadInput {
             over: true,
             whole: false,
             kept,
         };
-    }
-    let n = io::count(got, &buf);
+    };
     let more = keeping::take(number, name, file, kept, &buf[0..n]);
     let over = is_over(n, more);
     ReadInput {
@@ -87,7 +92,8 @@ fn is_over(n: usize, k: Input) -> bool {
 
 // Reads the input into the three buffers, as far as it is asked for. An input that is not numbered has no line with a number
 // in front. The number of reads is bounded, so that the loop ends, by more than any input has.
-pub fn read_input(
+pub fn read_input<R: Read>(
+    input: &mut R,
     number: &mut NumberBuffer,
     name: &mut NameBuffer,
     file: &mut FileBuffer,
@@ -96,14 +102,12 @@ pub fn read_input(
     ensures { SomeInput number.new name.new file.new result.kept }
 {
     let mut kept = keeping::nothing(!numbered);
-    let mut left: u64 = 18446744073709551615;
-    while 0 < left {
-        let read = read_part(number, name, file, kept);
+    for _ in 0..u64::MAX {
+        let read = read_part(input, number, name, file, kept);
         if read.over {
             return read;
         }
         kept = read.kept;
-        left -= 1;
     }
     ReadInput {
         over: true,

@@ -12,16 +12,18 @@ ghost use Rattle.qewaris_check.specs.Answers.{checked_input, long_answer};
 
 use intake::{FileBuffer, Form, NameBuffer, NamedFile, forms, streams};
 use rules::Reading;
+use std::io;
+use std::io::Write;
 use text::Dialect;
 
-fn say_reading(r: Reading) {
+fn say_reading<W: Write>(out: &mut W, r: Reading) -> io::Result<()> {
     match r {
         Reading::Accepted(settings, _) => {
-            streams::say(b"accepted ");
-            streams::say_number(settings);
-            streams::say(b"\n");
+            streams::say(out, b"accepted ")?;
+            streams::say_number(out, settings)?;
+            streams::say(out, b"\n")
         }
-        Reading::Refused(refusal, line) => streams::say_refused(refusal, line),
+        Reading::Refused(refusal, line) => streams::say_refused(out, refusal, line),
     }
 }
 
@@ -59,14 +61,15 @@ fn check_kept(k: NamedFile, name: &NameBuffer, file: &FileBuffer) -> Reading
     check_name(&name[0..n], &file[0..size])
 }
 
-fn main() {
+fn main(rt: HostRuntime) -> io::Result<()> {
     let mut number = [0u8; 4];
     let mut name = [0u8; 129];
     let mut file = [0u8; 16385];
-    let input = streams::read_input(&mut number, &mut name, &mut file, false);
+    let input = streams::read_input(&mut rt.stdin(), &mut number, &mut name, &mut file, false);
     if input.whole {
         let kept = input.kept;
         let rest = kept.rest;
-        say_reading(check_kept(rest, &name, &file));
+        say_reading(&mut rt.stdout(), check_kept(rest, &name, &file))?;
     }
+    Ok(())
 }

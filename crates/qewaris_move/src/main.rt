@@ -15,12 +15,14 @@ ghost use Rattle.qewaris_move.specs.Answers.{moved_input, Sayable};
 
 use intake::{FileBuffer, Form, Input, NumberBuffer, forms, numbers, streams};
 use rules::Answer;
+use std::io;
+use std::io::Write;
 use writer::Written;
 use written::buffers;
 use written::buffers::{NewFile, NewName};
 
 // Says what was written, or the refusal, which is never that a buffer was too short.
-fn say_written(w: Written, name: &NewName, file: &NewFile)
+fn say_written<W: Write>(out: &mut W, w: Written, name: &NewName, file: &NewFile) -> io::Result<()>
     requires { Sayable name.now file.now w }
 {
     let name = &name[..];
@@ -29,8 +31,8 @@ fn say_written(w: Written, name: &NewName, file: &NewFile)
     let name_len = w.name_len;
     let file_len = w.file_len;
     match answer {
-        Answer::Good => streams::say_file(&name[0..name_len], &file[0..file_len]),
-        Answer::Refused(refusal, line) => streams::say_refused(refusal, line),
+        Answer::Good => streams::say_file(out, &name[0..name_len], &file[0..file_len]),
+        Answer::Refused(refusal, line) => streams::say_refused(out, refusal, line),
     }
 }
 
@@ -72,16 +74,17 @@ fn move_kept(
     move_named(form, &file[0..size], service, name_out, file_out)
 }
 
-fn main() {
+fn main(rt: HostRuntime) -> io::Result<()> {
     let mut number = [0u8; 4];
     let mut name = [0u8; 129];
     let mut file = [0u8; 16385];
-    let input = streams::read_input(&mut number, &mut name, &mut file, true);
+    let input = streams::read_input(&mut rt.stdin(), &mut number, &mut name, &mut file, true);
     let kept = input.kept;
     if input.whole {
         let mut name_out = buffers::for_name();
         let mut file_out = buffers::for_file();
         let written = move_kept(kept, &number, &file, &mut name_out, &mut file_out);
-        say_written(written, &name_out, &file_out);
+        say_written(&mut rt.stdout(), written, &name_out, &file_out)?;
     }
+    Ok(())
 }

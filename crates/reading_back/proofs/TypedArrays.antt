@@ -1,8 +1,8 @@
 -- What the types of a record and its servers tell of their arrays: `Arrays`.
 use Prim.Native.Nat.{ℕ}
-use mathlib.Core.Path.{◌≡◌, refl, subst}
+use mathlib.Core.Path.{◌≡◌, refl}
 use mathlib.Core.Bool.{true}
-use mathlib.Core.List.{List, [], ◌∷◌, map, map-id}
+use mathlib.Core.List.{List, [], ◌∷◌}
 use native.Mathlib.Omega.{arith}
 use borrow.Author.Tests.{lt-ltb}
 use lib.ListN.{length}
@@ -51,24 +51,21 @@ each_address (a ∷ s) (u ∷ us) p = rw (address 4 a (u ∷ []) p.0) (each_addr
 
 -- ---- the arrays of a record, and its servers
 
-field : (n : ℕ) (xs : List ℕ) (vs : List Val) → Is (Array (UInt w8) n) (map (λ (v : ℕ). v) xs) vs → Is (Array (UInt w8) n) xs vs
-field n xs vs p = subst (λ (ys : List ℕ). Is (Array (UInt w8) n) ys vs) (map-id xs) p
-
 pub typed_arrays : (r : JoinRecord) (s : List (List ℕ)) (vs ws : List Val) → Is (row J.the_type) r vs → Is (Array (Array (UInt w8) 4) 4) s ws → Arrays r s
 typed_arrays r s vs ws p q =
-    let name = field 32 r.name _ p.1.1.1.0 in
-    let key = field 32 r.key _ p.1.1.1.1.1.1.1.0 in
+    let name = p.1.1.1.0 in
+    let key = p.1.1.1.1.1.1.1.0 in
     record {
       name = long 32 r.name _ name;
       name_bytes = bytes 32 r.name _ name;
-      passphrase = long 63 r.passphrase _ (field 63 r.passphrase _ p.1.1.1.1.1.1.0);
+      passphrase = long 63 r.passphrase _ p.1.1.1.1.1.1.0;
       key = long 32 r.key _ key;
       key_bytes = bytes 32 r.key _ key;
-      address = address 4 r.address _ (field 4 r.address _ p.1.1.1.1.1.1.1.1.1.1.0);
-      gateway = address 4 r.gateway _ (field 4 r.gateway _ p.1.1.1.1.1.1.1.1.1.1.1.1.1.0);
+      address = address 4 r.address _ p.1.1.1.1.1.1.1.1.1.1.0;
+      gateway = address 4 r.gateway _ p.1.1.1.1.1.1.1.1.1.1.1.1.1.0;
       servers = q.1.0.1;
       server_bytes = each_address s q.0 q.1.1;
-      domain = long 253 r.domain _ (field 253 r.domain _ p.1.1.1.1.1.1.1.1.1.1.1.1.1.1.1.1.0);
-      ipv6_address_of = address 16 r.ipv6_address _ (field 16 r.ipv6_address _ p.1.1.1.1.1.1.1.1.1.1.1.1.1.1.1.1.1.1.0);
-      ipv6_gateway_of = address 16 r.ipv6_gateway _ (field 16 r.ipv6_gateway _ p.1.1.1.1.1.1.1.1.1.1.1.1.1.1.1.1.1.1.1.1.1.0);
+      domain = long 253 r.domain _ p.1.1.1.1.1.1.1.1.1.1.1.1.1.1.1.1.0;
+      ipv6_address_of = address 16 r.ipv6_address _ p.1.1.1.1.1.1.1.1.1.1.1.1.1.1.1.1.1.1.0;
+      ipv6_gateway_of = address 16 r.ipv6_gateway _ p.1.1.1.1.1.1.1.1.1.1.1.1.1.1.1.1.1.1.1.1.1.0;
     }

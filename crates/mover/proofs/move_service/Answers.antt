@@ -12,7 +12,7 @@ pub move_found-requires : goal.move_found-requires
 move_found-requires c = found_kept c.args.service c.read-reading.ensures c.asked_of-answer.ensures c.in-Good.is c.base_of-row.ensures
 
 pub returns-in-Good : goal.returns-in-Good
-returns-in-Good c = move_good c.args.service c.read-reading.ensures c.asked_of-answer.ensures c.args.name_out.now c.args.file-out.now c.in-Good.is c.base_of-row.ensures c.move_found.ensures
+returns-in-Good c = move_good c.args.service c.read-reading.ensures c.asked_of-answer.ensures c.args.name_out.now c.args.file_out.now c.in-Good.is c.base_of-row.ensures c.move_found.ensures
 
 pub returns-in-Refused : goal.returns-in-Refused
-returns-in-Refused c = move_refused c.args.service c.read-reading.ensures c.asked_of-answer.ensures c.args.name_out.now c.args.file-out.now c.in-Refused.is c.refused.ensures
+returns-in-Refused c = move_refused c.args.service c.read-reading.ensures c.asked_of-answer.ensures c.args.name_out.now c.args.file_out.now c.in-Refused.is c.refused.ensures
