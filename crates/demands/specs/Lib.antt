@@ -5,11 +5,5 @@ pub mod Exports
 -- What a caller sees of an answer, and zeros, which the contracts and the demands cite
 pub mod Telling
 pub mod Zeros
--- The proofs of the demands, and document 01's twelve cases
-pub mod DemandsHold
-pub mod TableHolds
-pub mod ExportsHold
-pub mod SuccessHolds
-pub mod PlacesHold
-pub mod RoomHolds
+-- Document 01's twelve cases; the proofs of the demands are in proofs/, where must-fail edits of the definitions are refused by them
 pub mod Cases

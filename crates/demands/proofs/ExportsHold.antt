@@ -33,7 +33,7 @@ use Rattle.boundary.specs.Answers.{Left, reading_at, text_at, left_of, record_an
 use Rattle.boundary.specs.Settings.{iwd_settings_at, service_settings_at}
 use Rattle.demands.specs.Demands as D
 use Rattle.demands.specs.Demands.{service_refusals, writer_rows}
-use Rattle.demands.specs.TableHolds.{InRows, asked_given, asked_service_given, write_given, demand_1_table}
+use Rattle.demands.proofs.TableHolds.{InRows, asked_given, asked_service_given, write_given, demand_1_table}
 use Rattle.demands.specs.Exports as E
 use Rattle.demands.specs.Exports.{Answered, export_number, reads, says, iwd_settings_lem, service_settings_lem, joins, wrote, zeroed, ExportedTable, ExportedRefusal}
 

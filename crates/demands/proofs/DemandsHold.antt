@@ -36,7 +36,7 @@ use Rattle.mover.specs.GoodMoves.{good_key_kept}
 use Rattle.mover.specs.Moves.{moved_if_good, moving_of, moving}
 use Rattle.mover.specs.Theorem as M
 use Rattle.demands.specs.Demands
-use Rattle.demands.specs.TableHolds.{settings_answer, service_answer_lem}
+use Rattle.demands.proofs.TableHolds.{settings_answer, service_answer_lem}
 
 -- ---- demand 1; `TableHolds` has `demand_1_table`
 

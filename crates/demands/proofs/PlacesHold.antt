@@ -28,7 +28,7 @@ use Rattle.record_layout.specs.Records.{lent_servers}
 use Rattle.boundary.specs.Answers.{text_at}
 use Rattle.boundary.specs.Settings.{entry_length, entries_at, service_settings_at}
 use Rattle.demands.specs.Exports.{StringStands, EntryAt, ListStands, entries_of, Lists, ExportedStrings, ExportedLists}
-use Rattle.demands.specs.ExportsHold.{refusal_number}
+use Rattle.demands.proofs.ExportsHold.{refusal_number}
 
 -- ---- strings
 

@@ -38,10 +38,10 @@ use Rattle.boundary.specs.Answers.{reading_at, left_of, record_answer_at, writin
 use Rattle.boundary.specs.declared.CRecordAnswer.{CRecordAnswer}
 use Rattle.demands.specs.Calls
 use Rattle.demands.specs.Demands.{ObeysTheRules}
-use Rattle.demands.specs.TableHolds.{settings_answer, service_answer_lem, lookup_answer, joined_answer}
+use Rattle.demands.proofs.TableHolds.{settings_answer, service_answer_lem, lookup_answer, joined_answer}
 use Rattle.demands.specs.Exports as E
 use Rattle.demands.specs.Exports.{WritableBytes, Joinable, new_name, new_file, OldBehind, ExportedSuccess, ExportedWrite, ExportedMove}
-use Rattle.demands.specs.ExportsHold.{refusal_number}
+use Rattle.demands.proofs.ExportsHold.{refusal_number}
 
 -- ---- 0, and nothing else, is the number of what is good
 
