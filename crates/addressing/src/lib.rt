@@ -4,7 +4,6 @@
 // one definition, specs/Addressing, over the bytes of an address and the greatest length; ConnMan's text for them is in specs/Settings.
 #![tactic(auto)]
 
-
 // Auto is IPv4's dhcp.
 #[derive(Clone, Copy)]
 pub enum Method {

@@ -139,7 +139,6 @@ place_inside {d} {file} u = let t = reads_typed u.place (judged d u.new.kind (pa
     go (T.with_length w) = u.inside
     go (T.bytes b) = u.inside
 
-
 -- a line that is no header, no setting and not refused
 abbrev Passed : Line → Type 0
 Passed f = ((p : Place) → f ≡ L.Header p → ⊥) × ((r : Refusal) → f ≡ L.Refused r → ⊥) × ((i : ℕ) (v : Value) → f ≡ L.Setting i v → ⊥)

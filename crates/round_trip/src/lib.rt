@@ -2,4 +2,3 @@
 //
 // There is no code here. The theorem is in specs/RoundTrip, and of structs in specs/Structs; `reading_back` says it of the code.
 #![tactic(auto)]
-

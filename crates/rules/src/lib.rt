@@ -4,7 +4,6 @@
 // This is document 01's "The numbers a caller sees", its lists of groups and keys, and "Rules over a group".
 #![tactic(auto)]
 
-
 // The refusals, in the order of document 01's numbers 1 to 19.
 #[derive(Clone, Copy)]
 pub enum Refusal {

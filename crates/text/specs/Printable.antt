@@ -1,5 +1,5 @@
 -- Printable ASCII: a text is printable where its pieces are, and the byte between them.
-use Rattle.std.specs.Prelude.{ℕ, ◌≤◌, ◌≡◌, Bool, true, List, [], ◌∷◌, ◌++◌}
+use Rattle.std.specs.Prelude.{ℕ, ◌≤◌, ◌≡◌, Bool, true, List, ◌∷◌}
 use Rattle.std.proofs.Common.{arith}
 use Rattle.text.specs.Bytes.{between, is_digit}
 use Rattle.text.specs.Parts.{all}

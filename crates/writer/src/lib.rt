@@ -4,7 +4,6 @@
 // before the first byte is written.
 #![tactic(auto)]
 
-
 ghost use Rattle.std.specs.Prelude.{◌≡◌, true};
 ghost use Rattle.records.specs.Record.{joined};
 ghost use Rattle.writer.specs.Writing.{writing, writing_of, writing_placed, refuses, written_answer, Writes};

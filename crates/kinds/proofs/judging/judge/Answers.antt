@@ -21,8 +21,8 @@ pub returns-in_default : goal.returns-in_default
 unfolding judged
 returns-in_default c =
     elim c.else-is_free_text.branch [
-      else-is_free_text-via-then-is_free_text+else-not-is_value_text w ↦
-        text_judged _ _ _ _ c.judge_kind-j.ensures (sym w.is_value_text.ensures ∙ w.if-not-is_value_text.false)
-    | else-is_free_text-via-else-is_free_text w ↦
-        kind_judged_lem _ _ _ _ c.judge_kind-j.ensures (sym c.is_free_text.ensures ∙ w.if-is_free_text.false) c.in_default.not-BrokenKind
+      | else-is_free_text-via-then-is_free_text+else-not-is_value_text w ↦
+          text_judged _ _ _ _ c.judge_kind-j.ensures (sym w.is_value_text.ensures ∙ w.if-not-is_value_text.false)
+      | else-is_free_text-via-else-is_free_text w ↦
+          kind_judged_lem _ _ _ _ c.judge_kind-j.ensures (sym c.is_free_text.ensures ∙ w.if-is_free_text.false) c.in_default.not-BrokenKind
     ]

@@ -3,7 +3,6 @@ use mathlib.Core.Path.{◌∙◌}
 use native.Mathlib.Omega.{arith}
 use Rattle.text.specs.declared.Class.TheVariants.{Alphanumeric}
 use Rattle.text.specs.ByteTableLaws.{chosen_member}
-use borrow.Author.Rules.{rules}
 use Rattle.text.proofs.classes.is_alphanumeric.Goals as goal
 
 pub returns : goal.returns

@@ -2,7 +2,6 @@
 use mathlib.Core.Path.{ap, sym, ◌∙◌}
 use native.Mathlib.Omega.{arith}
 use Rattle.text.specs.ByteTable.{columns_of}
-use borrow.Author.Rules.{rules}
 use Rattle.text.proofs.classes.is_compared.Goals as goal
 
 pub returns-in-Header : goal.returns-in-Header

@@ -1,7 +1,6 @@
 -- A digit by its bit in the table of bytes.
 use mathlib.Core.Path.{◌∙◌}
 use Rattle.text.specs.ByteTableLaws.{chosen_digit}
-use borrow.Author.Rules.{rules}
 use Rattle.text.proofs.classes.is_digit.Goals as goal
 
 pub returns : goal.returns

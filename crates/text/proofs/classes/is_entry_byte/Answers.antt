@@ -1,7 +1,6 @@
 use borrow.Author.Tests.{eq-eqb, ne_eqb}
 use mathlib.Core.Path.{ap}
 use mathlib.Core.Bool.{not}
-use borrow.Author.Rules.{rules}
 use Rattle.text.proofs.classes.is_entry_byte.Goals as goal
 
 pub returns-then-x-eq44 : goal.returns-then-x-eq44

@@ -1,5 +1,4 @@
 use borrow.Author.Tests.{eq-eqb, ne_eqb}
-use borrow.Author.Rules.{rules}
 use Rattle.text.proofs.classes.is_header_byte.Goals as goal
 
 pub returns-then-x-eq91 : goal.returns-then-x-eq91

@@ -1,6 +1,5 @@
 -- A digit or a letter from a to f, one comparison after the other.
 use mathlib.Core.Path.{sym, ◌∙◌}
-use borrow.Author.Rules.{rules}
 use Rattle.text.proofs.classes.is_lower_hex.Goals as goal
 
 pub returns-then-within : goal.returns-then-within

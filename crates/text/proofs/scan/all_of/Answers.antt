@@ -1,6 +1,5 @@
 -- Every byte is of the class where its run from the front ends at the end (`all_run`).
 use Rattle.text.proofs.ScanLaws.{all_run}
-use borrow.Author.Rules.{rules}
 use Rattle.text.proofs.scan.all_of.Goals as goal
 
 pub returns : goal.returns

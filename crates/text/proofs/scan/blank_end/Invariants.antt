@@ -1,10 +1,7 @@
 use Prim.Native.Nat.{◌-◌}
 use lib.ListN.{length}
-use mathlib.Core.Path.{sym, ◌∙◌}
 use Rattle.text.specs.Bytes.{is_blank}
 use Rattle.text.specs.Scans.{Scan}
-use Rattle.text.proofs.ScanLaws.{scan_none, scan_turn, scan_stop, scan_end}
-use borrow.Author.Rules.{rules}
 use Rattle.text.proofs.scan.blank_end.Given as goal
 
 abbrev pub invariant-loop-i : goal.invariant-loop-i

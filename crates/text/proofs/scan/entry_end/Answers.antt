@@ -1,9 +1,5 @@
 -- The entry goes on block by block (`Scan`), since a byte above the comma is one of an entry, and then byte by byte.
-use Prim.Native.Nat.{◌-◌}
 use mathlib.Core.Path.{refl}
-use lib.ListN.{length}
-use Rattle.text.specs.Bytes.{is_entry_byte}
-use Rattle.text.specs.Scans.{Scan}
 use Rattle.text.specs.Laws.{above_comma}
 use Rattle.text.proofs.ScanLaws.{scan_none, scan_on, scan_then, scan_as}
 use borrow.Author.Rules.{rules}

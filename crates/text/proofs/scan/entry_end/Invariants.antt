@@ -1,11 +1,7 @@
 use Prim.Native.Nat.{◌-◌}
-use mathlib.Core.Path.{refl}
 use lib.ListN.{length}
 use Rattle.text.specs.Bytes.{is_entry_byte}
 use Rattle.text.specs.Scans.{Scan}
-use Rattle.text.specs.Laws.{above_comma}
-use Rattle.text.proofs.ScanLaws.{scan_none, scan_on, scan_then, scan_as}
-use borrow.Author.Rules.{rules}
 use Rattle.text.proofs.scan.entry_end.Given as goal
 
 abbrev pub invariant-loop-i : goal.invariant-loop-i

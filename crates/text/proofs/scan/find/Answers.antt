@@ -1,9 +1,5 @@
 -- The run without the byte goes on block by block (`Scan`) to the block that holds it, or to the end of the text.
-use Prim.Native.Nat.{◌-◌}
 use native.Mathlib.Omega.{arith}
-use lib.ListN.{length}
-use Rattle.text.specs.Bytes.{other}
-use Rattle.text.specs.Scans.{Scan}
 use Rattle.text.proofs.ScanLaws.{scan_none, scan_on, scan_then, scan_end, scan_within}
 use Rattle.text.proofs.Loops.{goes}
 use borrow.Author.Rules.{rules}

@@ -1,11 +1,7 @@
 use Prim.Native.Nat.{◌-◌}
-use native.Mathlib.Omega.{arith}
 use lib.ListN.{length}
 use Rattle.text.specs.Bytes.{other}
 use Rattle.text.specs.Scans.{Scan}
-use Rattle.text.proofs.ScanLaws.{scan_none, scan_on, scan_then, scan_end, scan_within}
-use Rattle.text.proofs.Loops.{goes}
-use borrow.Author.Rules.{rules}
 use Rattle.text.proofs.scan.find.Given as goal
 
 abbrev pub invariant-loop-i : goal.invariant-loop-i

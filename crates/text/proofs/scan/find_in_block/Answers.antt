@@ -1,10 +1,8 @@
 -- The run without the byte goes on along the block (`Along`) to the byte, or behind the block.
-use Prim.Native.Nat.{◌-◌}
 use native.Mathlib.Omega.{arith}
-use Rattle.text.specs.Bytes.{other}
 use Rattle.text.specs.Laws.{is_other, not_other}
 use Rattle.text.proofs.ScanLaws.{scan_stop}
-use Rattle.text.proofs.Loops.{Along, along_none, along_turn, along_end}
+use Rattle.text.proofs.Loops.{along_none, along_turn, along_end}
 use borrow.Author.Rules.{rules}
 use Rattle.text.proofs.scan.find_in_block.Goals as goal
 

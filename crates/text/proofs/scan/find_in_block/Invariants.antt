@@ -1,10 +1,6 @@
 use Prim.Native.Nat.{◌-◌}
-use native.Mathlib.Omega.{arith}
 use Rattle.text.specs.Bytes.{other}
-use Rattle.text.specs.Laws.{is_other, not_other}
-use Rattle.text.proofs.ScanLaws.{scan_stop}
-use Rattle.text.proofs.Loops.{Along, along_none, along_turn, along_end}
-use borrow.Author.Rules.{rules}
+use Rattle.text.proofs.Loops.{Along}
 use Rattle.text.proofs.scan.find_in_block.Given as goal
 
 abbrev pub invariant-loop-j : goal.invariant-loop-j

@@ -1,8 +1,4 @@
-use Prim.Native.Nat.{◌-◌}
-use lib.ListN.{length}
-use Rattle.text.specs.Bytes.{other}
 use Rattle.text.specs.Laws.{is_other, not_other}
-use Rattle.text.specs.Scans.{Scan}
 use Rattle.text.proofs.ScanLaws.{scan_none, scan_turn, scan_stop, scan_end}
 use borrow.Author.Rules.{rules}
 use Rattle.text.proofs.scan.find_near.Goals as goal

@@ -4,7 +4,6 @@ use Prim.Native.Nat.{ℕ}
 use Rattle.text.specs.ByteTable.{chosen}
 use Rattle.text.specs.ByteTableLaws.{chosen_key}
 use Rattle.text.proofs.ScanLaws.{stop_as}
-use borrow.Author.Rules.{rules}
 use Rattle.text.proofs.scan.key_end.Goals as goal
 
 pub returns : goal.returns

@@ -1,8 +1,4 @@
 -- The line goes on block by block (`Scan`) to the block that holds its end, or to what is left behind the blocks.
-use Prim.Native.Nat.{◌-◌}
-use lib.ListN.{length}
-use Rattle.text.specs.Bytes.{in_line}
-use Rattle.text.specs.Scans.{Scan}
 use Rattle.text.proofs.ScanLaws.{scan_none, scan_on, scan_then}
 use borrow.Author.Rules.{rules}
 use Rattle.text.proofs.scan.line_end.Goals as goal

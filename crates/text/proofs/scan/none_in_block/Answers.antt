@@ -1,8 +1,5 @@
-use Prim.Native.Nat.{◌≤◌, ◌-◌}
-use mathlib.Core.Logic.{⊎_elim}
-use Rattle.text.specs.Bytes.{other}
 use Rattle.text.specs.Laws.{is_other}
-use Rattle.text.proofs.Loops.{Quiet, quiet_none, quiet_hit, quiet_more, quiet_end}
+use Rattle.text.proofs.Loops.{quiet_none, quiet_hit, quiet_more, quiet_end}
 use borrow.Author.Rules.{rules}
 use Rattle.text.proofs.scan.none_in_block.Goals as goal
 use Rattle.text.proofs.scan.none_in_block.Goals.{then-s-j, else-s-j}

@@ -1,10 +1,6 @@
 -- The run of printable ASCII goes on block by block (`Scan`) to the last one, and to the end where the tail is printable too; byte by
 -- byte in the block that ends it or behind the blocks.
-use Prim.Native.Nat.{◌-◌}
 use native.Mathlib.Omega.{arith}
-use lib.ListN.{length}
-use Rattle.text.specs.Bytes.{between}
-use Rattle.text.specs.Scans.{Scan}
 use Rattle.text.proofs.ScanLaws.{scan_none, scan_on, scan_then, scan_end}
 use borrow.Author.Rules.{rules}
 use Rattle.text.proofs.scan.printable_end.Goals as goal

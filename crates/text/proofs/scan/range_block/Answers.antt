@@ -1,9 +1,6 @@
 -- The run of the range goes on byte by byte unless there was a hit (`Quiet`).
-use Prim.Native.Nat.{◌≤◌, ◌-◌}
 use mathlib.Core.Path.{sym, ◌∙◌}
-use mathlib.Core.Logic.{⊎_elim}
-use Rattle.text.specs.Bytes.{between}
-use Rattle.text.proofs.Loops.{Quiet, quiet_none, quiet_hit, quiet_more, quiet_end}
+use Rattle.text.proofs.Loops.{quiet_none, quiet_hit, quiet_more, quiet_end}
 use borrow.Author.Rules.{rules}
 use Rattle.text.proofs.scan.range_block.Goals as goal
 use Rattle.text.proofs.scan.range_block.Goals.{then-within, else-within}

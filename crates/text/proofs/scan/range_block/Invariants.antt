@@ -1,9 +1,6 @@
 use Prim.Native.Nat.{◌≤◌, ◌-◌}
-use mathlib.Core.Path.{sym, ◌∙◌}
-use mathlib.Core.Logic.{⊎_elim}
 use Rattle.text.specs.Bytes.{between}
-use Rattle.text.proofs.Loops.{Quiet, quiet_none, quiet_hit, quiet_more, quiet_end}
-use borrow.Author.Rules.{rules}
+use Rattle.text.proofs.Loops.{Quiet}
 use Rattle.text.proofs.scan.range_block.Given as goal
 
 abbrev pub invariant-loop-j : goal.invariant-loop-j

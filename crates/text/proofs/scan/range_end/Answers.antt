@@ -1,8 +1,4 @@
-use Prim.Native.Nat.{◌-◌}
-use lib.ListN.{length}
 use mathlib.Core.Path.{sym, ◌∙◌}
-use Rattle.text.specs.Bytes.{between}
-use Rattle.text.specs.Scans.{Scan}
 use Rattle.text.proofs.ScanLaws.{scan_none, scan_turn, scan_stop, scan_end}
 use borrow.Author.Rules.{rules}
 use Rattle.text.proofs.scan.range_end.Goals as goal

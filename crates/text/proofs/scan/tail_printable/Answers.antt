@@ -2,7 +2,6 @@
 use mathlib.Core.Bool.{false≢true}
 use native.Mathlib.Omega.{arith}
 use Rattle.text.proofs.ScanLaws.{scan_on, scan_within}
-use borrow.Author.Rules.{rules}
 use Rattle.text.proofs.scan.tail_printable.Goals as goal
 
 pub returns-then-n-ge16 : goal.returns-then-n-ge16

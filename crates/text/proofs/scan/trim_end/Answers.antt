@@ -1,5 +1,5 @@
 use mathlib.Core.Path.{sym, ◌∙◌}
-use Rattle.text.proofs.Loops.{Trimming, trim_turn, trim_stop, trim_end, trim_first}
+use Rattle.text.proofs.Loops.{trim_turn, trim_stop, trim_end, trim_first}
 use borrow.Author.Rules.{rules}
 use Rattle.text.proofs.scan.trim_end.Goals as goal
 

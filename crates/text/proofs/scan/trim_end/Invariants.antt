@@ -1,6 +1,4 @@
-use mathlib.Core.Path.{sym, ◌∙◌}
-use Rattle.text.proofs.Loops.{Trimming, trim_turn, trim_stop, trim_end, trim_first}
-use borrow.Author.Rules.{rules}
+use Rattle.text.proofs.Loops.{Trimming}
 use Rattle.text.proofs.scan.trim_end.Given as goal
 
 abbrev pub invariant-loop-e : goal.invariant-loop-e

@@ -1,8 +1,4 @@
 -- The run of zeros goes on block by block (`Scan`), and byte by byte in the block that ends it or behind the blocks.
-use Prim.Native.Nat.{◌-◌}
-use lib.ListN.{length}
-use Rattle.text.specs.Bytes.{between}
-use Rattle.text.specs.Scans.{Scan}
 use Rattle.text.proofs.ScanLaws.{scan_none, scan_on, scan_then}
 use borrow.Author.Rules.{rules}
 use Rattle.text.proofs.scan.zeros_end.Goals as goal

@@ -2,8 +2,6 @@ use Prim.Native.Nat.{◌-◌}
 use lib.ListN.{length}
 use Rattle.text.specs.Bytes.{between}
 use Rattle.text.specs.Scans.{Scan}
-use Rattle.text.proofs.ScanLaws.{scan_none, scan_on, scan_then}
-use borrow.Author.Rules.{rules}
 use Rattle.text.proofs.scan.zeros_end.Given as goal
 
 abbrev pub invariant-loop-i : goal.invariant-loop-i

@@ -1,7 +1,6 @@
 -- A byte is in a mask by its entry.
 use mathlib.Core.Path.{ap}
 use Prim.Native.Nat.{ℕ}
-use borrow.Author.Rules.{rules}
 use Rattle.text.specs.ByteTable.{meets, chosen}
 use Rattle.text.proofs.table.is_in.Goals as goal
 

@@ -1,9 +1,5 @@
 -- The run of a mask goes on byte by byte (`Scan`) to its end.
-use Prim.Native.Nat.{◌-◌}
-use lib.ListN.{length}
 use mathlib.Core.Path.{sym, ◌∙◌}
-use Rattle.text.specs.ByteTable.{chosen}
-use Rattle.text.specs.Scans.{Scan}
 use Rattle.text.proofs.ScanLaws.{scan_none, scan_turn, scan_stop, scan_end}
 use borrow.Author.Rules.{rules}
 use Rattle.text.proofs.table.masked_end.Goals as goal
