@@ -32,9 +32,9 @@ use Rattle.joins.specs.SaturdayHolds.{faulty_refused}
 use Rattle.joins.specs.Joins.{iwd_join, network_name, or_no_place, no_record, service_join, service_setting, Joined, zero_record, iwd_joined, service_joined, iwd_record, iwd_record_servers, service_record, service_record_servers, record_answer, servers_after}
 use Rattle.round_trip.specs.RoundTrip.{written_accepted}
 use Rattle.round_trip.specs.Structs.{writing_record, writing_servers}
-use Rattle.mover.specs.GoodMoves.{good_key_kept}
+use Rattle.mover.proofs.GoodMoves.{good_key_kept}
 use Rattle.mover.specs.Moves.{moved_if_good, moving_of, moving}
-use Rattle.mover.specs.Theorem as M
+use Rattle.mover.proofs.Theorem as M
 use Rattle.demands.specs.Demands
 use Rattle.demands.proofs.TableHolds.{settings_answer, service_answer_lem}
 

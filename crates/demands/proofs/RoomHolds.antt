@@ -8,7 +8,7 @@ use Rattle.written.proofs.LengthLaws.{name_short, file_short, name_max_lem, file
 use Rattle.written.proofs.LargestLaws.{largest_file_lem, largest_name_lem}
 use Rattle.writer.specs.Writing.{Writing, refuses, writing}
 use Rattle.writer.specs.Room.{written_number, writing_never_17, less_name_17, less_file_17}
-use Rattle.mover.specs.Order.{moving_never_17}
+use Rattle.mover.proofs.Order.{moving_never_17}
 use Rattle.record_layout.specs.Records.{known, record_in, servers_in}
 use Rattle.record_layout.specs.Laws.{brought_arrays}
 use Rattle.demands.specs.Demands.{RoomFigures, RoomEnough, RoomReached, RoomWrite, RoomMove, Room-less}

@@ -29,8 +29,8 @@ use Rattle.joins.specs.Joins.{Joined, no_record, or_no_place, iwd_join, network_
 use Rattle.round_trip.specs.Structs.{writing_record, writing_servers}
 use Rattle.mover.specs.Moves.{moving}
 use Rattle.mover.specs.Demand.{Service, Movable}
-use Rattle.mover.specs.Theorem as M
-use Rattle.mover.specs.Order.{good_movable}
+use Rattle.mover.proofs.Theorem as M
+use Rattle.mover.proofs.Order.{good_movable}
 use Rattle.record_layout.specs.Records.{lent_servers, known, record_in, servers_in}
 use Rattle.record_layout.specs.Laws.{brought_back, brought_arrays}
 use Rattle.record_layout.specs.declared.CRecord.{CRecord}

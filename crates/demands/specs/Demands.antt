@@ -41,7 +41,7 @@ use Rattle.joins.specs.Joins.{zero_record, service_joined, iwd_record, iwd_recor
 use Rattle.joins.specs.Saturday.{FaultyPassphrase}
 use Rattle.mover.specs.Moves.{moving}
 use Rattle.mover.specs.Demand.{Movable, Moved}
-use Rattle.mover.specs.GoodMoves.{KeyKept}
+use Rattle.mover.proofs.GoodMoves.{KeyKept}
 
 -- ==== 1. "Whatever bytes, name, service number, record or buffers come in, each entry point ends with an answer from
 -- document 01's table. A refusal gives its number and line, zeros for all else, and changes no byte of any lent buffer."

@@ -33,7 +33,7 @@ use Rattle.joins.specs.Joins.{service_join}
 use Rattle.mover.specs.Moves.{unplaced, earliest, or_unplaced, moving}
 use Rattle.mover.specs.Demand.{Moves}
 use Rattle.mover.specs.Places.{RowLine, MovesBy}
-use Rattle.mover.specs.Theorem.{demand_3}
+use Rattle.mover.proofs.Theorem.{demand_3}
 use Rattle.mover.proofs.Sizes.{join_within}
 use Rattle.mover.proofs.Lines.{line_some, line_none}
 

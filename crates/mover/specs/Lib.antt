@@ -2,11 +2,8 @@
 pub mod Moves
 pub mod Demand
 pub mod Cases
--- The laws: the earliest line, demand 3, which refusals a move gives, that a key is kept, and a faulty Passphrase line
+-- The laws: the earliest line, and a faulty Passphrase line; those that a must-fail edit of the move breaks are in proofs/
 pub mod Earliest
-pub mod Theorem
-pub mod Order
-pub mod GoodMoves
 pub mod Saturday
 -- For the proofs only: what the row of a service says of its lines, and the buffers
 pub mod Places

@@ -11,7 +11,7 @@ use Rattle.rules.specs.Numbers.{answer_number}
 use Rattle.writer.specs.Writing.{Writing, writes, refuses, Ample, Writes}
 use Rattle.writer.specs.declared.Written.{Written}
 use Rattle.mover.specs.Moves.{moving}
-use Rattle.mover.specs.Order.{moving_never_17}
+use Rattle.mover.proofs.Order.{moving_never_17}
 use Rattle.intake.specs.declared.Form.{Form}
 use Rattle.intake.specs.declared.Form.TheVariants.{Empty}
 use Rattle.intake.specs.Forms.{form_from, complete}

@@ -112,6 +112,7 @@ pub fn record_at(r: JoinRecord, servers: [[u8; 4]; 4]) -> CRecord
 }
 
 // Whether every code of a record that is brought in is that of a case.
+#[tactic(auto, using(std::proofs::lemmas::Bool::Decides::nat_tests))]
 pub fn is_known(c: CRecord) -> bool
     ensures { result ≡ known c }
 {

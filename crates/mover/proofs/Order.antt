@@ -22,7 +22,7 @@ use Rattle.joins.specs.Joins.{service_join, service_setting}
 use Rattle.mover.specs.Moves.{unplaced, earliest, or_unplaced, moved_if_good, moving_of, moving}
 use Rattle.mover.specs.Demand.{Service, Movable}
 use Rattle.mover.specs.Earliest.{earliest_none}
-use Rattle.mover.specs.Theorem.{moving_service, move_well_formed}
+use Rattle.mover.proofs.Theorem.{moving_service, move_well_formed}
 
 -- ---- what a move is, case by case
 

@@ -11,8 +11,8 @@ use Rattle.writer.specs.declared.Written.{Written}
 use Rattle.joins.specs.Joins.{joined, needs_key, service_joined, iwd_joined}
 use Rattle.mover.specs.Moves.{moving}
 use Rattle.mover.specs.Demand.{Moved}
-use Rattle.mover.specs.Theorem.{demand_3}
-use Rattle.mover.specs.Order.{good_movable}
+use Rattle.mover.proofs.Theorem.{demand_3}
+use Rattle.mover.proofs.Order.{good_movable}
 
 -- the service has a record; what is written, the new bytes of the buffers x and y, is accepted and has a record; and
 -- the two are the same
