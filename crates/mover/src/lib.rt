@@ -1,6 +1,6 @@
 // The move of a ConnMan service to iwd: the file name and the file of the service's record, or the refusal.
 //
-// The definition is in specs/Moves, demand 3 in specs/Demand and its theorem in specs/Theorem. `unplaced` finds the earliest
+// The definition is in specs/Moves, demand 3 in specs/Demand and its theorem in proofs/Theorem. `unplaced` finds the earliest
 // line that iwd has no place for.
 #![tactic(auto)]
 
