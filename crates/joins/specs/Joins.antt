@@ -69,17 +69,17 @@ name_from none n = or_empty n
 
 -- ---- the record of an iwd file, at giving the setting with a key in the group with a name
 
-abbrev pub iwd_secret : (List ℕ → Option Entry) → Secret
+unfoldable abbrev pub iwd_secret : (List ℕ → Option Entry) → Secret
 unfolding keys_of
 iwd_secret at = let value = value_of G.Security at in secret_from (value (word "Passphrase")) (value (word "PreSharedKey"))
 
-abbrev pub iwd_ipv4 : (List ℕ → Option Entry) → Addressing
+unfoldable abbrev pub iwd_ipv4 : (List ℕ → Option Entry) → Addressing
 unfolding keys_of
 iwd_ipv4 at =
     let value = value_of G.Ipv4 at in
     static_or_dhcp (value (word "Address")) (value (word "Netmask")) (value (word "Gateway"))
 
-abbrev pub iwd_ipv6 : (List ℕ → Option Entry) → Addressing
+unfoldable abbrev pub iwd_ipv6 : (List ℕ → Option Entry) → Addressing
 unfolding keys_of
 iwd_ipv6 at =
     let value = value_of G.Ipv6 at in
@@ -87,7 +87,7 @@ iwd_ipv6 at =
 
 -- "iwd: the name from the file name; a Passphrase wins over a PreSharedKey; Netmask absent means 24; no Address means
 -- dhcp; Enabled absent or true means auto (house); Hidden absent means false."
-abbrev pub iwd_join : List ℕ → (List ℕ → List ℕ → Option Entry) → Join
+unfoldable abbrev pub iwd_join : List ℕ → (List ℕ → List ℕ → Option Entry) → Join
 unfolding keys_of
 iwd_join name at =
     record {
@@ -105,7 +105,7 @@ iwd_join name at =
 -- "ConnMan: SSID, if present, is the name and Name is ignored, though its line is still judged; Security absent means
 -- psk with a Passphrase, none without; IPv4 absent is dhcp, IPv6 absent auto, Hidden absent false.": the credential is
 -- the Passphrase, if there is one. Security psk has one (14), Security none has none (15), the others have no record.
-abbrev pub service_join : (List ℕ → Option Entry) → Join
+unfoldable abbrev pub service_join : (List ℕ → Option Entry) → Join
 unfolding keys_of
 service_join at =
     let value = value_of G.Service at in
@@ -120,14 +120,14 @@ service_join at =
     }
 
 -- "Asking the record of an ethernet, wep or ieee8021x service is 16": the Type or Security line that causes it
-abbrev pub wired : (List ℕ → Option Entry) → Bool
+unfoldable abbrev pub wired : (List ℕ → Option Entry) → Bool
 unfolding keys_of
 wired at = is_word W.Ethernet (value_of G.Service at (word "Type"))
 
 abbrev pub foreign_security : Option Word → Bool
 foreign_security o = is_word W.Wep o || is_word W.Ieee8021x o
 
-abbrev pub foreign : (List ℕ → Option Entry) → Bool
+unfoldable abbrev pub foreign : (List ℕ → Option Entry) → Bool
 unfolding keys_of
 foreign at = foreign_security (value_of G.Service at (word "Security"))
 

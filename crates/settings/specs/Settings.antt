@@ -28,7 +28,7 @@ use Rattle.settings.specs.declared.ServiceSettings.{ServiceSettings}
 -- ---- iwd: at gives the setting with a key, of one group
 
 -- "Settings: AutoConnect, Hidden, AlwaysRandomizeAddress (bool), AddressOverride (MAC)"
-abbrev pub general_settings_of : (List ℕ → Option Entry) → GeneralSettings
+unfoldable abbrev pub general_settings_of : (List ℕ → Option Entry) → GeneralSettings
 unfolding keys_of
 general_settings_of at =
     let value = value_of Settings at in
@@ -40,7 +40,7 @@ general_settings_of at =
     }
 
 -- "Security: Passphrase (string ..), PreSharedKey (64 hex digits)"
-abbrev pub security_settings_of : (List ℕ → Option Entry) → SecuritySettings
+unfoldable abbrev pub security_settings_of : (List ℕ → Option Entry) → SecuritySettings
 unfolding keys_of
 security_settings_of at =
     let value = value_of Security at in
@@ -51,7 +51,7 @@ security_settings_of at =
 
 -- "IPv4: Address, Gateway, Broadcast (address), Netmask (mask), DNS (1 to 4 addresses ..), DomainName (string ..),
 -- SendHostname (bool)"
-abbrev pub ipv4_settings_of : (List ℕ → Option Entry) → Ipv4Settings
+unfoldable abbrev pub ipv4_settings_of : (List ℕ → Option Entry) → Ipv4Settings
 unfolding keys_of
 ipv4_settings_of at =
     let value = value_of Ipv4 at in
@@ -66,7 +66,7 @@ ipv4_settings_of at =
     }
 
 -- "IPv6: Enabled (bool)", and by request 2026-03 "Address (length 128 if left off) and Gateway"
-abbrev pub ipv6_settings_of : (List ℕ → Option Entry) → Ipv6Settings
+unfoldable abbrev pub ipv6_settings_of : (List ℕ → Option Entry) → Ipv6Settings
 unfolding keys_of
 ipv6_settings_of at =
     let value = value_of Ipv6 at in
@@ -86,7 +86,7 @@ iwd_settings at =
       ipv6 = ipv6_settings_of (at (word "IPv6"));
     }
 
-abbrev pub iwd_servers : (List ℕ → List ℕ → Option Entry) → List (List ℕ)
+unfoldable abbrev pub iwd_servers : (List ℕ → List ℕ → Option Entry) → List (List ℕ)
 unfolding keys_of
 iwd_servers at = rows (group_value Ipv4 at (word "DNS"))
 
@@ -94,7 +94,7 @@ iwd_servers at = rows (group_value Ipv4 at (word "DNS"))
 
 -- "Type (wifi, ethernet)", "Name (string, 1 to 32), SSID (2 to 64 hex digits ..), Passphrase (string, 8 to 63),
 -- Security (psk, ieee8021x, none, wep), Hidden (bool)"
-abbrev pub network_settings_of : (List ℕ → Option Entry) → NetworkSettings
+unfoldable abbrev pub network_settings_of : (List ℕ → Option Entry) → NetworkSettings
 unfolding keys_of
 network_settings_of at =
     let value = value_of Service at in
@@ -109,7 +109,7 @@ network_settings_of at =
 
 -- "IPv4, IPv6 (off, auto)", which by request 2026-03 "gains address/length with an optional gateway", "IPv6.Privacy (..), MAC,
 -- Nameservers (1 to 4 addresses ..), SearchDomains and Timeservers (1 to 4 entries ..), Domain (string, 1 to 253)"
-abbrev pub address_settings_of : (List ℕ → Option Entry) → AddressSettings
+unfoldable abbrev pub address_settings_of : (List ℕ → Option Entry) → AddressSettings
 unfolding keys_of
 address_settings_of at =
     let value = value_of Service at in
@@ -127,6 +127,6 @@ address_settings_of at =
 abbrev pub service_settings : (List ℕ → Option Entry) → ServiceSettings
 service_settings at = record { network = network_settings_of at; addresses = address_settings_of at }
 
-abbrev pub service_servers : (List ℕ → Option Entry) → List (List ℕ)
+unfoldable abbrev pub service_servers : (List ℕ → Option Entry) → List (List ℕ)
 unfolding keys_of
 service_servers at = rows (value_of Service at (word "Nameservers"))
