@@ -1,21 +1,19 @@
 -- Where the next field of a list starts, and the loop that reads the fields: a law for each turn and each return.
-use Rattle.std.proofs.Common.{◌≡◌, ℕ, ◌+◌, ◌-◌, ◌<◌, ◌≤◌, Bool, true, false, not, eqb, List, [], ◌∷◌, ◌++◌, length, get_or, drop, set, replicate, sym, refl, ap, ◌∙◌, arith, le-leb}
-use mathlib.Core.Option.{Option, none, some}
-use borrow.Author.Tests.{lt-leb}
+use Rattle.std.proofs.Common.{◌≡◌, ℕ, ◌+◌, ◌-◌, ◌<◌, ◌≤◌, Bool, true, false, not, eqb, List, [], ◌∷◌, ◌++◌, length, get_or, drop, set, replicate, sym, refl, ap, ◌∙◌, arith}
+use Rattle.std.specs.Prelude.{None, Some}
 use Rattle.text.specs.declared.Class.TheVariants.{Space}
 use Rattle.text.specs.Bytes.{other, member_of}
 use Rattle.text.specs.Parts.{front, after, onto, pieces}
-use Rattle.text.specs.Options.{or_empty, sized, each}
+use Rattle.text.specs.Options.{sized, each}
 use Rattle.text.specs.Laws.{inside, is_other, not_other, pass_other, view_more, view_end, pieces_some}
 use Rattle.text.specs.Scans.{Stop}
 use Rattle.text.proofs.ScanLaws.{stop_after}
 use Rattle.addresses.specs.declared.Separator.{Separator}
 use Rattle.addresses.specs.declared.Separator.TheVariants.{Spaces, Comma}
 use Rattle.addresses.specs.Addresses.{separator, non_empty, spaced, fields, address, addresses, no_address, rows}
-use Rattle.addresses.specs.declared.FoundAddress.{FoundAddress}
-use Rattle.addresses.specs.Fields.{Includes, run, is_address_byte, AddressAt, others, remaining, NextField, Filled}
+use Rattle.addresses.specs.Fields.{Includes, run, ReadAt, NoneAt, is_address_byte, others, FieldAt, NoField, FilledBy}
 use Rattle.put.proofs.Gathering.{Gathered, gathered_first, gathered_turn, gathered_broken, gathered_end, gathered_full}
-use Rattle.addresses.proofs.Runs.{Whole, read_none, read_end, read_before, read_followed, read_stop, behind, pieces_first}
+use Rattle.addresses.proofs.Runs.{Whole, read_end, read_before, read_followed, read_stop, behind, pieces_first}
 
 -- the fields behind some spaces: none where nothing follows them
 abbrev behind_spaces : List ℕ → List (List ℕ)
@@ -40,17 +38,17 @@ spaces_stop {s} {i} t = spaces_skipped (drop i s) ∙ ap behind_spaces (stop_aft
 
 -- one law for each return of `next_field`
 module _ (sep : Separator) {s : List ℕ} {i : ℕ} where
-  pub next_comma : sep ≡ Comma → i < length s → NextField sep s i (i + 1)
-  next_comma w l = record { is = rw (w, le-leb (i + 1) (length s) (omega arith)) }
+  pub next_comma : sep ≡ Comma → i < length s → FieldAt sep s i (i + 1)
+  next_comma w l = record { within = omega arith; is = rw w }
 
   module _ (w : sep ≡ Spaces) {n : ℕ} (t : Stop (member_of Space) s (i + 1) n) where
-    pub next_none : n ≡ length s → NextField sep s i (n + 1)
-    next_none l = record { is = rw (w, lt-leb (n + 1) (length s) (omega (arith, l))) (spaces_stop t ∙ rw (view_end s n l)) }
+    pub next_none : n ≡ length s → NoField sep s i
+    next_none l = record { is_none = rw w (spaces_stop t ∙ rw (view_end s n l)) }
 
-    pub next_spaces : (n ≡ length s → ⊥) → NextField sep s i n
+    pub next_spaces : (n ≡ length s → ⊥) → FieldAt sep s i n
     next_spaces l =
         let m : n < length s = omega (arith, t.within, l) in
-        record { is = rw (w, le-leb n (length s) t.within) (spaces_stop t ∙ go (drop n s) (view_more s n m)) }
+        record { within = t.within; is = rw w (spaces_stop t ∙ go (drop n s) (view_more s n m)) }
       where
         go : (l : List ℕ) → l ≡ get_or s n 0 ∷ drop (n + 1) s → behind_spaces l ≡ spaced (pieces 32 l)
         go l v = rw v
@@ -76,11 +74,8 @@ pub record Addressing (sep : Separator) (s : List ℕ) (x : List (List ℕ)) (at
   pub within : at ≤ length s
   pub gathered : Gathered address no_address (fields sep s) (fields sep (drop at s)) x n
 
-pub addressing_first : (sep : Separator) (s : List ℕ) {x : List (List ℕ)} → x ≡ rows none → Addressing sep s x 0 0
+pub addressing_first : (sep : Separator) (s : List ℕ) {x : List (List ℕ)} → x ≡ rows None → Addressing sep s x 0 0
 addressing_first sep s e = rw e (record { within = omega arith; gathered = gathered_first })
-
-broken : {o : Option (List (List ℕ))} {x : List (List ℕ)} → o ≡ none → Filled o x 0
-broken e = record { count = sym (ap (λ (p : Option (List (List ℕ))). length (or_empty p)) e); array = λ f. absurd (f refl) }
 
 fields_some : (sep : Separator) (s : List ℕ) → 1 ≤ length (fields sep s)
 fields_some Comma s = pieces_some 44 s
@@ -91,67 +86,63 @@ fields_some Spaces s = go (pieces 32 s) (pieces_some 32 s)
     go (p ∷ ps) h = omega arith
 
 module _ {sep : Separator} {s : List ℕ} {x : List (List ℕ)} {at n : ℕ} (h : Addressing sep s x at n) where
-  pub addressing_full : 4 ≤ n → Filled (addresses sep s) x 0
+  pub addressing_full : 4 ≤ n → addresses sep s ≡ None
   unfolding addresses
-  addressing_full k = broken (gathered_full h.gathered 1 k (fields_some sep (drop at s)))
+  addressing_full k = gathered_full h.gathered 1 k (fields_some sep (drop at s))
 
-  module _ {r : FoundAddress} (a : AddressAt s at r) where
-    abbrev apart : ℕ → Bool
-    apart = other (separator sep)
+  -- a byte of the field at at
+  abbrev apart : ℕ → Bool
+  apart = other (separator sep)
 
-    unread : {y : List (List ℕ)} → address (run apart s at) ≡ none → Filled (addresses sep s) y 0
-    unfolding addresses
-    unread k = broken (gathered_broken h.gathered 1 (fields_first sep (drop at s)) k)
+  unread : address (run apart s at) ≡ None → addresses sep s ≡ None
+  unfolding addresses
+  unread k = gathered_broken h.gathered 1 (fields_first sep (drop at s)) k
 
-    pub addressing_broken : not r.ok ≡ true → Filled (addresses sep s) x 0
-    addressing_broken b = unread (read_none a apart (address_apart sep) b)
+  pub addressing_broken : NoneAt address is_address_byte s at → addresses sep s ≡ None
+  addressing_broken a = unread (a.is_none apart (address_apart sep))
 
-    module _ (b : not r.ok ≡ false) (l : n < 4) where
+  module _ {e : ℕ} {b : List ℕ} (a : ReadAt address is_address_byte s at e b) where
+    module _ (l : n < 4) where
       -- one address more is read, and the fields qs are left
       abbrev Turned : List (List ℕ) → Type 0
-      Turned qs = Gathered address no_address (fields sep s) qs (set x n r.bytes) (n + 1)
+      Turned qs = Gathered address no_address (fields sep s) qs (set x n b) (n + 1)
 
-      turned : {qs : List (List ℕ)} → Whole address apart s at r.end r.bytes →
-          others sep (behind (separator sep) (drop r.end s)) ≡ qs → Turned qs
-      turned t e = gathered_turn h.gathered (fields_first sep (drop at s) ∙ rw (stop_after t.stop, e)) t.value l
+      turned : {qs : List (List ℕ)} → Whole address apart s at e b →
+          others sep (behind (separator sep) (drop e s)) ≡ qs → Turned qs
+      turned t k = gathered_turn h.gathered (fields_first sep (drop at s) ∙ rw (stop_after t.stop, k)) t.value l
 
-      whole : {qs : List (List ℕ)} → Turned qs → qs ≡ [] → Filled (addresses sep s) (set x n r.bytes) (n + 1)
+      whole : {qs : List (List ℕ)} → Turned qs → qs ≡ [] → FilledBy (addresses sep s) (set x n b) (n + 1)
       unfolding addresses
-      whole g e =
-          let k = inside {x = n + 1} 1 4 (omega arith) (omega arith) in
-          let w : sized 1 4 (each address (fields sep s)) ≡ some g.done = gathered_end g 1 e ∙ rw k in
+      whole g k =
+          let i = inside {x = n + 1} 1 4 (omega arith) (omega arith) in
+          let w : sized 1 4 (each address (fields sep s)) ≡ Some g.done = gathered_end g 1 k ∙ rw i in
           let y = ap (λ (j : ℕ). g.done ++ replicate (4 - j) no_address) (sym g.long) in
-          rw w (record { count = sym g.long; array = λ f. g.array ∙ y })
+          rw w (record { count = sym g.long; array = g.array ∙ y })
 
-      pub addressing_last : r.end ≡ length s → Filled (addresses sep s) (set x n r.bytes) (n + 1)
+      pub addressing_last : e ≡ length s → FilledBy (addresses sep s) (set x n b) (n + 1)
       addressing_last k =
-          whole (turned (read_end a apart (address_apart sep) b k) (rw (view_end s r.end k) (others_none sep))) refl
+          whole (turned (read_end a apart (address_apart sep) k) (rw (view_end s e k) (others_none sep))) refl
 
-      module _ (k : r.end ≡ length s → ⊥) where
-        pub addressing_before : r.end < length s
-        addressing_before = read_before a apart (address_apart sep) b k
+    module _ (k : e ≡ length s → ⊥) where
+      pub addressing_before : e < length s
+      addressing_before = read_before a apart (address_apart sep) k
 
-        -- the byte behind the address is a separator, or none
-        module _ {d : ℕ} (v : d ≡ separator sep) where
-          pub addressing_apart : (get_or s r.end 0 ≡ d → ⊥) → {y : List (List ℕ)} → Filled (addresses sep s) y 0
-          addressing_apart c =
-              unread
-              (read_followed a apart (address_apart sep) b k
-              (is_other (get_or s r.end 0) (separator sep) (λ e. c (e ∙ sym v))))
+      -- the byte behind the address is a separator, or none
+      module _ {d : ℕ} (v : d ≡ separator sep) where
+        pub addressing_apart : (get_or s e 0 ≡ d → ⊥) → addresses sep s ≡ None
+        addressing_apart c =
+            unread
+            (read_followed a apart (address_apart sep) k
+            (is_other (get_or s e 0) (separator sep) (λ i. c (i ∙ sym v))))
 
-          module _ (c : get_or s r.end 0 ≡ d) {m : ℕ} (f : NextField sep s r.end m) where
-            next : Turned (remaining sep s m)
-            next =
-                turned (read_stop a apart (address_apart sep) b k (not_other (get_or s r.end 0) (separator sep) (c ∙ v)))
-                (rw (view_more s r.end addressing_before) f.is)
+        module _ (c : get_or s e 0 ≡ d) (l : n < 4) where
+          next : {qs : List (List ℕ)} → others sep (pieces (separator sep) (drop (e + 1) s)) ≡ qs → Turned l qs
+          next f =
+              turned l (read_stop a apart (address_apart sep) k (not_other (get_or s e 0) (separator sep) (c ∙ v)))
+              (rw (view_more s e addressing_before) f)
 
-            pub addressing_end : length s < m → Filled (addresses sep s) (set x n r.bytes) (n + 1)
-            addressing_end w = whole next (rw (lt-leb m (length s) w))
+          pub addressing_end : NoField sep s e → FilledBy (addresses sep s) (set x n b) (n + 1)
+          addressing_end f = whole l (next f.is_none) refl
 
-            pub addressing_turn : m ≤ length s → Addressing sep s (set x n r.bytes) m (n + 1)
-            addressing_turn w = record { within = w; gathered = rw (le-leb m (length s) w) at next }
-
-pub filled_none : (o : Option (List (List ℕ))) {x : List (List ℕ)} {r : ℕ} → Filled o x r → r ≡ 0 → rows none ≡ rows o
-filled_none none h e = refl
-filled_none (some []) h e = refl
-filled_none (some (a ∷ l)) h e = absurd (omega (arith, h.count, e))
+          pub addressing_turn : {m : ℕ} → FieldAt sep s e m → Addressing sep s (set x n b) m (n + 1)
+          addressing_turn f = record { within = f.within; gathered = next f.is }

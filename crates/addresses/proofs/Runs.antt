@@ -1,12 +1,10 @@
 -- The bytes from a place on that pass a test, their pieces, and what a reader that hands back its end has read of them.
-use Rattle.std.proofs.Common.{◌≡◌, ℕ, ◌+◌, ◌<◌, Bool, true, false, not, ◌&&◌, eqb, List, [], ◌∷◌, length, get_or, sym, refl, ap, ◌∙◌, arith}
-use mathlib.Core.Option.{Option, none, some}
-use borrow.Author.Tests.{not-true, not-false}
+use Rattle.std.proofs.Common.{◌≡◌, ℕ, ◌+◌, ◌<◌, Bool, true, false, ◌&&◌, eqb, List, [], ◌∷◌, length, get_or, sym, refl, ap, ◌∙◌, arith}
+use Rattle.std.specs.Prelude.{Option, None, Some}
 use Rattle.text.specs.Bytes.{other}
-use Rattle.text.specs.Parts.{empty, front, after, onto, part, pieces}
-use Rattle.text.specs.Options.{only}
+use Rattle.text.specs.Parts.{front, after, onto, part, pieces}
 use Rattle.text.specs.Laws.{view_end, view_more}
-use Rattle.text.specs.Scans.{Stop, Scan}
+use Rattle.text.specs.Scans.{Stop}
 use Rattle.text.proofs.ScanLaws.{scan_stop, scan_end, stop_front}
 use Rattle.addresses.specs.Fields.{Includes, run, ReadAt}
 
@@ -26,35 +24,25 @@ module _ (p : ℕ → Bool) (s : List ℕ) (i : ℕ) where
 -- the bytes from at on that pass p end at e, and f reads a of them
 pub record Whole {A : Type 0} (f : List ℕ → Option A) (p : ℕ → Bool) (s : List ℕ) (at e : ℕ) (a : A) : Type 0 where
   pub stop : Stop p s at e
-  pub value : f (run p s at) ≡ some a
+  pub value : f (run p s at) ≡ Some a
 
 module _ {A : Type 0} {f : List ℕ → Option A} {s : List ℕ} {at e : ℕ} {a : A} where
-  pub whole_part : {p : ℕ → Bool} → Whole f p s at e a → f (part at e s) ≡ some a
+  pub whole_part : {p : ℕ → Bool} → Whole f p s at e a → f (part at e s) ≡ Some a
   whole_part h = ap f (sym (stop_front h.stop)) ∙ h.value
 
-  module _ {q : ℕ → Bool} {ok : Bool} (h : ReadAt f q s at ok e a) (p : ℕ → Bool) (w : Includes p q) where
-    pub read_none : not ok ≡ true → f (run p s at) ≡ none
-    read_none k = h.is p w ∙ rw (not-true ok k)
+  module _ {q : ℕ → Bool} (h : ReadAt f q s at e a) (p : ℕ → Bool) (w : Includes p q) where
+    pub read_end : e ≡ length s → Whole f p s at e a
+    read_end l = record { stop = scan_end (h.scan p w) (omega (arith, l)); value = h.is p w ∙ rw (run_end_lem p s e l) }
 
-    module _ (k : not ok ≡ false) where
-      pub read_scan : Scan p s at e
-      read_scan = h.scan (not-false ok k) p w
+    module _ (l : e ≡ length s → ⊥) where
+      pub read_before : e < length s
+      read_before = let n = h.scan p w in omega (arith, n.within, l)
 
-      is : f (run p s at) ≡ only (empty (run p s e)) (some a)
-      is = h.is p w ∙ rw (not-false ok k)
+      pub read_followed : p (get_or s e 0) ≡ true → f (run p s at) ≡ None
+      read_followed c = h.is p w ∙ rw (run_more p s e read_before c)
 
-      pub read_end : e ≡ length s → Whole f p s at e a
-      read_end l = record { stop = scan_end read_scan (omega (arith, l)); value = is ∙ rw (run_end_lem p s e l) }
-
-      module _ (l : e ≡ length s → ⊥) where
-        pub read_before : e < length s
-        read_before = omega (arith, read_scan.within, l)
-
-        pub read_followed : p (get_or s e 0) ≡ true → f (run p s at) ≡ none
-        read_followed c = is ∙ rw (run_more p s e read_before c)
-
-        pub read_stop : p (get_or s e 0) ≡ false → Whole f p s at e a
-        read_stop c = record { stop = scan_stop read_scan read_before c; value = is ∙ rw (run_stop p s e read_before c) }
+      pub read_stop : p (get_or s e 0) ≡ false → Whole f p s at e a
+      read_stop c = record { stop = scan_stop (h.scan p w) read_before c; value = h.is p w ∙ rw (run_stop p s e read_before c) }
 
 -- ---- the pieces between the bytes d of what passes q
 

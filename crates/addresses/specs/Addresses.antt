@@ -1,32 +1,27 @@
 -- IPv4 addresses, masks, and lists of addresses, in text.
-use Rattle.std.specs.Prelude.{ℕ, zero, suc, ◌+◌, ◌-◌, ◌*◌, ◌/◌, ◌%◌, ◌^◌, Bool, true, false, cond, ◌&&◌, ◌||◌, List, [], ◌∷◌, ◌++◌, length, replicate, ◌==◌, nat_le, nat_lt, slice_index}
-use Rattle.std.proofs.Math.Option.{Option, none, some}
+use Rattle.std.specs.Prelude.{ℕ, zero, suc, ◌+◌, ◌-◌, ◌*◌, ◌/◌, ◌%◌, ◌^◌, Bool, true, cond, ◌&&◌, ◌||◌, List, [], ◌∷◌, ◌++◌, length, replicate, ◌==◌, nat_le, nat_lt, slice_index, Option, None, Some}
 use Rattle.text.specs.Bytes.{between, is_digit}
 use Rattle.text.specs.Parts.{all, empty, pieces}
 use Rattle.text.specs.Options.{is_some, and_then, only, sized, or_empty, each}
 use Rattle.addresses.specs.declared.Separator.{Separator}
 use Rattle.addresses.specs.declared.Separator.TheVariants.{Spaces, Comma}
-use Rattle.addresses.specs.declared.Number.{Number}
-use Rattle.addresses.specs.declared.Address.{Address}
-use Rattle.addresses.specs.declared.Netmask.{Netmask}
-use Rattle.addresses.specs.declared.Netmask.TheVariants.{Length, Broken}
 
 -- ---- numbers and addresses
 
 -- the number that decimal digits write, after those of v
 unfoldable pub decimal_value : ℕ → List ℕ → Option ℕ
-decimal_value v [] = some v
-decimal_value v (c ∷ s) = cond (is_digit c) (decimal_value (v * 10 + (c - 48)) s) none
+decimal_value v [] = Some v
+decimal_value v (c ∷ s) = cond (is_digit c) (decimal_value (v * 10 + (c - 48)) s) None
 
 -- only up to m
 abbrev pub up_to : ℕ → Option ℕ → Option ℕ
-up_to m none = none
-up_to m (some v) = only (nat_le v m) (some v)
+up_to m None = None
+up_to m (Some v) = only (nat_le v m) (Some v)
 
 -- a decimal number of at most m, "no leading zeros"
 unfoldable pub number : ℕ → List ℕ → Option ℕ
-number m [] = none
-number m (c ∷ s) = cond (c == 48) (only (empty s) (some 0)) (up_to m (decimal_value 0 (c ∷ s)))
+number m [] = None
+number m (c ∷ s) = cond (c == 48) (only (empty s) (Some 0)) (up_to m (decimal_value 0 (c ∷ s)))
 
 abbrev pub octet : List ℕ → Option ℕ
 octet = number 255
@@ -37,7 +32,7 @@ address s = sized 4 4 (each octet (pieces 46 s))
 
 -- so many bytes
 abbrev pub is_bytes : ℕ → List ℕ → Bool
-is_bytes n a = is_some (sized n n (some a)) && all (between 0 255) a
+is_bytes n a = is_some (sized n n (Some a)) && all (between 0 255) a
 
 -- "inside, an IPv4 address is four bytes, the first written first"
 abbrev pub is_address : List ℕ → Bool
@@ -50,8 +45,8 @@ are_addresses (a ∷ l) = is_address a && are_addresses l
 -- ---- masks
 
 abbrev pub positive : ℕ → Option ℕ
-positive zero = none
-positive (suc k) = some (suc k)
+positive zero = None
+positive (suc k) = Some (suc k)
 
 -- "length (1 to 32, no leading zero)": a prefix length, 1 to m
 unfoldable pub prefix_length_of : ℕ → List ℕ → Option ℕ
@@ -67,8 +62,8 @@ mask k = 2 ^ 32 - 2 ^ (32 - k)
 
 -- "and there is at least one; the mask length is the count of its leading ones": the k from 1 on whose mask m is
 unfoldable pub length_up_to : ℕ → ℕ → Option ℕ
-length_up_to zero m = none
-length_up_to (suc k) m = cond (m == mask (suc k)) (some (suc k)) (length_up_to k m)
+length_up_to zero m = None
+length_up_to (suc k) m = cond (m == mask (suc k)) (Some (suc k)) (length_up_to k m)
 
 unfoldable pub mask_length : ℕ → Option ℕ
 mask_length m = length_up_to 32 m
@@ -143,17 +138,3 @@ listed sep (a ∷ l) = dotted a ++ with_separators sep l
 -- a byte of such a list
 abbrev pub is_list_byte : Separator → ℕ → Bool
 is_list_byte sep x = x == separator sep || between 46 57 x
-
--- ---- the answers of the code
-
-abbrev pub number_answer : Option ℕ → Number
-number_answer none = record { ok = false; value = 0 }
-number_answer (some v) = record { ok = true; value = v }
-
-abbrev pub address_answer : Option (List ℕ) → Address
-address_answer none = record { ok = false; bytes = no_address }
-address_answer (some a) = record { ok = true; bytes = a }
-
-abbrev pub netmask_answer : Option ℕ → Netmask
-netmask_answer none = Broken
-netmask_answer (some k) = Length k

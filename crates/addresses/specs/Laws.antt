@@ -1,7 +1,7 @@
 -- What is read: addresses of four bytes, and one to four of them in a list.
-use Rattle.std.specs.Prelude.{◌≡◌, ℕ, ◌<◌, ◌≤◌, true, List, [], ◌∷◌, length, take, refl}
+use Rattle.std.specs.Prelude.{◌≡◌, ℕ, ◌<◌, ◌≤◌, true, List, [], ◌∷◌, length, take, refl, Option, Some}
 use Rattle.std.proofs.Common.{ap, ◌∙◌, arith}
-use Rattle.std.proofs.Math.Option.{Option, some, some-injective}
+use Rattle.std.proofs.lemmas.Option.{same_Some}
 use Rattle.std.proofs.Math.Seq.{take-append_seam}
 use Rattle.text.specs.Bytes.{between}
 use Rattle.text.specs.Parts.{all}
@@ -19,12 +19,12 @@ use Rattle.addresses.specs.AddressRuleLaws.{address_is, is_address_lem, addresse
 module _ (n : ℕ) (a : List ℕ) where
   pub bytes_length : is_bytes n a ≡ true → length a ≡ n
   bytes_length e =
-      let k = some_is (sized n n (some a)) (and_true (is_some (sized n n (some a))) _ e).0 in
-      let s = sized_is n n (some a) k.1 in
-      ap length (some-injective a k.0 s.1) ∙ omega (arith, s.0)
+      let k = some_is (sized n n (Some a)) (and_true (is_some (sized n n (Some a))) _ e).0 in
+      let s = sized_is n n (Some a) k.1 in
+      ap length (same_Some a k.0 s.1) ∙ omega (arith, s.0)
 
   pub bytes_each : is_bytes n a ≡ true → all (between 0 255) a ≡ true
-  bytes_each e = (and_true (is_some (sized n n (some a))) _ e).1
+  bytes_each e = (and_true (is_some (sized n n (Some a))) _ e).1
 
   pub are_bytes : length a ≡ n → all (between 0 255) a ≡ true → is_bytes n a ≡ true
   are_bytes l h = rw (inside {x = length a} n n (omega arith) (omega arith)) h
@@ -69,10 +69,10 @@ numbers_bytes (p ∷ ps) (n ∷ a) h =
     rw (inside {x = n} 0 255 (omega arith) h.0.most) (numbers_bytes ps a h.1)
 
 -- what is read as an address is four bytes
-pub address_bytes_lem : (s : List ℕ) {a : List ℕ} → address s ≡ some a → is_address a ≡ true
+pub address_bytes_lem : (s : List ℕ) {a : List ℕ} → address s ≡ Some a → is_address a ≡ true
 address_bytes_lem s {a} e =
     let h = address_is s e in
-    rw (is_sized 4 4 (some a) h.four refl) (numbers_bytes h.numbers a h.each)
+    rw (is_sized 4 4 (Some a) h.four refl) (numbers_bytes h.numbers a h.each)
 
 texts_addresses : (ps l : List (List ℕ)) → Pairwise AddressIs ps l → are_addresses l ≡ true
 texts_addresses [] [] h = refl
@@ -81,7 +81,7 @@ texts_addresses (p ∷ ps) [] h = absurd h
 texts_addresses (p ∷ ps) (a ∷ l) h = rw (address_bytes_lem p (is_address_lem p h.0)) (texts_addresses ps l h.1)
 
 -- what is read as a list is one to four of them
-pub addresses_good : (sep : Separator) (s : List ℕ) {l : List (List ℕ)} → addresses sep s ≡ some l →
+pub addresses_good : (sep : Separator) (s : List ℕ) {l : List (List ℕ)} → addresses sep s ≡ Some l →
     (1 ≤ length l) × (length l ≤ 4) × (are_addresses l ≡ true)
 addresses_good sep s {l} e =
     let h = addresses_is sep s e in

@@ -1,7 +1,7 @@
 -- What `netmask` reads is the count of the ones in front of a mask's zeros.
-use Rattle.std.specs.Prelude.{◌≡◌, ℕ, zero, suc, ◌+◌, ◌-◌, ◌*◌, ◌/◌, ◌%◌, ◌<◌, ◌≤◌, Bool, true, false, cond, List, [], ◌∷◌, ◌++◌, length, replicate, ◌==◌, refl}
+use Rattle.std.specs.Prelude.{◌≡◌, ℕ, zero, suc, ◌+◌, ◌-◌, ◌*◌, ◌/◌, ◌%◌, ◌<◌, ◌≤◌, Bool, true, false, cond, List, [], ◌∷◌, ◌++◌, length, replicate, ◌==◌, refl, Some}
 use Rattle.std.proofs.Common.{arith, ap, ◌∙◌, sym, eqb-true, length-append}
-use Rattle.std.proofs.Math.Option.{some, some-injective, none-ne-some}
+use Rattle.std.proofs.lemmas.Option.{same_Some, none-some}
 use Rattle.std.proofs.lemmas.List.{length-replicate}
 use Rattle.text.specs.Words.{same}
 use Rattle.text.specs.OptionLaws.{then_some}
@@ -97,27 +97,27 @@ number_mask n =
 
 -- ---- the reading
 
-length_mask : (k m : ℕ) {n : ℕ} → length_up_to k m ≡ some n → (1 ≤ n) × (n ≤ k) × (m ≡ mask n)
+length_mask : (k m : ℕ) {n : ℕ} → length_up_to k m ≡ Some n → (1 ≤ n) × (n ≤ k) × (m ≡ mask n)
 unfolding length_up_to
-length_mask zero m {n} e = absurd (none-ne-some n e)
+length_mask zero m {n} e = absurd (none-some n e)
 length_mask (suc k) m {n} e = go (m == mask (suc k)) refl (λ w. length_mask k m w) e
   where
-    go : (b : Bool) → (m == mask (suc k)) ≡ b → (length_up_to k m ≡ some n → (1 ≤ n) × (n ≤ k) × (m ≡ mask n)) →
-        cond b (some (suc k)) (length_up_to k m) ≡ some n → (1 ≤ n) × (n ≤ suc k) × (m ≡ mask n)
+    go : (b : Bool) → (m == mask (suc k)) ≡ b → (length_up_to k m ≡ Some n → (1 ≤ n) × (n ≤ k) × (m ≡ mask n)) →
+        cond b (Some (suc k)) (length_up_to k m) ≡ Some n → (1 ≤ n) × (n ≤ suc k) × (m ≡ mask n)
     go true q f e =
-        let x : suc k ≡ n = some-injective (suc k) n e in
+        let x : suc k ≡ n = same_Some (suc k) n e in
         (omega arith, omega arith, eqb-true m (mask (suc k)) q ∙ ap mask x)
     go false q f e = let w = f e in let a = w.1 in (w.0, omega arith, w.2)
 
 -- a mask's length is 1 to 32
-pub netmask_good : (v : List ℕ) {n : ℕ} → netmask v ≡ some n → (1 ≤ n) × (n ≤ 32)
+pub netmask_good : (v : List ℕ) {n : ℕ} → netmask v ≡ Some n → (1 ≤ n) × (n ≤ 32)
 unfolding netmask mask_length
 netmask_good v e =
     let t = then_some (address v) (λ a. length_up_to 32 (as_number a)) e in
     let k = length_mask 32 (as_number t.0) t.2 in
     (k.0, k.1)
 
-pub netmask_is : (v : List ℕ) {n : ℕ} → netmask v ≡ some n → MaskIs v n
+pub netmask_is : (v : List ℕ) {n : ℕ} → netmask v ≡ Some n → MaskIs v n
 unfolding netmask mask_length
 netmask_is v {n} e =
     let t = then_some (address v) (λ a. length_up_to 32 (as_number a)) e in
@@ -125,7 +125,7 @@ netmask_is v {n} e =
     let i = number_mask n t.0 (address_bytes_lem v t.1) k.2 in
     record { bytes = t.0; address = address_is v t.1; zeros = 32 - n; ones_first = ap bits i ∙ mask_bits n k.1; least = k.0 }
 
-pub is_netmask : (v : List ℕ) {n : ℕ} → MaskIs v n → netmask v ≡ some n
+pub is_netmask : (v : List ℕ) {n : ℕ} → MaskIs v n → netmask v ≡ Some n
 unfolding netmask
 is_netmask v {n} h =
     let a = is_address_lem v h.address in

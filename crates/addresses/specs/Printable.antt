@@ -1,5 +1,5 @@
 -- Numbers, addresses, masks and lists of addresses are printable: their digits are, and what stands between them.
-use Rattle.std.specs.Prelude.{◌≡◌, ℕ, zero, suc, List, [], ◌∷◌, ◌++◌, replicate, refl}
+use Rattle.std.specs.Prelude.{ℕ, zero, suc, List, ◌∷◌, ◌++◌, replicate, refl}
 use Rattle.text.specs.Relations.{Each}
 use Rattle.text.specs.RelationLaws.{pairwise_first}
 use Rattle.text.specs.Laws.{all_append}

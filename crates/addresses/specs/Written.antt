@@ -1,9 +1,8 @@
 -- What is written reads back, and of which bytes it is made.
-use Rattle.std.specs.Prelude.{◌≡◌, ℕ, zero, suc, ◌<◌, ◌≤◌, Bool, true, false, ◌&&◌, ◌||◌, List, [], ◌∷◌, ◌++◌, map, length, ◌==◌, refl}
+use Rattle.std.specs.Prelude.{◌≡◌, ℕ, zero, suc, ◌<◌, ◌≤◌, Bool, true, false, ◌&&◌, ◌||◌, List, [], ◌∷◌, ◌++◌, map, length, ◌==◌, refl, Option, None, Some}
 use Rattle.std.proofs.Math.Path.{ap}
 use Rattle.std.proofs.Common.{◌∙◌, append_assoc, append-nil, arith, eqb-true, eq-eqb}
 use Rattle.std.proofs.lemmas.Bool.{false≢true}
-use Rattle.std.proofs.Math.Option.{Option, none, some}
 use Rattle.text.specs.Bytes.{between, other, is_digit}
 use Rattle.text.specs.Parts.{all, empty, pieces}
 use Rattle.text.specs.Options.{is_some, each}
@@ -16,12 +15,12 @@ use Rattle.addresses.specs.Laws.{address_elim, are_cons}
 -- ---- a number: a test computed at each byte
 
 abbrev is : Option ℕ → ℕ → Bool
-is none n = false
-is (some v) n = v == n
+is None n = false
+is (Some v) n = v == n
 
-is_some_lem : (o : Option ℕ) (n : ℕ) → is o n ≡ true → o ≡ some n
-is_some_lem none n e = absurd (false≢true e)
-is_some_lem (some v) n e = ap some (eqb-true v n e)
+is_some_lem : (o : Option ℕ) (n : ℕ) → is o n ≡ true → o ≡ Some n
+is_some_lem None n e = absurd (false≢true e)
+is_some_lem (Some v) n e = ap Some (eqb-true v n e)
 
 decimal_right : ℕ → Bool
 decimal_right n = is (octet (decimal n)) n && all is_digit (decimal n)
@@ -30,7 +29,7 @@ each_decimal : below decimal_right 256 ≡ true
 unfolding decimal_right number decimal_value decimal
 each_decimal = refl
 
-pub number_decimal : (n : ℕ) → n < 256 → octet (decimal n) ≡ some n
+pub number_decimal : (n : ℕ) → n < 256 → octet (decimal n) ≡ Some n
 unfolding decimal_right
 number_decimal n h = is_some_lem _ n (and_true _ _ (below_at decimal_right 256 each_decimal n h)).0
 
@@ -59,7 +58,7 @@ module _ (a b c d : ℕ) (ha : a < 256) (hb : b < 256) (hc : c < 256) (hd : d < 
       (pieces_append 46 (decimal c) (decimal d) (decimal_undotted c hc)
       ∙ ap (λ (ps : List (List ℕ)). decimal c ∷ ps) (pieces_last 46 (decimal d) (decimal_undotted d hd))))
 
-  four_dotted : address (dotted (a ∷ b ∷ c ∷ d ∷ [])) ≡ some (a ∷ b ∷ c ∷ d ∷ [])
+  four_dotted : address (dotted (a ∷ b ∷ c ∷ d ∷ [])) ≡ Some (a ∷ b ∷ c ∷ d ∷ [])
   unfolding address
   four_dotted = rw (dotted_pieces, number_decimal a ha, number_decimal b hb, number_decimal c hc, number_decimal d hd)
 
@@ -75,8 +74,8 @@ module _ (a b c d : ℕ) (ha : a < 256) (hb : b < 256) (hc : c < 256) (hd : d < 
           all_weaken is_digit (between 46 57) (λ x e. inside {x = x} 46 57 (omega (arith, between_low {x = x} 48 57 e)) (between_high {x = x} 48 57 e)) (decimal n) (decimal_digits n h)
 
 -- an address reads back, and is of digits and dots (and 47, `/`, which stands between)
-pub address_dotted : (a : List ℕ) → is_address a ≡ true → address (dotted a) ≡ some a
-address_dotted = address_elim (λ a. address (dotted a) ≡ some a) four_dotted
+pub address_dotted : (a : List ℕ) → is_address a ≡ true → address (dotted a) ≡ Some a
+address_dotted = address_elim (λ a. address (dotted a) ≡ Some a) four_dotted
 
 pub dotted_bytes : (a : List ℕ) → is_address a ≡ true → all (between 46 57) (dotted a) ≡ true
 dotted_bytes = address_elim (λ a. all (between 46 57) (dotted a) ≡ true) four_bytes
@@ -102,12 +101,12 @@ pub mask_address : (k : ℕ) → k ≤ 32 → is_address (mask_bytes k) ≡ true
 unfolding bytes_right
 mask_address k h = below_at bytes_right 33 each_bytes k (omega arith)
 
-pub mask_length_lem : (k : ℕ) → 1 ≤ k → k ≤ 32 → mask_length (as_number (mask_bytes k)) ≡ some k
+pub mask_length_lem : (k : ℕ) → 1 ≤ k → k ≤ 32 → mask_length (as_number (mask_bytes k)) ≡ Some k
 unfolding length_right
 mask_length_lem zero h g = absurd (omega arith)
 mask_length_lem (suc k) h g = is_some_lem _ (suc k) (below_at length_right 32 each_length k (omega arith))
 
-pub netmask_dotted : (k : ℕ) → 1 ≤ k → k ≤ 32 → netmask (dotted (mask_bytes k)) ≡ some k
+pub netmask_dotted : (k : ℕ) → 1 ≤ k → k ≤ 32 → netmask (dotted (mask_bytes k)) ≡ Some k
 unfolding netmask
 netmask_dotted k h g = rw (address_dotted (mask_bytes k) (mask_address k g)) (mask_length_lem k h g)
 
@@ -117,7 +116,7 @@ pub dotted_some : (a : List ℕ) → is_address a ≡ true → empty (dotted a) 
 unfolding address number
 dotted_some a h = go (dotted a) (address_dotted a h)
   where
-    go : (s : List ℕ) → address s ≡ some a → empty s ≡ false
+    go : (s : List ℕ) → address s ≡ Some a → empty s ≡ false
     go [] e = absurd (false≢true (ap is_some e))
     go (x ∷ s) e = refl
 
@@ -147,13 +146,13 @@ listed_fields Comma a l h k = listed_pieces Comma a l h k
 listed_fields Spaces a l h k =
     ap spaced (listed_pieces Spaces a l h k) ∙ ap (λ (ps : List (List ℕ)). dotted a ∷ ps) (none_empty l k)
 
-each_dotted : (l : List (List ℕ)) → are_addresses l ≡ true → each address (map dotted l) ≡ some l
+each_dotted : (l : List (List ℕ)) → are_addresses l ≡ true → each address (map dotted l) ≡ Some l
 each_dotted [] h = refl
 each_dotted (a ∷ l) h = rw (address_dotted a (are_cons a l h).0, each_dotted l (are_cons a l h).1)
 
 -- a list reads back, and is of its addresses' bytes and its separator
 pub addresses_listed : (sep : Separator) (l : List (List ℕ)) → between 1 4 (length l) ≡ true → are_addresses l ≡ true →
-    addresses sep (listed sep l) ≡ some l
+    addresses sep (listed sep l) ≡ Some l
 unfolding addresses
 addresses_listed sep [] n h = absurd (false≢true n)
 addresses_listed sep (a ∷ l) n h =

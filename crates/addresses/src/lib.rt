@@ -17,39 +17,16 @@ pub enum Separator {
     Comma,
 }
 
-// A number, or a refusal, which holds 0.
-#[derive(Clone, Copy)]
-pub struct Number {
-    pub ok: bool,
-    pub value: u8,
-}
-
-// A number of an address and the end of its digits, or a refusal.
+// A number of an address, and the end of its digits.
 #[derive(Clone, Copy)]
 struct Octet {
     end: usize,
-    ok: bool,
     value: u8,
 }
 
-// An address, or a refusal, which holds 0.0.0.0.
-#[derive(Clone, Copy)]
-pub struct Address {
-    pub ok: bool,
-    pub bytes: [u8; 4],
-}
-
-// An address and the end of its last number, or a refusal.
+// An address, and the end of its last number.
 #[derive(Clone, Copy)]
 pub struct FoundAddress {
     pub end: usize,
-    pub ok: bool,
     pub bytes: [u8; 4],
-}
-
-// The length of a mask, from 1 to 32, or a prefix length, or a refusal.
-#[derive(Clone, Copy)]
-pub enum Netmask {
-    Length(u8),
-    Broken,
 }

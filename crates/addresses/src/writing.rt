@@ -83,10 +83,8 @@ pub fn put_addresses(
     ensures { Wrote (listed sep (take count list)) at out.old out.new result }
 {
     let mut end = put_address(out, at, list[0]);
-    let mut i = 1;
-    while i < count {
-        end = put_behind(out, end, sep, list[i]);
-        i += 1;
+    for &a in &list[1..count] {
+        end = put_behind(out, end, sep, a);
     }
     end
 }
@@ -97,10 +95,8 @@ pub fn addresses_len(list: [[u8; 4]; 4], count: usize, sep: Separator) -> usize
     ensures { result ≡ length (listed sep (take count list)) }
 {
     let mut n = address_len(list[0]);
-    let mut i = 1;
-    while i < count {
-        n += 1 + address_len(list[i]);
-        i += 1;
+    for &a in &list[1..count] {
+        n += 1 + address_len(a);
     }
     n
 }

@@ -1,7 +1,6 @@
 -- How a network gets its addresses, said once for IPv4 and IPv6: document 01's "IPv4 as dhcp, off, or static with address, length 1 to 32 and
 -- perhaps a gateway", and request 2026-03's "The join record gains the static case".
-use Rattle.std.specs.Prelude.{ℕ, ◌≤◌, ◌≡◌, Bool, true, false, List, replicate}
-use Rattle.std.proofs.Math.Option.{Option, none, some}
+use Rattle.std.specs.Prelude.{ℕ, ◌≤◌, ◌≡◌, Bool, true, false, List, replicate, Option, None, Some}
 use Rattle.text.specs.OptionLaws.{IfSome}
 use Rattle.addresses.specs.Addresses.{is_bytes}
 use Rattle.addressing.specs.declared.Method.{Method}
@@ -33,19 +32,19 @@ length_of (static a n g) = n
 abbrev pub has_gateway_of : Addressing → Bool
 has_gateway_of auto = false
 has_gateway_of off = false
-has_gateway_of (static a n none) = false
-has_gateway_of (static a n (some g)) = true
+has_gateway_of (static a n None) = false
+has_gateway_of (static a n (Some g)) = true
 
 abbrev pub gateway_of : ℕ → Addressing → List ℕ
 gateway_of width auto = replicate width 0
 gateway_of width off = replicate width 0
-gateway_of width (static a n none) = replicate width 0
-gateway_of width (static a n (some g)) = g
+gateway_of width (static a n None) = replicate width 0
+gateway_of width (static a n (Some g)) = g
 
 -- the other way: what such parts say
 abbrev pub gateway_if : Bool → List ℕ → Option (List ℕ)
-gateway_if false g = none
-gateway_if true g = some g
+gateway_if false g = None
+gateway_if true g = Some g
 
 abbrev pub addressing_in : Method → List ℕ → ℕ → Bool → List ℕ → Addressing
 addressing_in Auto a n h g = auto
@@ -54,8 +53,8 @@ addressing_in Static a n h g = static a n (gateway_if h g)
 
 -- "IPv4 absent is dhcp, IPv6 absent auto"
 abbrev pub or_auto : Option Addressing → Addressing
-or_auto none = auto
-or_auto (some i) = i
+or_auto None = auto
+or_auto (Some i) = i
 
 -- ---- which are good: an address is so many bytes, and its length is at most so great
 

@@ -1,5 +1,5 @@
 -- ConnMan's IPv4 and IPv6 are printable where the family's addresses and lengths are.
-use Rattle.std.specs.Prelude.{ℕ, ◌≡◌, refl, List, [], ◌∷◌}
+use Rattle.std.specs.Prelude.{ℕ, refl, List}
 use Rattle.text.specs.Printable.{Printable, pieces_printable}
 use Rattle.addressing.specs.Addressing.{Addressing}
 use Rattle.addressing.specs.SettingRules.{AddressingIs, word_off, word_auto, without_gateway, with_gateway}

@@ -1,7 +1,7 @@
 -- What `addressing` reads is what the text of ConnMan's IPv4 or IPv6 says, where the readings of an address and of a length keep to theirs.
-use Rattle.std.specs.Prelude.{ℕ, ◌≤◌, ◌≡◌, refl, Bool, true, false, cond, List, [], ◌∷◌, length}
-use Rattle.std.proofs.Common.{arith, ap, sym, ◌∙◌, subst}
-use Rattle.std.proofs.Math.Option.{Option, none, some, some-injective, none-ne-some}
+use Rattle.std.specs.Prelude.{ℕ, ◌≤◌, ◌≡◌, refl, Bool, true, false, cond, List, [], ◌∷◌, length, Option, None, Some}
+use Rattle.std.proofs.Common.{arith, ap, ◌∙◌, subst}
+use Rattle.std.proofs.lemmas.Option.{same_Some, none-some}
 use Rattle.text.specs.Parts.{pieces}
 use Rattle.text.specs.Pieces.{Pieces}
 use Rattle.text.specs.PieceLaws.{pieces_are, pieces_only}
@@ -26,45 +26,45 @@ module _ (automatic : List ℕ) (read : List ℕ → Option (List ℕ)) (size : 
     (AddressIs : List ℕ → List ℕ → Type 0) (SizeIs : List ℕ → ℕ → Type 0) where
   -- ---- what is read is so
 
-  module _ (read_is : (a x : List ℕ) → read a ≡ some x → AddressIs a x) (size_is : (m : List ℕ) (n : ℕ) → size m ≡ some n → SizeIs m n) where
-    fixed_is : (v : List ℕ) (ps : List (List ℕ)) → Pieces 47 v ps → {i : Addressing} → fixed read size ps ≡ some i →
+  module _ (read_is : (a x : List ℕ) → read a ≡ Some x → AddressIs a x) (size_is : (m : List ℕ) (n : ℕ) → size m ≡ Some n → SizeIs m n) where
+    fixed_is : (v : List ℕ) (ps : List (List ℕ)) → Pieces 47 v ps → {i : Addressing} → fixed read size ps ≡ Some i →
         AddressingIs automatic AddressIs SizeIs v i
-    fixed_is v [] p {i} e = absurd (none-ne-some i e)
-    fixed_is v (a ∷ []) p {i} e = absurd (none-ne-some i e)
+    fixed_is v [] p {i} e = absurd (none-some i e)
+    fixed_is v (a ∷ []) p {i} e = absurd (none-some i e)
     fixed_is v (a ∷ m ∷ []) p {i} e =
-        let x = then_some (read a) (λ x. and_then (size m) (λ n. some (static x n none))) e in
-        let n = then_some (size m) (λ n. some (static x.0 n none)) x.2 in
-        subst (AddressingIs automatic AddressIs SizeIs v) (some-injective (static x.0 n.0 none) i n.2) (without_gateway p (read_is a x.0 x.1) (size_is m n.0 n.1))
+        let x = then_some (read a) (λ x. and_then (size m) (λ n. Some (static x n None))) e in
+        let n = then_some (size m) (λ n. Some (static x.0 n None)) x.2 in
+        subst (AddressingIs automatic AddressIs SizeIs v) (same_Some (static x.0 n.0 None) i n.2) (without_gateway p (read_is a x.0 x.1) (size_is m n.0 n.1))
     fixed_is v (a ∷ m ∷ g ∷ []) p {i} e =
-        let x = then_some (read a) (λ x. and_then (size m) (λ n. and_then (read g) (λ y. some (static x n (some y))))) e in
-        let n = then_some (size m) (λ n. and_then (read g) (λ y. some (static x.0 n (some y)))) x.2 in
-        let y = then_some (read g) (λ y. some (static x.0 n.0 (some y))) n.2 in
-        subst (AddressingIs automatic AddressIs SizeIs v) (some-injective (static x.0 n.0 (some y.0)) i y.2) (with_gateway p (read_is a x.0 x.1) (size_is m n.0 n.1) (read_is g y.0 y.1))
-    fixed_is v (a ∷ m ∷ g ∷ h ∷ t) p {i} e = absurd (none-ne-some i e)
+        let x = then_some (read a) (λ x. and_then (size m) (λ n. and_then (read g) (λ y. Some (static x n (Some y))))) e in
+        let n = then_some (size m) (λ n. and_then (read g) (λ y. Some (static x.0 n (Some y)))) x.2 in
+        let y = then_some (read g) (λ y. Some (static x.0 n.0 (Some y))) n.2 in
+        subst (AddressingIs automatic AddressIs SizeIs v) (same_Some (static x.0 n.0 (Some y.0)) i y.2) (with_gateway p (read_is a x.0 x.1) (size_is m n.0 n.1) (read_is g y.0 y.1))
+    fixed_is v (a ∷ m ∷ g ∷ h ∷ t) p {i} e = absurd (none-some i e)
 
-    pub addressing_is : (v : List ℕ) {i : Addressing} → addressing automatic read size v ≡ some i →
+    pub addressing_is : (v : List ℕ) {i : Addressing} → addressing automatic read size v ≡ Some i →
         AddressingIs automatic AddressIs SizeIs v i
     addressing_is v {i} e = go (same v (word "off")) refl (same v automatic) refl e
       where
         go : (b : Bool) → same v (word "off") ≡ b → (c : Bool) → same v automatic ≡ c →
-            cond b (some off) (cond c (some auto) (fixed read size (pieces 47 v))) ≡ some i →
+            cond b (Some off) (cond c (Some auto) (fixed read size (pieces 47 v))) ≡ Some i →
             AddressingIs automatic AddressIs SizeIs v i
-        go true p c q e = subst (AddressingIs automatic AddressIs SizeIs v) (some-injective off i e) (word_off (same_eq v (word "off") p))
-        go false p true q e = subst (AddressingIs automatic AddressIs SizeIs v) (some-injective auto i e) (word_auto (same_eq v automatic q))
+        go true p c q e = subst (AddressingIs automatic AddressIs SizeIs v) (same_Some off i e) (word_off (same_eq v (word "off") p))
+        go false p true q e = subst (AddressingIs automatic AddressIs SizeIs v) (same_Some auto i e) (word_auto (same_eq v automatic q))
         go false p false q e = fixed_is v (pieces 47 v) (pieces_are 47 v) e
 
   -- ---- and what is so is read
 
-  module _ (is_read : (a x : List ℕ) → AddressIs a x → read a ≡ some x) (is_size : (m : List ℕ) (n : ℕ) → SizeIs m n → size m ≡ some n) where
+  module _ (is_read : (a x : List ℕ) → AddressIs a x → read a ≡ Some x) (is_size : (m : List ℕ) (n : ℕ) → SizeIs m n → size m ≡ Some n) where
     fixed_addressing : length (pieces 47 automatic) ≡ 1 → (v : List ℕ) (ps : List (List ℕ)) {i : Addressing} → Pieces 47 v ps →
-        2 ≤ length ps → fixed read size ps ≡ some i → addressing automatic read size v ≡ some i
+        2 ≤ length ps → fixed read size ps ≡ Some i → addressing automatic read size v ≡ Some i
     fixed_addressing w v ps p l e =
         let q : pieces 47 v ≡ ps = pieces_only 47 p in
         let k : 2 ≤ length (pieces 47 v) = rw q l in
         rw (other_word v (word "off") refl k, other_word v automatic w k, q) e
 
-    pub is_addressing : length (pieces 47 automatic) ≡ 1 → addressing automatic read size automatic ≡ some auto → (v : List ℕ) {i : Addressing} →
-        AddressingIs automatic AddressIs SizeIs v i → addressing automatic read size v ≡ some i
+    pub is_addressing : length (pieces 47 automatic) ≡ 1 → addressing automatic read size automatic ≡ Some auto → (v : List ℕ) {i : Addressing} →
+        AddressingIs automatic AddressIs SizeIs v i → addressing automatic read size v ≡ Some i
     is_addressing w t v (word_off e) = ap (addressing automatic read size) e
     is_addressing w t v (word_auto e) = ap (addressing automatic read size) e ∙ t
     is_addressing w t v (without_gateway {a} {m} {x} {n} p h k) =

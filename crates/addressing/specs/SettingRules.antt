@@ -1,6 +1,5 @@
 -- ConnMan's IPv4 and IPv6, said of the bytes: `SettingRuleLaws` shows that `addressing` keeps to it.
-use Rattle.std.specs.Prelude.{ℕ, ◌≡◌, List, [], ◌∷◌}
-use Rattle.std.proofs.Math.Option.{none, some}
+use Rattle.std.specs.Prelude.{ℕ, ◌≡◌, List, [], ◌∷◌, None, Some}
 use Rattle.text.specs.Pieces.{Pieces}
 use Rattle.text.specs.Words.{word}
 use Rattle.addressing.specs.Addressing.{Addressing, auto, off, static}
@@ -12,7 +11,7 @@ pub data AddressingIs (automatic : List ℕ) (AddressIs : List ℕ → List ℕ 
   word_off : v ≡ word "off" → AddressingIs automatic AddressIs SizeIs v off
   word_auto : v ≡ automatic → AddressingIs automatic AddressIs SizeIs v auto
   without_gateway : {a m x : List ℕ} {n : ℕ}
-      → Pieces 47 v (a ∷ m ∷ []) → AddressIs a x → SizeIs m n → AddressingIs automatic AddressIs SizeIs v (static x n none)
+      → Pieces 47 v (a ∷ m ∷ []) → AddressIs a x → SizeIs m n → AddressingIs automatic AddressIs SizeIs v (static x n None)
   with_gateway : {a m g x y : List ℕ} {n : ℕ}
       → Pieces 47 v (a ∷ m ∷ g ∷ []) → AddressIs a x → SizeIs m n → AddressIs g y
-      → AddressingIs automatic AddressIs SizeIs v (static x n (some y))
+      → AddressingIs automatic AddressIs SizeIs v (static x n (Some y))

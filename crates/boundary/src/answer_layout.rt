@@ -1,5 +1,5 @@
 // What the reading, the lookups, the joins, the writer and the move answer.
-ghost use Rattle.std.specs.Prelude.{◌≡◌, ◌-◌};
+ghost use Rattle.std.specs.Prelude.{◌≡◌};
 ghost use Rattle.rules.specs.Numbers.{answer_number, answer_line};
 ghost use Rattle.record_layout.specs.Records.{FitsBytes};
 ghost use Rattle.boundary.specs.Answers.{reading_at, text_at, record_answer_at, written_at};
@@ -32,16 +32,6 @@ pub fn answer_line(a: Answer) -> usize
     }
 }
 
-// How far it is from start to end, 0 where there is nothing between them.
-pub fn distance(start: usize, end: usize) -> usize
-    ensures { result ≡ end - start }
-{
-    if start < end {
-        return end - start;
-    }
-    0
-}
-
 pub fn reading_at(r: Reading) -> CReading
     ensures { result ≡ reading_at r }
 {
@@ -69,7 +59,7 @@ pub fn text_at(p: TextPlace) -> CText
     CText {
         line: p.line,
         start: p.start,
-        length: distance(p.start, p.end),
+        length: p.end.saturating_sub(p.start),
         number: p.number,
         reserved: [0; 7],
     }
@@ -78,12 +68,11 @@ pub fn text_at(p: TextPlace) -> CText
 pub fn written_at(a: Written) -> CWritten
     ensures { result ≡ written_at a }
 {
-    let answer = a.answer;
     CWritten {
-        line: answer_line(answer),
+        line: answer_line(a.answer),
         name_len: a.name_len,
         file_len: a.file_len,
-        number: answer_number(answer),
+        number: answer_number(a.answer),
         reserved: [0; 7],
     }
 }
@@ -92,12 +81,10 @@ pub fn record_answer_at(a: RecordAnswer, servers: [[u8; 4]; 4]) -> CRecordAnswer
     requires { FitsBytes a.«record» }
     ensures { result ≡ record_answer_at a servers }
 {
-    let answer = a.answer;
-    let found = a.record;
     CRecordAnswer {
-        line: answer_line(answer),
-        number: answer_number(answer),
-        record: record_at(found, servers),
+        line: answer_line(a.answer),
+        number: answer_number(a.answer),
+        record: record_at(a.record, servers),
         reserved: [0; 7],
     }
 }

@@ -14,10 +14,7 @@ use records::Credential;
 pub fn bit_of(b: bool) -> u8
     ensures { result ≡ bit_of b }
 {
-    if b {
-        return 1;
-    }
-    0
+    u8::from(b)
 }
 
 // A word by its place in its list of words, from 1.
@@ -57,47 +54,30 @@ pub fn method_code(m: Method) -> u8
     }
 }
 
-// A code where there is something, else 0.
-fn code_if(given: bool, code: u8) -> u8
-    ensures { result ≡ cond given code 0 }
-{
-    if given {
-        return code;
-    }
-    0
-}
-
 // Of a method that may be absent.
 pub fn given_method_code(given: bool, m: Method) -> u8
     ensures { result ≡ given_method_code given m }
 {
-    match m {
-        Method::Auto => code_if(given, 1),
-        Method::Off => code_if(given, 2),
-        Method::Static => code_if(given, 3),
-    }
+    if given { method_code(m) + 1 } else { 0 }
 }
 
+// The case of a code; the first of the enum where there is no such code.
 pub fn credential_in(n: u8) -> Credential
     ensures { result ≡ credential_in n }
 {
-    if n == 1 {
-        return Credential::Passphrase;
+    match n {
+        1 => Credential::Passphrase,
+        2 => Credential::Key,
+        _ => Credential::None,
     }
-    if n == 2 {
-        return Credential::Key;
-    }
-    Credential::None
 }
 
 pub fn method_in(n: u8) -> Method
     ensures { result ≡ method_in n }
 {
-    if n == 1 {
-        return Method::Off;
+    match n {
+        1 => Method::Off,
+        2 => Method::Static,
+        _ => Method::Auto,
     }
-    if n == 2 {
-        return Method::Static;
-    }
-    Method::Auto
 }

@@ -1,6 +1,5 @@
 -- ConnMan's IPv4, as document 01 says under "Settings and their kinds": none where the value breaks its kind.
-use Rattle.std.specs.Prelude.{ℕ, List}
-use Rattle.std.proofs.Math.Option.{Option}
+use Rattle.std.specs.Prelude.{ℕ, List, Option}
 use Rattle.text.specs.Words.{word}
 use Rattle.text.specs.Options.{or_else}
 use Rattle.addresses.specs.Addresses.{address, netmask, prefix_length_of}

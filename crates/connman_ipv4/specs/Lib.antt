@@ -5,5 +5,3 @@ pub mod Ipv4Rules
 pub mod Ipv4RuleLaws
 pub mod Laws
 pub mod Printable
--- For the proofs only: the definition laid out in the code's type
-pub mod Answers

@@ -1,7 +1,6 @@
 -- The three demands hold: the theorems whose types `Demands` gives.
-use Rattle.std.specs.Prelude.{ℕ, ◌≡◌, refl, List}
+use Rattle.std.specs.Prelude.{ℕ, ◌≡◌, refl, List, Option, None}
 use Rattle.std.proofs.Common.{arith, ap, sym, ◌∙◌}
-use Rattle.std.proofs.Math.Option.{Option, none}
 use Rattle.text.specs.Words.{word}
 use Rattle.text.specs.declared.Dialect.{Dialect}
 use Rattle.text.specs.declared.Dialect.TheVariants.{Iwd, ConnMan}
@@ -50,9 +49,9 @@ unwritten (refuses q m) n f e =
     record { answer = ap (λ (a : Answer). record { answer = a; name_len = 0; file_len = 0 }) e; name = refl; file = refl }
 
 looked : (a : Answer) (o : Option Entry) {r : Refusal} {l : ℕ} → (lookup_of a o).answer ≡ Refused r l →
-    lookup_of a o ≡ record { answer = Refused r l; setting = none }
+    lookup_of a o ≡ record { answer = Refused r l; setting = None }
 looked Good o e = absurd (good_not e)
-looked (Refused q m) o e = ap (λ (a : Answer). record { answer = a; setting = none }) e
+looked (Refused q m) o e = ap (λ (a : Answer). record { answer = a; setting = None }) e
 
 unjoined : (j : Joined) (s : List (List ℕ)) {r : Refusal} {l : ℕ} → (record_answer j).answer ≡ Refused r l →
     (record_answer j ≡ record { answer = Refused r l; «record» = zero_record }) × (servers_after j s ≡ s)
@@ -71,16 +70,16 @@ demand_1_refusal (Demands.check d name file) r l e = go (reading d name file) e
 demand_1_refusal (Demands.iwd_settings_lem name file s) r l e = go (asked (reading Iwd name file)) e
   where
     go : (a : Answer) → (iwd_answer_of a (sections_of Iwd file)).answer ≡ Refused r l →
-        (iwd_answer_of a (sections_of Iwd file) ≡ record { answer = Refused r l; settings = iwd_settings (λ g k. none) }) × (iwd_servers_of a (sections_of Iwd file) s ≡ s)
+        (iwd_answer_of a (sections_of Iwd file) ≡ record { answer = Refused r l; settings = iwd_settings (λ g k. None) }) × (iwd_servers_of a (sections_of Iwd file) s ≡ s)
     go Good q = absurd (good_not q)
-    go (Refused t m) q = (ap (λ (a : Answer). record { answer = a; settings = iwd_settings (λ g k. none) }) q, refl)
+    go (Refused t m) q = (ap (λ (a : Answer). record { answer = a; settings = iwd_settings (λ g k. None) }) q, refl)
 demand_1_refusal (Demands.service_settings_lem name file w s) r l e =
     go (asked_of w (reading ConnMan name file)) (service_at w (sections_of ConnMan file)) e
   where
     go : (a : Answer) (es : List Entry) → (service_answer_of a es).answer ≡ Refused r l →
-        (service_answer_of a es ≡ record { answer = Refused r l; settings = service_settings (λ k. none) }) × (service_servers_of a es s ≡ s)
+        (service_answer_of a es ≡ record { answer = Refused r l; settings = service_settings (λ k. None) }) × (service_servers_of a es s ≡ s)
     go Good es q = absurd (good_not q)
-    go (Refused t m) es q = (ap (λ (a : Answer). record { answer = a; settings = service_settings (λ k. none) }) q, refl)
+    go (Refused t m) es q = (ap (λ (a : Answer). record { answer = a; settings = service_settings (λ k. None) }) q, refl)
 demand_1_refusal (Demands.iwd_string group key name file) r l e =
     looked (asked (reading Iwd name file)) (entry_of key (entries_in group (sections_of Iwd file))) e
 demand_1_refusal (Demands.global_string key name file) r l e =

@@ -1,8 +1,7 @@
 -- The exported functions answer from document 01's table, and a refusal leaves zeros and unchanged buffers: by the cases of
 -- what is behind each answer.
-use Rattle.std.specs.Prelude.{ℕ, ◌<◌, ◌≡◌, refl, Bool, true, false, cond, List, ◌∷◌, eqb, length}
+use Rattle.std.specs.Prelude.{ℕ, ◌<◌, ◌≡◌, refl, Bool, true, false, cond, List, ◌∷◌, eqb, length, Option, None, Some}
 use Rattle.std.proofs.Common.{arith}
-use Rattle.std.proofs.Math.Option.{Option, none, some}
 use Rattle.text.specs.Parts.{lines}
 use Rattle.text.specs.Words.{word}
 use Rattle.text.specs.Laws.{inside, between_high}
@@ -73,8 +72,8 @@ TextInRows file rs k =
 
 text_given : (file : List ℕ) (rs : List AnswerRow) (a : Answer) (o : Option Entry) →
     InRows (length (lines file)) (bare 0 ∷ rs) a → IfSome (EntryStands file) o → TextInRows file rs (lookup_of a o)
-text_given file rs Good none h e = rw (inside {x = 0} 0 (length (lines file)) (omega arith) (omega arith))
-text_given file rs Good (some x) h e =
+text_given file rs Good None h e = rw (inside {x = 0} 0 (length (lines file)) (omega arith) (omega arith))
+text_given file rs Good (Some x) h e =
     rw (inside {x = x.line} 0 (length (lines file)) (omega arith) (between_high {x = x.line} 1 (length (lines file)) e.line))
 text_given file rs (Refused r l) o h e = rw (refusal_number r) (rw (refusal_number r) at h)
 

@@ -1,7 +1,6 @@
 -- An exported function answers 0 exactly when what is asked for is there; and what the two that write leave is read back.
-use Rattle.std.specs.Prelude.{ℕ, ◌<◌, ◌≡◌, refl, Bool, true, false, cond, ◌↔◌, List, length, drop, replicate}
+use Rattle.std.specs.Prelude.{ℕ, ◌<◌, ◌≡◌, refl, Bool, true, false, cond, ◌↔◌, List, length, drop, replicate, Option, None, Some}
 use Rattle.std.proofs.Common.{arith, ap, ap₂, sym, ◌∙◌, subst, true≢false, eq-eqb}
-use Rattle.std.proofs.Math.Option.{Option, none, some}
 use Rattle.std.proofs.Math.Seq.{take-append_seam, drop-append_seam}
 use Rattle.text.specs.Laws.{inside}
 use Rattle.text.specs.Words.{word}
@@ -84,9 +83,9 @@ service_success name file w = (there, found)
 -- ---- its record
 
 record_number : (a : Answer) (o : Option ℕ) (j : Join) →
-    answer_number (record_answer (J.joined_if_good a (or_no_place o j))).answer ≡ 0 → (answer_number a ≡ 0) × (o ≡ none)
-record_number Good none j e = (refl, refl)
-record_number Good (some l) j e = absurd (omega (arith, e))
+    answer_number (record_answer (J.joined_if_good a (or_no_place o j))).answer ≡ 0 → (answer_number a ≡ 0) × (o ≡ None)
+record_number Good None j e = (refl, refl)
+record_number Good (Some l) j e = absurd (omega (arith, e))
 record_number (Refused r l) o j e = absurd (true≢false (sym (eq-eqb (number_of r) 0 e) ∙ refusal_number r))
 
 record_success : (name file : List ℕ) (w : ℕ) →

@@ -1,9 +1,8 @@
 -- Every answer of an entry point has a number and a line of its rows of document 01's table.
-use Rattle.std.specs.Prelude.{ℕ, ◌≡◌, Bool, true, false, cond, ◌||◌, List, [], ◌∷◌, ◌++◌, leb, length}
+use Rattle.std.specs.Prelude.{ℕ, ◌≡◌, Bool, true, false, cond, ◌||◌, List, [], ◌∷◌, ◌++◌, leb, length, Option, None, Some}
 use Rattle.std.proofs.Common.{arith}
 use Rattle.std.proofs.Math.Path.{refl}
 use Rattle.std.proofs.Math.Bool.{not}
-use Rattle.std.proofs.Math.Option.{Option, none, some}
 use Rattle.text.specs.Bytes.{between}
 use Rattle.text.specs.Parts.{lines}
 use Rattle.text.specs.Words.{word}
@@ -97,35 +96,35 @@ module _ (file : List ℕ) where
   OnLine l = is_line file l ≡ true
 
   -- a setting's line, where what it holds is such that an absent one does not hold it
-  line_only : (b : Option Entry → Bool) → b none ≡ false → (o : Option Entry) → IfSome (EntryStands file) o →
-      IfSome OnLine (only (b o) (some (entry_line o)))
-  line_only b q none h = rw q tt
-  line_only b q (some e) h = go (b (some e))
+  line_only : (b : Option Entry → Bool) → b None ≡ false → (o : Option Entry) → IfSome (EntryStands file) o →
+      IfSome OnLine (only (b o) (Some (entry_line o)))
+  line_only b q None h = rw q tt
+  line_only b q (Some e) h = go (b (Some e))
     where
-      go : (t : Bool) → IfSome OnLine (only t (some e.line))
+      go : (t : Bool) → IfSome OnLine (only t (Some e.line))
       go true = h.line
       go false = tt
 
-  line_if_lem : (b : Option Entry → Bool) → b none ≡ false → (o : Option Entry) → IfSome (EntryStands file) o →
+  line_if_lem : (b : Option Entry → Bool) → b None ≡ false → (o : Option Entry) → IfSome (EntryStands file) o →
       Each OnLine (line_if (b o) o)
-  line_if_lem b q none h = rw q tt
-  line_if_lem b q (some e) h = go (b (some e))
+  line_if_lem b q None h = rw q tt
+  line_if_lem b q (Some e) h = go (b (Some e))
     where
-      go : (t : Bool) → Each OnLine (line_if t (some e))
+      go : (t : Bool) → Each OnLine (line_if t (Some e))
       go true = (h.line, tt)
       go false = tt
 
   either_line : (a b : Option ℕ) → IfSome OnLine a → IfSome OnLine b → IfSome OnLine (or_else a b)
-  either_line none b p q = q
-  either_line (some l) b p q = p
+  either_line None b p q = q
+  either_line (Some l) b p q = p
 
   earliest_line : (ls : List ℕ) → Each OnLine ls → IfSome OnLine (earliest ls)
   earliest_line [] h = tt
   earliest_line (l ∷ ls) h = go (earliest ls) (earliest_line ls h.1)
     where
       go : (o : Option ℕ) → IfSome OnLine o → is_line file (least l o) ≡ true
-      go none q = h.0
-      go (some m) q = choose (leb l m)
+      go None q = h.0
+      go (Some m) q = choose (leb l m)
         where
           choose : (b : Bool) → is_line file (cond b l m) ≡ true
           choose true = h.0
@@ -141,7 +140,7 @@ module _ (file : List ℕ) where
     no_record_line : IfSome OnLine (no_record at)
     unfolding keys_of
     no_record_line =
-        either_line (only (wired at) (some (entry_line (at (word "Type"))))) (only (foreign at) (some (entry_line (at (word "Security")))))
+        either_line (only (wired at) (Some (entry_line (at (word "Type"))))) (only (foreign at) (Some (entry_line (at (word "Security")))))
         (line_only (λ o. is_word W.Ethernet (read_as (word_of L.ServiceType) o)) refl (at (word "Type")) (stands (word "Type")))
         (line_only (λ o. foreign_security (read_as (word_of L.Security) o)) refl (at (word "Security")) (stands (word "Security")))
 
@@ -181,8 +180,8 @@ module _ (file : List ℕ) where
 record_given : (k : ℕ) (a : Answer) (o : Option ℕ) (j : Join) → InRows k service_rows a →
     IfSome (λ l. between 1 k l ≡ true) o →
     InRows k service_record_rows (record_answer (J.joined_if_good a (or_no_place o j))).answer
-record_given k Good none j h p = refl
-record_given k Good (some l) j h p = rw p
+record_given k Good None j h p = refl
+record_given k Good (Some l) j h p = rw p
 record_given k (Refused r l) o j h p = has_row_append k service_rows (lined 16 ∷ []) (number_of r) l h
 
 -- of a record that has a place: 0 or 17, without a line
@@ -197,8 +196,8 @@ room_given k rs x y j n f = go (writing_of j n f) (room_is j n f)
 move_given : (k : ℕ) (a : Answer) (o : Option ℕ) (j : Join) (n f : List ℕ) → InRows k service_rows a →
     IfSome (λ l. between 1 k l ≡ true) o →
     InRows k move_rows (written_answer (moved_if_good a (or_unplaced o (writing_of j n f)))).answer
-move_given k Good none j n f h p = room_given k move_rows refl refl j n f
-move_given k Good (some l) j n f h p = rw p
+move_given k Good None j n f h p = room_given k move_rows refl refl j n f
+move_given k Good (Some l) j n f h p = rw p
 move_given k (Refused r l) o j n f h p =
     has_row_append k service_record_rows (bare 17 ∷ []) (number_of r) l (has_row_append k service_rows (lined 16 ∷ []) (number_of r) l h)
 

@@ -1,6 +1,5 @@
 -- Document 01's "Twelve cases for the one table", by computation.
-use Rattle.std.specs.Prelude.{◌≡◌, refl, false, List, [], ◌∷◌, map, ℕ, replicate}
-use Rattle.std.proofs.Math.Option.{Option, some}
+use Rattle.std.specs.Prelude.{◌≡◌, refl, false, List, [], ◌∷◌, map, ℕ, replicate, Option, Some}
 use Prim.Native.String.{String}
 use Rattle.text.specs.Bytes.{is_key_byte, is_plain}
 use Rattle.text.specs.Words.{word}
@@ -55,9 +54,9 @@ abbrev of : Question → Answer
 of (reads d name file) = seen (seen_of (reading d (word name) (word file)))
 of (joins name file) = record_is (iwd_joined (word name) (word file))
 of (string_of s) = bytes (unescape (word s))
-of (written s) = bytes (some (escape s))
+of (written s) = bytes (Some (escape s))
 of (mask s) = length_is (netmask (word s))
-of (file_of n s) = bytes (some (name_text (record { name = n; credential = s; hidden = false; ipv4 = auto; servers = []; domain = []; ipv6 = auto })))
+of (file_of n s) = bytes (Some (name_text (record { name = n; credential = s; hidden = false; ipv4 = auto; servers = []; domain = []; ipv6 = auto })))
 of (moves name file w) = moved (moving (word name) (word file) w (replicate 70 0) (replicate 944 0))
 
 abbrev accepted : ℕ → ℕ → Answer
@@ -75,15 +74,15 @@ cases =
     (1, reads Iwd "Desk.open" "", accepted 0 0)
     ∷ (1, joins "Desk.open" "", record_is (joined (record { name = word "Desk"; credential = no_secret; hidden = false; ipv4 = auto; servers = []; domain = []; ipv6 = auto })))
     ∷ (2, reads Iwd "Desk.psk" "", refused 14 0)
-    ∷ (3, string_of "\\sab", bytes (some (32 ∷ 97 ∷ 98 ∷ [])))
-    ∷ (3, written (32 ∷ 97 ∷ 98 ∷ []), bytes (some (word "\\sab")))
+    ∷ (3, string_of "\\sab", bytes (Some (32 ∷ 97 ∷ 98 ∷ [])))
+    ∷ (3, written (32 ∷ 97 ∷ 98 ∷ []), bytes (Some (word "\\sab")))
     ∷ (4, reads Iwd "Desk.psk" "[Security]\nPassphrase=a\\", refused 11 2)
-    ∷ (5, file_of (67 ∷ 97 ∷ 102 ∷ 195 ∷ 169 ∷ []) (passphrase (word "12345678")), bytes (some (word "=436166c3a9.psk")))
+    ∷ (5, file_of (67 ∷ 97 ∷ 102 ∷ 195 ∷ 169 ∷ []) (passphrase (word "12345678")), bytes (Some (word "=436166c3a9.psk")))
     ∷ (6, reads Iwd "=4465736b.psk" "[Security]\nPassphrase=12345678", refused 2 0)
     ∷ (7, reads Iwd "Desk.open" "[IPv4]\nAddress=10.0.0.2\nGateway=10.0.0.1\nNetmask=255.0.255.0\n", refused 12 4)
     ∷ (8, reads Iwd "Desk.open" "[IPv4]\nAddress=10.0.0.2\nGateway=10.0.0.1\nNetmask=255.255.254.0\n", accepted 3 0)
-    ∷ (8, mask "255.255.254.0", length_is (some 23))
-    ∷ (8, joins "Desk.open" "[IPv4]\nAddress=10.0.0.2\nGateway=10.0.0.1\nNetmask=255.255.254.0\n", record_is (joined (record { name = word "Desk"; credential = no_secret; hidden = false; ipv4 = static (10 ∷ 0 ∷ 0 ∷ 2 ∷ []) 23 (some (10 ∷ 0 ∷ 0 ∷ 1 ∷ [])); servers = []; domain = []; ipv6 = auto })))
+    ∷ (8, mask "255.255.254.0", length_is (Some 23))
+    ∷ (8, joins "Desk.open" "[IPv4]\nAddress=10.0.0.2\nGateway=10.0.0.1\nNetmask=255.255.254.0\n", record_is (joined (record { name = word "Desk"; credential = no_secret; hidden = false; ipv4 = static (10 ∷ 0 ∷ 0 ∷ 2 ∷ []) 23 (Some (10 ∷ 0 ∷ 0 ∷ 1 ∷ [])); servers = []; domain = []; ipv6 = auto })))
     ∷ (9, reads ConnMan "a.config" "[service_a]\nType=wifi\nName=a\nIPv4=10.0.0.2/24\n", accepted 3 1)
     ∷ (9, moves "a.config" "[service_a]\nType=wifi\nName=a\nIPv4=10.0.0.2/24\n" 1, moved (refuses NoPlace 4))
     ∷ (10, reads Iwd "Desk.open" "[IPv4]\nGateway=10.0.0.1\nAddress=01.2.3.4\n", refused 12 3)

@@ -1,8 +1,7 @@
 -- The three demands, and what was asked after them: the words of the person who asked, and under them what is proved. Here
 -- stand only definitions and the types of the theorems, over the definitions that the contracts of the entry points cite;
 -- `DemandsHold` and `RoomHolds` have the proofs, and `Exports` says the demands of the exported functions.
-use Rattle.std.specs.Prelude.{ℕ, ◌-◌, ◌≤◌, ◌<◌, ◌≡◌, true, false, List, [], ◌∷◌, ◌++◌, ◌↔◌, length, take}
-use Rattle.std.proofs.Math.Option.{none, some}
+use Rattle.std.specs.Prelude.{ℕ, ◌-◌, ◌≤◌, ◌<◌, ◌≡◌, true, false, List, [], ◌∷◌, ◌++◌, ◌↔◌, length, take, None, Some}
 use Rattle.text.specs.Parts.{lines}
 use Rattle.text.specs.Words.{word}
 use Rattle.text.specs.declared.Dialect.{Dialect}
@@ -132,17 +131,17 @@ abbrev pub Zeroed : Call → Refusal → ℕ → Type 0
 Zeroed (check d name file) r l =
     seen_of (reading d name file) ≡ record { number = number_of r; line = l; settings = 0; services = 0 }
 Zeroed (iwd_settings_lem name file s) r l =
-    (iwd_answered name file ≡ record { answer = Refused r l; settings = iwd_settings (λ g k. none) })
+    (iwd_answered name file ≡ record { answer = Refused r l; settings = iwd_settings (λ g k. None) })
     × (iwd_servers_after name file s ≡ s)
 Zeroed (service_settings_lem name file w s) r l =
-    (service_answered name file w ≡ record { answer = Refused r l; settings = service_settings (λ k. none) })
+    (service_answered name file w ≡ record { answer = Refused r l; settings = service_settings (λ k. None) })
     × (service_servers_after name file w s ≡ s)
 Zeroed (iwd_string group key name file) r l =
-    iwd_lookup group key name file ≡ record { answer = Refused r l; setting = none }
+    iwd_lookup group key name file ≡ record { answer = Refused r l; setting = None }
 Zeroed (global_string key name file) r l =
-    global_lookup key name file ≡ record { answer = Refused r l; setting = none }
+    global_lookup key name file ≡ record { answer = Refused r l; setting = None }
 Zeroed (service_string w key name file) r l =
-    service_lookup w key name file ≡ record { answer = Refused r l; setting = none }
+    service_lookup w key name file ≡ record { answer = Refused r l; setting = None }
 Zeroed (iwd_record_lem name file s) r l =
     (iwd_record name file ≡ record { answer = Refused r l; «record» = zero_record })
     × (iwd_record_servers name file s ≡ s)
@@ -184,7 +183,7 @@ Demand2GroupValues =
     (d : Dialect) (name file : List ℕ) (n m : ℕ)
     → reading d name file ≡ R.Accepted n m
     → (group : List ℕ) (g : Group)
-    → group_of d group ≡ some g
+    → group_of d group ≡ Some g
     → (key : List ℕ)
     → Gives d (kind_of g key) (iwd_entry (sections_of d file) group key)
     (value_of g (iwd_entry (sections_of d file) group) key)
@@ -346,11 +345,11 @@ Saturday = (d : Dialect) (name file : List ℕ) (n : ℕ) → FaultyPassphrase d
 -- of a service whose record is answered: `Security = psk` needs a key, `Security = none` needs none, and where no
 -- line gives Security it needs one exactly when a line gives Passphrase
 pub record SecurityKept (name file : List ℕ) (w : ℕ) (j : Join) : Type 0 where
-  pub psk : (e : Entry) → service_setting w file (word "Security") ≡ some e → e.value ≡ word "psk" → needs_key j ≡ true
-  pub open_network : (e : Entry) → service_setting w file (word "Security") ≡ some e → e.value ≡ word "none" →
+  pub psk : (e : Entry) → service_setting w file (word "Security") ≡ Some e → e.value ≡ word "psk" → needs_key j ≡ true
+  pub open_network : (e : Entry) → service_setting w file (word "Security") ≡ Some e → e.value ≡ word "none" →
       needs_key j ≡ false
   pub absent :
-      service_setting w file (word "Security") ≡ none
+      service_setting w file (word "Security") ≡ None
       → needs_key j ≡ given (word "Passphrase") (service_at w (sections_of ConnMan file))
 
 abbrev pub Security : Type 0

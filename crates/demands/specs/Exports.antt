@@ -1,7 +1,6 @@
 -- The demands of the exported functions, of their calls as `Calls` defines them. Here stand only definitions and the
 -- types of the theorems; `ExportsHold`, `SuccessHolds`, `PlacesHold` and `RoomHolds` have the proofs.
-use Rattle.std.specs.Prelude.{ℕ, ◌+◌, ◌≤◌, ◌<◌, ◌≡◌, true, ◌↔◌, List, [], ◌∷◌, length, take, drop, get_or, replicate}
-use Rattle.std.proofs.Math.Option.{none}
+use Rattle.std.specs.Prelude.{ℕ, ◌+◌, ◌≤◌, ◌<◌, ◌≡◌, true, ◌↔◌, List, [], ◌∷◌, length, take, drop, get_or, replicate, None}
 use Rattle.text.specs.Parts.{part, lines}
 use Rattle.text.specs.Words.{word}
 use Rattle.text.specs.Options.{or_empty}
@@ -181,7 +180,7 @@ pub record WritableBytes (c : CRecord) (n f : List ℕ) : Type 0 where
 -- a service that has a join record
 pub record Joinable (name file : List ℕ) (w : ℕ) : Type 0 where
   pub service : Service name file w
-  pub wireless : no_record (service_setting w file) ≡ none
+  pub wireless : no_record (service_setting w file) ≡ None
 
 -- what a call asks for is there
 abbrev pub Success : Call → Type 0

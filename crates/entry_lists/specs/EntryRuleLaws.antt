@@ -1,7 +1,7 @@
 -- What `entries` reads is what the rules say of a list of entries.
-use Rattle.std.specs.Prelude.{ℕ, ◌≡◌, refl, List, [], ◌∷◌}
+use Rattle.std.specs.Prelude.{ℕ, ◌≡◌, refl, List, [], ◌∷◌, Some}
 use Rattle.std.proofs.Common.{ap, ap₂, ◌∙◌, subst}
-use Rattle.std.proofs.Math.Option.{some, some-injective}
+use Rattle.std.proofs.lemmas.Option.{same_Some}
 use Rattle.text.specs.Bytes.{is_entry_byte}
 use Rattle.text.specs.Parts.{all, pieces}
 use Rattle.text.specs.Pieces.{Pieces}
@@ -16,15 +16,15 @@ use Rattle.entry_lists.specs.EntryRules.{EntryIs, EntriesAre}
 abbrev AsItStands : List ℕ → List ℕ → Type 0
 AsItStands p e = (p ≡ e) × EntryIs e
 
-entry_is : (p e : List ℕ) → entry p ≡ some e → AsItStands p e
+entry_is : (p e : List ℕ) → entry p ≡ Some e → AsItStands p e
 entry_is p e i =
-    let s = sized_is 1 253 (only (all is_entry_byte p) (some p)) i in
-    let o = only_some (all is_entry_byte p) (some p) s.1 in
-    let q : p ≡ e = some-injective p e o.1 in
+    let s = sized_is 1 253 (only (all is_entry_byte p) (Some p)) i in
+    let o = only_some (all is_entry_byte p) (Some p) s.1 in
+    let q : p ≡ e = same_Some p e o.1 in
     (q, record { size = s.0; bytes = rw q at o.0 })
 
-is_entry : (p e : List ℕ) → AsItStands p e → entry p ≡ some e
-is_entry p e h = is_sized 1 253 (only (all is_entry_byte p) (some p)) h.1.size (rw (h.0, h.1.bytes))
+is_entry : (p e : List ℕ) → AsItStands p e → entry p ≡ Some e
+is_entry p e h = is_sized 1 253 (only (all is_entry_byte p) (Some p)) h.1.size (rw (h.0, h.1.bytes))
 
 read_as_lem : (ps l : List (List ℕ)) → Pairwise AsItStands ps l → (ps ≡ l) × Each EntryIs l
 read_as_lem [] [] h = (refl, tt)
@@ -36,14 +36,14 @@ as_read : (l : List (List ℕ)) → Each EntryIs l → Pairwise AsItStands l l
 as_read [] h = tt
 as_read (e ∷ l) h = ((refl, h.0), as_read l h.1)
 
-pub entries_are : (v : List ℕ) {l : List (List ℕ)} → entries v ≡ some l → EntriesAre v l
+pub entries_are : (v : List ℕ) {l : List (List ℕ)} → entries v ≡ Some l → EntriesAre v l
 unfolding entries
 entries_are v {l} e =
     let s = sized_is 1 4 (each entry (pieces 44 v)) e in
     let k = read_as_lem (pieces 44 v) l (each_pairwise entry AsItStands entry_is (pieces 44 v) s.1) in
     record { commas = subst (Pieces 44 v) k.0 (pieces_are 44 v); each = k.1; count = s.0 }
 
-pub are_entries : (v : List ℕ) {l : List (List ℕ)} → EntriesAre v l → entries v ≡ some l
+pub are_entries : (v : List ℕ) {l : List (List ℕ)} → EntriesAre v l → entries v ≡ Some l
 unfolding entries
 are_entries v {l} h =
     is_sized 1 4 (each entry (pieces 44 v)) h.count

@@ -3,5 +3,5 @@ pub mod EntryLists
 pub mod EntryRules
 -- The laws; what only the proofs need is in proofs/
 pub mod EntryRuleLaws
--- For the proofs only: the definition laid out in the code's type
-pub mod Answers
+-- Where the entries stand, in the code's type
+pub mod Places

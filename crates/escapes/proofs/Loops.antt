@@ -2,12 +2,14 @@
 use mathlib.Core.Path.{◌≡◌, refl, ap, ap₂, sym, ◌∙◌, subst}
 use mathlib.Core.Bool.{Bool, true, false, not, true≢false}
 use mathlib.Core.List.{List, [], ◌∷◌, ◌++◌, append_assoc, append-nil}
-use mathlib.Core.Option.{none, some}
-use Prim.Native.Nat.{ℕ, zero, suc, ◌+◌, ◌-◌, ◌*◌, ◌≤◌, ◌<◌}
+use Rattle.std.specs.Prelude.{Option, None, Some}
+use Rattle.std.specs.Option.{IsSome}
+use Rattle.std.proofs.lemmas.Bool.{ltb-false}
+use Prim.Native.Nat.{ℕ, suc, ◌+◌, ◌-◌, ◌*◌, ◌≤◌, ◌<◌}
 use native.Mathlib.Numerals.{add-one}
 use native.Mathlib.Omega.{arith}
-use borrow.Author.Tests.{eqb-true, eq-eqb, ne_eqb}
-use lib.Dec.{eqb}
+use borrow.Author.Tests.{ltb-true, eqb-true, eq-eqb, ne_eqb}
+use lib.Dec.{eqb, ltb}
 use lib.ListN.{length, drop, set, get_or, drop_of_length-le, length-append, length-drop, length-set}
 use lib.Seq.{drop-cons, length-take-le}
 use Rattle.text.specs.Bytes.{other}
@@ -16,13 +18,11 @@ use Rattle.text.specs.Scans.{Stop}
 use Rattle.text.proofs.ScanLaws.{stop_low, stop_front, stop_after, stop_byte}
 use Rattle.put.specs.Put.{Wrote}
 use Rattle.put.specs.Laws.{then, wrote_byte}
-use Rattle.text.specs.Options.{prepend, glue, or_empty, ReadsUpTo}
+use Rattle.text.specs.Options.{mapped, and_then, prepend, glue, or_empty, ReadsUpTo}
 use Rattle.text.specs.OptionLaws.{glue_prepend, glue_cons, glue_glue, glue_nil}
 use Rattle.put.proofs.Filling.{Filling, filling_first, filling_none, filling_end, filling_room, filling_byte}
 use Rattle.escapes.specs.Escapes.{meant, unescape_from, unescape, shown, escape_from, escape}
-use Rattle.escapes.specs.Answers.{size_of}
 use Rattle.escapes.specs.Letters.{by_letter, Letter}
-use Rattle.escapes.specs.declared.Size.TheVariants.{Long, Broken}
 
 -- ---- the length: t is read of the bytes before i, where a backslash stands or the string ends
 
@@ -72,39 +72,42 @@ module _ {s : List ℕ} {i less : ℕ} (h : Sizing s i less) where
   pub sizing_few : less ≤ i
   sizing_few = omega (arith, h.size)
 
-  pub sizing_end : length s ≤ i → Long (length s - less) ≡ size_of (unescape s)
+  pub sizing_end : length s ≤ i → Some (length s - less) ≡ mapped length (unescape s)
   unfolding unescape_from
   sizing_end l =
-      let r : some h.text ≡ unescape s = rw (drop_of_length-le s l, append-nil) at h.rest in
-      rw (sym r) (ap Long (omega (arith, h.size, h.within)))
+      let r : Some h.text ≡ unescape s = rw (drop_of_length-le s l, append-nil) at h.rest in
+      rw (sym r) (ap Some (omega (arith, h.size, h.within)))
 
   module _ (l : i < length s) where
     opened : glue h.text (unescape_from true (drop (i + 1) s)) ≡ unescape s
     unfolding unescape_from
     opened = rw (add-one i) (rw (drop-cons s i 0 l, h.ends l) at h.rest)
 
-    pub sizing_short : length s - i < 2 → Broken ≡ size_of (unescape s)
+    pub sizing_short : false ≡ ltb (i + 1) (length s) → None ≡ mapped length (unescape s)
     unfolding unescape_from
     sizing_short k =
-        let m : length s ≤ i + 1 = omega arith in
-        let r : none ≡ unescape s = rw (drop_of_length-le s m) at opened in
+        let r : None ≡ unescape s = rw (drop_of_length-le s {i = i + 1} (ltb-false (i + 1) (length s) (sym k))) at opened in
         rw (sym r)
 
-    module _ (k : i + 1 < length s) {m : ℕ} (q : m ≡ meant (get_or s (i + 1) 0)) where
-      pub sizing_bad : m ≡ 0 → Broken ≡ size_of (unescape s)
+    -- c stands behind the backslash
+    module _ (k : true ≡ ltb (i + 1) (length s)) {c : ℕ} (d : c ≡ get_or s (i + 1) c) where
+      pub sizing_inside : i + 1 < length s
+      sizing_inside = ltb-true (i + 1) (length s) (sym k)
+
+      behind_it : drop (i + 1) s ≡ c ∷ drop (i + 2) s
+      behind_it = let n : suc (i + 1) ≡ i + 2 = omega arith in rw (drop-cons s (i + 1) c sizing_inside, sym d, n)
+
+      pub sizing_bad : None ≡ meant c → None ≡ mapped length (unescape s)
       unfolding unescape_from
-      sizing_bad z =
-          let r : none ≡ unescape s = rw (drop-cons s (i + 1) 0 k, eq-eqb (meant (get_or s (i + 1) 0)) 0 (sym q ∙ z)) at opened in
+      sizing_bad q =
+          let r : None ≡ unescape s = rw (behind_it, sym q) at opened in
           rw (sym r)
 
-      pub sizing_turn : (m ≡ 0 → ⊥) → {e : ℕ} → Stop (other 92) s (i + 2) e → Sizing s e (less + 1)
+      pub sizing_turn : {x : ℕ} → Some x ≡ meant c → {e : ℕ} → Stop (other 92) s (i + 2) e → Sizing s e (less + 1)
       unfolding unescape_from
-      sizing_turn z g =
-          let n : suc (i + 1) ≡ i + 2 = omega arith in
-          let x : ℕ = meant (get_or s (i + 1) 0) in
-          let r = rw (drop-cons s (i + 1) 0 k, ne_eqb x 0 (λ y. z (q ∙ y))) at opened in
-          let u : glue h.text (prepend x (unescape_from false (drop (i + 2) s))) ≡ unescape s = subst (λ (m : ℕ). glue h.text (prepend x (unescape_from false (drop m s))) ≡ unescape s) n r in
-          sizing_run s (h.text ++ (x ∷ [])) (i + 2) (less + 1) (omega arith) (sym (glue_prepend h.text x (unescape_from false (drop (i + 2) s))) ∙ u) (simp length-append (omega (arith, h.size))) g
+      sizing_turn {x} q g =
+          let u : glue h.text (prepend x (unescape_from false (drop (i + 2) s))) ≡ unescape s = rw (behind_it, sym q) at opened in
+          sizing_run s (h.text ++ (x ∷ [])) (i + 2) (less + 1) (omega (arith, sizing_inside)) (sym (glue_prepend h.text x (unescape_from false (drop (i + 2) s))) ∙ u) (simp length-append (omega (arith, h.size))) g
 
 -- ---- the copy
 
@@ -141,19 +144,23 @@ module _ {s : List ℕ} {i : ℕ} {a : Bool} {n : ℕ} {o x : List ℕ} (h : Une
     unescaping_open e k = record { within = omega arith; fill = rw (add-one i) (rw (drop-cons s i 0 l, e, eq-eqb (get_or s i 0) 92 k) at h.fill) }
 
     module _ (e : a ≡ true) where
-      sound : unescape_from a (drop i s) ≡ prepend (meant (get_or s i 0)) (unescape_from false (drop (i + 1) s))
+      behind : unescape_from a (drop i s) ≡ and_then (meant (get_or s i 0)) (λ y. prepend y (unescape_from false (drop (i + 1) s)))
       unfolding unescape_from
-      sound = go (eqb (meant (get_or s i 0)) 0) refl
-        where
-          go : (t : Bool) → eqb (meant (get_or s i 0)) 0 ≡ t → unescape_from a (drop i s) ≡ prepend (meant (get_or s i 0)) (unescape_from false (drop (i + 1) s))
-          go true q = absurd (filling_none h.fill (rw (drop-cons s i 0 l, e, q)))
-          go false q = rw (add-one i, drop-cons s i 0 l, e, q)
+      behind = rw (add-one i, drop-cons s i 0 l, e)
 
-      pub unescaping_room_meant : n < length x
-      unescaping_room_meant = filling_room h.fill (meant (get_or s i 0)) (unescape_from false (drop (i + 1) s)) sound
+      pub unescaping_some : (r : Option ℕ) → r ≡ meant (get_or s i 0) → IsSome r
+      unescaping_some None q = absurd (filling_none h.fill (behind ∙ rw (sym q)))
+      unescaping_some (Some y) q = refl
 
-      pub unescaping_meant : {m : ℕ} → m ≡ meant (get_or s i 0) → Unescaping s (i + 1) false (n + 1) o (set x n m)
-      unescaping_meant q = rw q (record { within = omega arith; fill = filling_byte h.fill (meant (get_or s i 0)) (unescape_from false (drop (i + 1) s)) sound })
+      module _ {y : ℕ} (q : Some y ≡ meant (get_or s i 0)) where
+        sound : unescape_from a (drop i s) ≡ prepend y (unescape_from false (drop (i + 1) s))
+        sound = behind ∙ rw (sym q)
+
+        pub unescaping_room_meant : n < length x
+        unescaping_room_meant = filling_room h.fill y (unescape_from false (drop (i + 1) s)) sound
+
+        pub unescaping_meant : Unescaping s (i + 1) false (n + 1) o (set x n y)
+        unescaping_meant = record { within = omega arith; fill = filling_byte h.fill y (unescape_from false (drop (i + 1) s)) sound }
 
 -- ---- escaping
 
@@ -165,10 +172,6 @@ writing_end : (s : List ℕ) (i : ℕ) → length s ≤ i → escape_from (eqb i
 unfolding escape_from
 writing_end s i l = rw (drop_of_length-le s l)
 
-by_letter_lem : (l c : ℕ) → (l ≡ 0 → ⊥) → by_letter l c ≡ 92 ∷ l ∷ []
-by_letter_lem zero c n = absurd (n refl)
-by_letter_lem (suc l) c n = refl
-
 pub record EscapedSoFar (s : List ℕ) (i n : ℕ) : Type 0 where
   pub within : i ≤ length s
   pub few : n ≤ 2 * i
@@ -179,15 +182,15 @@ module _ {s : List ℕ} {i n : ℕ} (h : EscapedSoFar s i n) where
   pub counting_end : length s ≤ i → n ≡ length (escape s)
   counting_end l = omega (arith, h.rest, ap length (writing_end s i l))
 
-  module _ (l : i < length s) {m : ℕ} (q : Letter (eqb i 0) (get_or s i 0) m) where
+  module _ (l : i < length s) {m : Option ℕ} (q : Letter (eqb i 0) (get_or s i 0) m) where
     at_next : n + (length (by_letter m (get_or s i 0)) + length (escape_from (eqb (i + 1) 0) (drop (i + 1) s))) ≡ length (escape s)
     at_next = omega (arith, h.rest, ap length (writing_at s i l), ap length q.is, length-append (shown (eqb i 0) (get_or s i 0)) (escape_from (eqb (i + 1) 0) (drop (i + 1) s)))
 
-    pub counting_one : m ≡ 0 → EscapedSoFar s (i + 1) (n + 1)
+    pub counting_one : m ≡ None → EscapedSoFar s (i + 1) (n + 1)
     counting_one z = record { within = omega arith; few = omega (arith, h.few); small = h.small; rest = omega (arith, rw z at at_next) }
 
-    pub counting_two : (m ≡ 0 → ⊥) → EscapedSoFar s (i + 1) (n + 2)
-    counting_two z = record { within = omega arith; few = omega (arith, h.few); small = h.small; rest = omega (arith, rw (by_letter_lem m (get_or s i 0) z) at at_next) }
+    pub counting_two : {c : ℕ} → m ≡ Some c → EscapedSoFar s (i + 1) (n + 2)
+    counting_two z = record { within = omega arith; few = omega (arith, h.few); small = h.small; rest = omega (arith, rw z at at_next) }
 
 pub record Putting (s : List ℕ) (i a : ℕ) (o x : List ℕ) (p : ℕ) : Type 0 where
   pub within : i ≤ length s
@@ -200,20 +203,20 @@ module _ {s : List ℕ} {i a : ℕ} {o x : List ℕ} {p : ℕ} (h : Putting s i 
   pub putting_end : length s ≤ i → Wrote (escape s) a o x p
   putting_end l = subst (λ (t : List ℕ). Wrote t a o x p) (sym (append-nil h.done) ∙ ap (λ (t : List ℕ). h.done ++ t) (sym (writing_end s i l)) ∙ h.rest) h.wrote
 
-  module _ (l : i < length s) {m : ℕ} (q : Letter (eqb i 0) (get_or s i 0) m) where
+  module _ (l : i < length s) {m : Option ℕ} (q : Letter (eqb i 0) (get_or s i 0) m) where
     onward : h.done ++ by_letter m (get_or s i 0) ++ escape_from (eqb (i + 1) 0) (drop (i + 1) s) ≡ escape s
     onward = append_assoc h.done (by_letter m (get_or s i 0)) _ ∙ ap (λ (t : List ℕ). h.done ++ t) (rw q.is (sym (writing_at s i l))) ∙ h.rest
 
     pub putting_room : p + length (by_letter m (get_or s i 0)) ≤ length x
     putting_room = omega (arith, h.room, h.wrote.next, h.wrote.long, simp length-append at (ap length onward))
 
-    pub one_room : m ≡ 0 → p + 1 ≤ length x
+    pub one_room : m ≡ None → p + 1 ≤ length x
     one_room z = rw z at putting_room
 
-    pub two_room : (m ≡ 0 → ⊥) → p + 2 ≤ length x
-    two_room z = rw (by_letter_lem m (get_or s i 0) z) at putting_room
+    pub two_room : {c : ℕ} → m ≡ Some c → p + 2 ≤ length x
+    two_room z = rw z at putting_room
 
-    pub putting_one : m ≡ 0 → Putting s (i + 1) a o (set x p (get_or s i 0)) (p + 1)
+    pub putting_one : m ≡ None → Putting s (i + 1) a o (set x p (get_or s i 0)) (p + 1)
     putting_one z =
         record {
           within = omega arith;
@@ -223,14 +226,14 @@ module _ {s : List ℕ} {i a : ℕ} {o x : List ℕ} {p : ℕ} (h : Putting s i 
           room = h.room;
         }
 
-    pub putting_two : (m ≡ 0 → ⊥) → Putting s (i + 1) a o (set (set x p 92) (p + 1) m) (p + 2)
-    putting_two z =
+    pub putting_two : {c : ℕ} → m ≡ Some c → Putting s (i + 1) a o (set (set x p 92) (p + 1) c) (p + 2)
+    putting_two {c} z =
         let k : p + 2 ≤ length x = two_room z in
         let e : p + 1 + 1 ≡ p + 2 = omega arith in
         record {
           within = omega arith;
-          done = h.done ++ (92 ∷ []) ++ (m ∷ []);
-          wrote = rw e at (then (then h.wrote (wrote_byte x p 92 (omega arith))) (wrote_byte (set x p 92) (p + 1) m (rw (length-set x p 92) (omega arith))));
-          rest = rw (append_assoc h.done (92 ∷ []) (m ∷ [])) (rw (by_letter_lem m (get_or s i 0) z) at onward);
+          done = h.done ++ (92 ∷ []) ++ (c ∷ []);
+          wrote = rw e at (then (then h.wrote (wrote_byte x p 92 (omega arith))) (wrote_byte (set x p 92) (p + 1) c (rw (length-set x p 92) (omega arith))));
+          rest = rw (append_assoc h.done (92 ∷ []) (c ∷ [])) (rw z at onward);
           room = h.room;
         }

@@ -1,7 +1,6 @@
 -- What is escaped reads back, stands on one line, does not begin with a blank, and is at most twice as long.
-use Rattle.std.specs.Prelude.{◌≡◌, refl, Bool, true, false, List, [], ◌∷◌, ◌++◌, ℕ, ◌*◌, ◌≤◌, eqb, length}
+use Rattle.std.specs.Prelude.{◌≡◌, refl, Bool, true, false, List, [], ◌∷◌, ◌++◌, ℕ, ◌*◌, ◌≤◌, eqb, length, Some}
 use Rattle.std.proofs.Common.{ap, sym, ◌∙◌, subst, arith, eqb-true, ne_eqb, length-append}
-use Rattle.std.proofs.Math.Option.{some}
 use Rattle.std.proofs.lemmas.Bool.{eqb-false}
 use Rattle.text.specs.Bytes.{in_line, is_blank}
 use Rattle.text.specs.Parts.{all, after}
@@ -37,12 +36,12 @@ unfolding unescape_from
 shown_back true r = shown_cases (λ (c : ℕ) (l : List ℕ). unescape_from false (l ++ r) ≡ prepend c (unescape_from false r)) true refl refl refl refl refl (λ c hn hr hb hs ht. rw (ne_eqb c 92 hb))
 shown_back false r = shown_cases (λ (c : ℕ) (l : List ℕ). unescape_from false (l ++ r) ≡ prepend c (unescape_from false r)) false refl refl refl refl refl (λ c hn hr hb hs ht. rw (ne_eqb c 92 hb))
 
-unescape_from_lem : (f : Bool) (t : List ℕ) → unescape_from false (escape_from f t) ≡ some t
+unescape_from_lem : (f : Bool) (t : List ℕ) → unescape_from false (escape_from f t) ≡ Some t
 unfolding unescape_from escape_from
 unescape_from_lem f [] = refl
 unescape_from_lem f (c ∷ t) = shown_back f (escape_from false t) c ∙ ap (prepend c) (unescape_from_lem false t)
 
-pub unescape_escape : (t : List ℕ) → unescape (escape t) ≡ some t
+pub unescape_escape : (t : List ℕ) → unescape (escape t) ≡ Some t
 unescape_escape t = unescape_from_lem true t
 
 -- ---- on a line: no byte 10, and no blank in front

@@ -6,6 +6,5 @@ pub mod Cases
 pub mod StringRuleLaws
 pub mod Laws
 pub mod TextLaws
--- For the proofs only: the definitions laid out in the code's types, and what its private steps answer
-pub mod Answers
+-- For the proofs only: what the code's private steps answer
 pub mod Letters

@@ -1,9 +1,8 @@
 -- What is escaped is a value's text just where it was a record's, and what is read of a value's text is a record's text.
-use Rattle.std.specs.Prelude.{◌≡◌, refl, Bool, true, false, ◌&&◌, ℕ, ◌<◌, ◌≤◌}
+use Rattle.std.specs.Prelude.{◌≡◌, refl, Bool, true, false, ◌&&◌, ℕ, ◌<◌, ◌≤◌, Some}
 use Rattle.std.proofs.Math.Path.{ap}
 use Rattle.std.proofs.Common.{ap₂, sym, ◌∙◌, arith, ne_eqb}
 use mathlib.Core.List.{List, [], ◌∷◌, ◌++◌}
-use Rattle.std.proofs.Math.Option.{some}
 use Rattle.text.specs.Bytes.{between}
 use Rattle.text.specs.Parts.{all}
 use Rattle.text.specs.Laws.{and_true, all_cons}
@@ -120,7 +119,7 @@ unescaped_bytes (escaped {c} {byte} {s} d h) e =
     let k = all_cons (text_byte true) c s (all_cons (text_byte true) 92 (c ∷ s) e).1 in
     rw (escape_byte d) (unescaped_bytes h k.1)
 
-pub unescape_text : (v : List ℕ) {t : List ℕ} → value_text v ≡ true → unescape v ≡ some t → record_text t ≡ true
+pub unescape_text : (v : List ℕ) {t : List ℕ} → value_text v ≡ true → unescape v ≡ Some t → record_text t ≡ true
 unfolding text
 unescape_text v e r =
     let k = and_true (all (text_byte true) v) (utf8 v) e in

@@ -2,61 +2,43 @@
 #![tactic(auto)]
 
 ghost use Rattle.std.specs.Prelude.{◌≡◌, ◌+◌, ◌≤◌, length};
-ghost use Rattle.text.specs.Options.{or_empty, ReadsUpTo};
+ghost use Rattle.text.specs.Options.{mapped, sized, or_empty, ReadsUpTo};
 ghost use Rattle.text.specs.Parts.{padded};
 ghost use Rattle.put.specs.Put.{Wrote};
+ghost use Rattle.put.specs.Texts.{bounded};
 ghost use Rattle.escapes.specs.Escapes.{meant, unescape, escape};
-ghost use Rattle.escapes.specs.Answers.{size_of};
 ghost use Rattle.escapes.specs.Letters.{Letter};
 
+use put::Bounded;
 use text::scan;
 
-// How many bytes a string has once unescaped, or that a backslash begins no escape.
-#[derive(Clone, Copy)]
-pub enum Size {
-    Long(usize),
-    Broken,
-}
-
-// The byte that a backslash and c stand for, or 0.
-fn stands_for(c: u8) -> u8
+// The byte that a backslash and c stand for, none where they begin no escape.
+fn stands_for(c: u8) -> Option<u8>
     ensures { result ≡ meant c }
 {
-    if c == 115 {
-        return 32;
+    match c {
+        b's' => Some(b' '),
+        b't' => Some(b'\t'),
+        b'r' => Some(b'\r'),
+        b'n' => Some(b'\n'),
+        b'\\' => Some(b'\\'),
+        _ => None,
     }
-    if c == 116 {
-        return 9;
-    }
-    if c == 114 {
-        return 13;
-    }
-    if c == 110 {
-        return 10;
-    }
-    if c == 92 {
-        return 92;
-    }
-    0
 }
 
-// The length of the string s once unescaped, or that it is broken: each escape is a byte less, and only a backslash is looked at.
-pub fn string_len(s: &[u8]) -> Size
-    ensures { result ≡ size_of (unescape s.now) }
+// The length of the string s once unescaped, none where it is broken: each escape is a byte less, and only a backslash is looked at.
+pub fn string_len(s: &[u8]) -> Option<usize>
+    ensures { result ≡ mapped length (unescape s.now) }
 {
     let mut less = 0;
-    let mut i = scan::find(s, 0, 92);
+    let mut i = scan::find(s, 0, b'\\');
     while i < s.len() {
-        if s.len() - i < 2 {
-            return Size::Broken;
-        }
-        if stands_for(s[i + 1]) == 0 {
-            return Size::Broken;
-        }
+        let c = *s.get(i + 1)?;
+        stands_for(c)?;
         less += 1;
-        i = scan::find_near(s, i + 2, 92);
+        i = scan::find_near(s, i + 2, b'\\');
     }
-    Size::Long(s.len() - less)
+    Some(s.len() - less)
 }
 
 // Writes the string s, unescaped, at the front of out, and returns its length.
@@ -66,79 +48,57 @@ pub fn put_string(out: &mut [u8], s: &[u8]) -> usize
 {
     let mut after = false;
     let mut n = 0;
-    let mut i = 0;
-    while i < s.len() {
-        let b = s[i];
+    for &b in s {
         if after {
-            out[n] = stands_for(b);
+            out[n] = stands_for(b).unwrap();
             after = false;
             n += 1;
-            i += 1;
+        } else if b == b'\\' {
+            after = true;
         } else {
-            if b == 92 {
-                after = true;
-                i += 1;
-            } else {
-                out[n] = b;
-                n += 1;
-                i += 1;
-            }
+            out[n] = b;
+            n += 1;
         }
     }
     n
 }
 
-// The string s of at most 32, 63 or 253 bytes, with zeros behind it.
-pub fn string_32(s: &[u8]) -> [u8; 32]
-    requires { ReadsUpTo 32 (unescape s.now) }
-    ensures { result ≡ padded 32 (or_empty (unescape s.now)) }
+// The string s, unescaped, and zeros up to N bytes.
+pub fn unescaped<const N: usize>(s: &[u8]) -> [u8; N]
+    requires { ReadsUpTo N (unescape s.now) }
+    ensures { result ≡ padded N (or_empty (unescape s.now)) }
 {
-    let mut a = [0u8; 32];
+    let mut a = [0u8; N];
     put_string(&mut a, s);
     a
 }
 
-pub fn string_63(s: &[u8]) -> [u8; 63]
-    requires { ReadsUpTo 63 (unescape s.now) }
-    ensures { result ≡ padded 63 (or_empty (unescape s.now)) }
+// The string s where it has low to N bytes once unescaped.
+pub fn read_string<const N: usize>(low: usize, s: &[u8]) -> Option<Bounded<N>>
+    ensures { result ≡ mapped (bounded N) (sized low N (unescape s.now)) }
 {
-    let mut a = [0u8; 63];
-    put_string(&mut a, s);
-    a
+    let len = string_len(s)?;
+    if len < low || N < len {
+        return None;
+    }
+    Some(Bounded {
+        len,
+        bytes: unescaped(s),
+    })
 }
 
-pub fn string_253(s: &[u8]) -> [u8; 253]
-    requires { ReadsUpTo 253 (unescape s.now) }
-    ensures { result ≡ padded 253 (or_empty (unescape s.now)) }
-{
-    let mut a = [0u8; 253];
-    put_string(&mut a, s);
-    a
-}
-
-// The letter of the escape with which c is written, in first place or not, or 0.
-fn letter(first: bool, c: u8) -> u8
+// The letter of the escape with which c is written, in first place or not; none where c is written as it stands.
+fn letter(first: bool, c: u8) -> Option<u8>
     ensures { Letter first c result }
 {
-    if c == 10 {
-        return 110;
+    match c {
+        b'\n' => Some(b'n'),
+        b'\r' => Some(b'r'),
+        b'\\' => Some(b'\\'),
+        b' ' if first => Some(b's'),
+        b'\t' if first => Some(b't'),
+        _ => None,
     }
-    if c == 13 {
-        return 114;
-    }
-    if c == 92 {
-        return 92;
-    }
-    if first {
-        if c == 32 {
-            return 115;
-        }
-        if c == 9 {
-            return 116;
-        }
-        return 0;
-    }
-    0
 }
 
 // How many bytes s has once escaped.
@@ -147,14 +107,10 @@ pub fn escaped_len(s: &[u8]) -> usize
     ensures { result ≡ length (escape s.now) }
 {
     let mut n = 0;
-    let mut i = 0;
-    while i < s.len() {
-        if letter(i == 0, s[i]) == 0 {
-            n += 1;
-            i += 1;
-        } else {
-            n += 2;
-            i += 1;
+    for (i, &b) in s.iter().enumerate() {
+        match letter(i == 0, b) {
+            None => n += 1,
+            Some(_) => n += 2,
         }
     }
     n
@@ -166,18 +122,17 @@ pub fn put_escaped(out: &mut [u8], at: usize, s: &[u8]) -> usize
     ensures { Wrote (escape s.now) at out.old out.new result }
 {
     let mut p = at;
-    let mut i = 0;
-    while i < s.len() {
-        let l = letter(i == 0, s[i]);
-        if l == 0 {
-            out[p] = s[i];
-            p += 1;
-            i += 1;
-        } else {
-            out[p] = 92;
-            out[p + 1] = l;
-            p += 2;
-            i += 1;
+    for (i, &b) in s.iter().enumerate() {
+        match letter(i == 0, b) {
+            None => {
+                out[p] = b;
+                p += 1;
+            }
+            Some(l) => {
+                out[p] = b'\\';
+                out[p + 1] = l;
+                p += 2;
+            }
         }
     }
     p

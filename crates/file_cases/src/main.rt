@@ -76,11 +76,8 @@ fn answer<W: Write>(out: &mut W, input: &[u8]) -> io::Result<()> {
     streams::say(out, b" = ")?;
     let from = end + 1;
     if end == 1 {
-        move_service(
-            out,
-            &input[from..],
-            hex_digits::digit_value(input[0]) as usize,
-        )
+        let service = hex_digits::digit_value(input[0]).unwrap_or(0);
+        move_service(out, &input[from..], service as usize)
     } else {
         check(out, &input[0..end], &input[from..])
     }

@@ -1,127 +1,125 @@
--- The returns of `digit_value` and `hex_digit`, and what the loops keep: a turn and the ends of each.
+-- The values of the digits, range by range, and what the loops keep: a turn and the ends of each.
 use mathlib.Core.Path.{◌≡◌, refl, ap, sym, ◌∙◌, subst}
-use mathlib.Core.Bool.{Bool, true, false, ◌&&◌}
+use mathlib.Core.Bool.{Bool, true, false}
 use mathlib.Core.List.{List, [], ◌∷◌, ◌++◌, append_assoc, append-nil}
-use mathlib.Core.Option.{none, some}
+use Rattle.std.specs.Prelude.{Option, None, Some}
+use Rattle.std.specs.Option.{IsSome}
 use Prim.Native.Nat.{ℕ, suc, ◌+◌, ◌-◌, ◌*◌, ◌/◌, ◌%◌, ◌≤◌, ◌<◌}
 use native.Mathlib.Numerals.{add-one}
 use native.Mathlib.Omega.{arith}
-use borrow.Author.Tests.{lt-ltb, le-ltb, ltb-true, eqb-true, eqb-false}
-use lib.Dec.{eqb, ltb}
+use borrow.Author.Tests.{lt-ltb, le-ltb, eqb-true, eqb-false}
+use lib.Dec.{eqb}
 use lib.ListN.{length, drop, set, get_or, drop_of_length-le, length-append}
 use lib.Seq.{drop-cons}
 use Rattle.text.specs.Options.{and_then, prepend, or_empty}
-use Rattle.text.specs.Laws.{and_true, inside, under, over}
+use Rattle.text.specs.Laws.{inside, under, over}
 use Rattle.put.specs.Put.{Wrote}
 use Rattle.put.specs.Laws.{then, wrote_two}
 use Rattle.put.proofs.Filling.{Filling, filling_none, filling_end, filling_room, filling_byte}
-use Rattle.hex_digits.specs.Hex.{nibble, pair_byte, unhex, hex_digit, hex}
+use Rattle.hex_digits.specs.Hex.{nibble, digit, pair_byte, unhex, hex_digit, hex}
 
 -- ---- one digit, range by range
 
+module _ (c : ℕ) where
+  a_digit : {v : ℕ} → v ≡ nibble c → v < 16 → Some v ≡ digit c
+  a_digit {v} e h = rw (← e, lt-ltb v 16 h)
+
+  no_digit : 16 ≡ nibble c → None ≡ digit c
+  no_digit e = rw (← e)
+
 module _ {c : ℕ} where
-  pub nibble_low : c < 48 → 16 ≡ nibble c
+  pub digit_below : c < 48 → None ≡ digit c
   unfolding nibble
-  nibble_low h = rw (under {x = c} 48 57 h, under {x = c} 97 102 (omega arith), under {x = c} 65 70 (omega arith))
+  digit_below h = no_digit c (rw (under {x = c} 48 57 h, under {x = c} 97 102 (omega arith), under {x = c} 65 70 (omega arith)))
 
-  pub nibble_decimal : 48 ≤ c → c ≤ 57 → c - 48 ≡ nibble c
+  pub digit_decimal : 48 ≤ c → c ≤ 57 → Some (c - 48) ≡ digit c
   unfolding nibble
-  nibble_decimal h g = rw (inside {x = c} 48 57 h g)
+  digit_decimal h g = a_digit c (rw (inside {x = c} 48 57 h g)) (omega arith)
 
-  pub nibble_gap : 57 < c → c < 65 → 16 ≡ nibble c
+  pub digit_gap : 57 < c → c < 65 → None ≡ digit c
   unfolding nibble
-  nibble_gap h g = rw (over {x = c} 48 57 h, under {x = c} 97 102 (omega arith), under {x = c} 65 70 g)
+  digit_gap h g = no_digit c (rw (over {x = c} 48 57 h, under {x = c} 97 102 (omega arith), under {x = c} 65 70 g))
 
-  pub nibble_upper : 65 ≤ c → c ≤ 70 → c - 55 ≡ nibble c
+  pub digit_upper : 65 ≤ c → c ≤ 70 → Some (c - 65 + 10) ≡ digit c
   unfolding nibble
-  nibble_upper h g = rw (over {x = c} 48 57 (omega arith), under {x = c} 97 102 (omega arith), inside {x = c} 65 70 h g)
+  digit_upper h g =
+      let e : c - 65 + 10 ≡ c - 55 = omega arith in
+      a_digit c (e ∙ rw (over {x = c} 48 57 (omega arith), under {x = c} 97 102 (omega arith), inside {x = c} 65 70 h g)) (omega arith)
 
-  pub nibble_between : 70 < c → c < 97 → 16 ≡ nibble c
+  pub digit_between : 70 < c → c < 97 → None ≡ digit c
   unfolding nibble
-  nibble_between h g = rw (over {x = c} 48 57 (omega arith), under {x = c} 97 102 g, over {x = c} 65 70 h)
+  digit_between h g = no_digit c (rw (over {x = c} 48 57 (omega arith), under {x = c} 97 102 g, over {x = c} 65 70 h))
 
-  pub nibble_lower : 97 ≤ c → c ≤ 102 → c - 87 ≡ nibble c
+  pub digit_lower : 97 ≤ c → c ≤ 102 → Some (c - 97 + 10) ≡ digit c
   unfolding nibble
-  nibble_lower h g = rw (over {x = c} 48 57 (omega arith), inside {x = c} 97 102 h g)
+  digit_lower h g =
+      let e : c - 97 + 10 ≡ c - 87 = omega arith in
+      a_digit c (e ∙ rw (over {x = c} 48 57 (omega arith), inside {x = c} 97 102 h g)) (omega arith)
 
-  pub nibble_high : 102 < c → 16 ≡ nibble c
+  pub digit_above : 102 < c → None ≡ digit c
   unfolding nibble
-  nibble_high h = rw (over {x = c} 48 57 (omega arith), over {x = c} 97 102 h, over {x = c} 65 70 (omega arith))
+  digit_above h = no_digit c (rw (over {x = c} 48 57 (omega arith), over {x = c} 97 102 h, over {x = c} 65 70 (omega arith)))
+
+pub ruleset digits = (digit_below, digit_decimal, digit_gap, digit_upper, digit_between, digit_lower, digit_above)
 
 pub digit_low : {n : ℕ} → n < 10 → 48 + n ≡ hex_digit n
 unfolding hex_digit
 digit_low {n} h = rw (lt-ltb n 10 h)
 
-pub digit_high : {n : ℕ} → 10 ≤ n → 87 + n ≡ hex_digit n
+pub digit_high : {n : ℕ} → 10 ≤ n → 97 + (n - 10) ≡ hex_digit n
 unfolding hex_digit
-digit_high {n} h = rw (le-ltb n 10 h)
+digit_high {n} h = rw (le-ltb n 10 h) (omega arith)
 
--- ---- pairs from index i on
+-- ---- bytes from pairs: those of the first n pairs stand in x, and the rest is due
 
-abbrev nibble_at : List ℕ → ℕ → ℕ
-nibble_at s i = nibble (get_or s i 0)
+pub record Unhexing (s : List ℕ) (n : ℕ) (o x : List ℕ) : Type 0 where
+  pub fill : Filling (unhex s) (unhex (drop (2 * n) s)) n o x
 
-unhex_at : (s : List ℕ) (i : ℕ) → i + 1 < length s → unhex (drop i s) ≡ and_then (pair_byte (get_or s i 0) (get_or s (i + 1) 0)) (λ x. prepend x (unhex (drop (i + 2) s)))
-unfolding unhex
-unhex_at s i h =
-    let e : i + 2 ≡ suc (suc i) = omega arith in
-    let l : suc i < length s = omega arith in
-    rw (e, add-one i, drop-cons s i 0 (omega arith), drop-cons s (suc i) 0 l)
+pair_at : List ℕ → ℕ → Option ℕ
+pair_at s n = pair_byte (get_or s (2 * n) 0) (get_or s (2 * n + 1) 0)
 
-unhex_odd : (s : List ℕ) (i : ℕ) → i < length s → length s ≤ i + 1 → unhex (drop i s) ≡ none
+unhex_at : (s : List ℕ) (n : ℕ) → 2 * n + 1 < length s → unhex (drop (2 * n) s) ≡ and_then (pair_at s n) (λ x. prepend x (unhex (drop (2 * (n + 1)) s)))
+unfolding unhex pair_at
+unhex_at s n h =
+    let e : 2 * (n + 1) ≡ suc (suc (2 * n)) = omega arith in
+    let l : suc (2 * n) < length s = omega arith in
+    rw (e, add-one (2 * n), drop-cons s (2 * n) 0 (omega arith), drop-cons s (suc (2 * n)) 0 l)
+
+unhex_odd : (s : List ℕ) (i : ℕ) → i < length s → length s ≤ i + 1 → unhex (drop i s) ≡ None
 unfolding unhex
 unhex_odd s i h g = let l : length s ≤ suc i = omega arith in rw (drop-cons s i 0 h, drop_of_length-le s l)
 
-unhex_end : (s : List ℕ) (i : ℕ) → length s ≤ i → unhex (drop i s) ≡ some []
+unhex_end : (s : List ℕ) (i : ℕ) → length s ≤ i → unhex (drop i s) ≡ Some []
 unfolding unhex
 unhex_end s i h = rw (drop_of_length-le s h)
 
--- ---- bytes from pairs
-
-pub record Unhexing (s : List ℕ) (i n : ℕ) (o x : List ℕ) : Type 0 where
-  pub within : i ≤ length s
-  pub few : n ≤ i
-  pub fill : Filling (unhex s) (unhex (drop i s)) n o x
-
-module _ {s : List ℕ} {i n : ℕ} {o x : List ℕ} (h : Unhexing s i n o x) where
-  pub unhexing_end : length s ≤ i + 1 → Wrote (or_empty (unhex s)) 0 o x n
-  unhexing_end l = go (eqb i (length s)) refl
+module _ {s : List ℕ} {n : ℕ} {o x : List ℕ} (h : Unhexing s n o x) where
+  pub unhexing_end : n ≡ length s / 2 → Wrote (or_empty (unhex s)) 0 o x n
+  unhexing_end l = go (eqb (2 * n) (length s)) refl
     where
-      go : (t : Bool) → eqb i (length s) ≡ t → Wrote (or_empty (unhex s)) 0 o x n
-      go true e = filling_end h.fill (unhex_end s i (omega (arith, eqb-true i (length s) e)))
-      go false e = let n : (i ≡ length s → ⊥) = eqb-false i (length s) e in absurd (filling_none h.fill (unhex_odd s i (omega (arith, n, h.within)) l))
+      go : (t : Bool) → eqb (2 * n) (length s) ≡ t → Wrote (or_empty (unhex s)) 0 o x n
+      go true e = filling_end h.fill (unhex_end s (2 * n) (omega (arith, eqb-true (2 * n) (length s) e)))
+      go false e = let k : (2 * n ≡ length s → ⊥) = eqb-false (2 * n) (length s) e in absurd (filling_none h.fill (unhex_odd s (2 * n) (omega (arith, k, l)) (omega (arith, l))))
 
-  module _ (l : i + 1 < length s) where
-    digits : (ltb (nibble_at s i) 16 && ltb (nibble_at s (i + 1)) 16) ≡ true
-    digits = go (ltb (nibble_at s i) 16 && ltb (nibble_at s (i + 1)) 16) refl
-      where
-        go : (t : Bool) → (ltb (nibble_at s i) 16 && ltb (nibble_at s (i + 1)) 16) ≡ t → t ≡ true
-        go true e = refl
-        go false e = absurd (filling_none h.fill (unhex_at s i l ∙ rw e))
+  module _ (l : n < length s / 2) where
+    here : unhex (drop (2 * n) s) ≡ and_then (pair_at s n) (λ y. prepend y (unhex (drop (2 * (n + 1)) s)))
+    here = unhex_at s n (omega (arith, l))
 
-    pub unhexing_high : nibble_at s i < 16
-    unhexing_high = ltb-true _ 16 (and_true (ltb (nibble_at s i) 16) (ltb (nibble_at s (i + 1)) 16) digits).0
+    pub unhexing_some : (r : Option ℕ) → r ≡ pair_byte (get_or s (2 * n) 0) (get_or s (2 * n + 1) 0) → IsSome r
+    unfolding pair_at
+    unhexing_some None p = absurd (filling_none h.fill (here ∙ rw (sym p)))
+    unhexing_some (Some y) p = refl
 
-    pub unhexing_low : nibble_at s (i + 1) < 16
-    unhexing_low = ltb-true _ 16 (and_true (ltb (nibble_at s i) 16) (ltb (nibble_at s (i + 1)) 16) digits).1
+    module _ {y : ℕ} (p : Some y ≡ pair_byte (get_or s (2 * n) 0) (get_or s (2 * n + 1) 0)) where
+      byte : unhex (drop (2 * n) s) ≡ prepend y (unhex (drop (2 * (n + 1)) s))
+      unfolding pair_at
+      byte = here ∙ rw (sym p)
 
-    byte : unhex (drop i s) ≡ prepend (nibble_at s i * 16 + nibble_at s (i + 1)) (unhex (drop (i + 2) s))
-    byte = unhex_at s i l ∙ rw digits
+      pub unhexing_room : n < length x
+      unhexing_room = filling_room h.fill y (unhex (drop (2 * (n + 1)) s)) byte
 
-    pub unhexing_room : n < length x
-    unhexing_room = filling_room h.fill (nibble_at s i * 16 + nibble_at s (i + 1)) (unhex (drop (i + 2) s)) byte
-
-    module _ {a b : ℕ} (p : a ≡ nibble_at s i) (q : b ≡ nibble_at s (i + 1)) where
-      pub unhexing_small : a * 16 + b < 256
-      unhexing_small = omega (arith, unhexing_high, unhexing_low)
-
-      pub unhexing_turn : Unhexing s (i + 2) (n + 1) o (set x n (a * 16 + b))
-      unhexing_turn =
-          record {
-            within = omega arith;
-            few = omega (arith, h.few);
-            fill = rw (p, q) (filling_byte h.fill (nibble_at s i * 16 + nibble_at s (i + 1)) (unhex (drop (i + 2) s)) byte);
-          }
+      pub unhexing_turn : Unhexing s (n + 1) o (set x n y)
+      unhexing_turn = record { fill = filling_byte h.fill y (unhex (drop (2 * (n + 1)) s)) byte }
 
 -- ---- pairs from bytes
 

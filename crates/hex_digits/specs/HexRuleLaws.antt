@@ -1,8 +1,8 @@
 -- What `nibble` and `unhex` read is what the hex digits write.
-use Rattle.std.specs.Prelude.{ℕ, ◌+◌, ◌-◌, ◌*◌, ◌<◌, ◌≡◌, refl, Bool, true, false, cond, ◌&&◌, List, [], ◌∷◌, ltb}
+use Rattle.std.specs.Prelude.{ℕ, ◌+◌, ◌-◌, ◌*◌, ◌<◌, ◌≡◌, refl, Bool, true, false, cond, ◌&&◌, List, [], ◌∷◌, ltb, Some}
 use Rattle.std.proofs.Common.{arith, ap, subst, lt-ltb}
 use Rattle.std.proofs.lemmas.Bool.{false≢true}
-use Rattle.std.proofs.Math.Option.{some, some-injective, none-ne-some}
+use Rattle.std.proofs.lemmas.Option.{same_Some, none-some}
 use Rattle.text.specs.Bytes.{between}
 use Rattle.text.specs.Options.{prepend}
 use Rattle.text.specs.OptionLaws.{only_some, then_some, prepend_some}
@@ -53,28 +53,28 @@ value_digit c = go (between 48 57 c) refl (between 97 102 c) refl (between 65 70
 
 -- ---- a pair
 
-pub pair_is : (a b : ℕ) {byte : ℕ} → pair_byte a b ≡ some byte → HexPair a b byte
+pub pair_is : (a b : ℕ) {byte : ℕ} → pair_byte a b ≡ Some byte → HexPair a b byte
 pair_is a b {byte} e =
-    let o = only_some (ltb (nibble a) 16 && ltb (nibble b) 16) (some (nibble a * 16 + nibble b)) e in
+    let o = only_some (ltb (nibble a) 16 && ltb (nibble b) 16) (Some (nibble a * 16 + nibble b)) e in
     let k = and_true (ltb (nibble a) 16) (ltb (nibble b) 16) o.0 in
-    record { sixteens = nibble a; ones = nibble b; first = value_digit a k.0; second = value_digit b k.1; is = some-injective (nibble a * 16 + nibble b) byte o.1 }
+    record { sixteens = nibble a; ones = nibble b; first = value_digit a k.0; second = value_digit b k.1; is = same_Some (nibble a * 16 + nibble b) byte o.1 }
 
-pub is_pair : (a b : ℕ) {byte : ℕ} → HexPair a b byte → pair_byte a b ≡ some byte
+pub is_pair : (a b : ℕ) {byte : ℕ} → HexPair a b byte → pair_byte a b ≡ Some byte
 is_pair a b h =
-    rw (digit_value h.first, digit_value h.second, lt-ltb h.sixteens 16 (digit_small h.first), lt-ltb h.ones 16 (digit_small h.second)) (ap some h.is)
+    rw (digit_value h.first, digit_value h.second, lt-ltb h.sixteens 16 (digit_small h.first), lt-ltb h.ones 16 (digit_small h.second)) (ap Some h.is)
 
 -- ---- pairs
 
-pub unhex_writes : (s : List ℕ) {t : List ℕ} → unhex s ≡ some t → Hex s t
+pub unhex_writes : (s : List ℕ) {t : List ℕ} → unhex s ≡ Some t → Hex s t
 unfolding unhex
-unhex_writes [] {t} e = subst (Hex []) (some-injective [] t e) no_more
-unhex_writes (a ∷ []) {t} e = absurd (none-ne-some t e)
+unhex_writes [] {t} e = subst (Hex []) (same_Some [] t e) no_more
+unhex_writes (a ∷ []) {t} e = absurd (none-some t e)
 unhex_writes (a ∷ b ∷ s) {t} e =
     let x = then_some (pair_byte a b) (λ x. prepend x (unhex s)) e in
     let k = prepend_some x.0 (unhex s) x.2 in
     subst (Hex (a ∷ b ∷ s)) k.2 (pair (pair_is a b x.1) (unhex_writes s k.1))
 
-pub writes_unhex : {s t : List ℕ} → Hex s t → unhex s ≡ some t
+pub writes_unhex : {s t : List ℕ} → Hex s t → unhex s ≡ Some t
 unfolding unhex
 writes_unhex no_more = refl
 writes_unhex (pair {a} {b} h k) = rw (is_pair a b h, writes_unhex k)

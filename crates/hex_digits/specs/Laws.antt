@@ -1,13 +1,14 @@
 -- Hex that is written reads back, and lower-case hex that is read is written again; lengths and bytes of both, and what is read.
-use Rattle.std.specs.Prelude.{◌≡◌, refl, Bool, true, false, cond, ◌&&◌, ◌||◌, List, [], ◌∷◌, ℕ, suc, ◌+◌, ◌-◌, ◌*◌, ◌/◌, ◌%◌, ◌<◌, eqb, ltb, length}
-use Rattle.std.proofs.Common.{ap, ap₂, ◌∙◌, arith, eqb-true, ltb-true, lt-ltb}
-use Rattle.std.proofs.Math.Option.{Option, none, some, some-injective, none-ne-some}
+use Rattle.std.specs.Prelude.{◌≡◌, refl, Bool, true, false, cond, ◌&&◌, ◌||◌, List, [], ◌∷◌, ℕ, suc, ◌+◌, ◌-◌, ◌*◌, ◌/◌, ◌%◌, ◌≤◌, ◌<◌, eqb, ltb, length, Option, None, Some}
+use Rattle.std.proofs.Common.{ap, ap₂, sym, subst, ◌∙◌, arith, eqb-true, ltb-true, lt-ltb}
+use Rattle.std.proofs.lemmas.Bool.{ltb-false}
+use Rattle.std.proofs.lemmas.Option.{same_Some, none-some}
 use Rattle.text.specs.Bytes.{between, is_byte, is_digit, is_hex_digit, is_lower_hex}
 use Rattle.text.specs.Parts.{all}
 use Rattle.text.specs.Options.{is_some, and_then, only, prepend}
 use Rattle.text.specs.OptionLaws.{only_some, then_some, prepend_some}
 use Rattle.text.specs.Laws.{and_true, all_cons, below, below_at, between_high}
-use Rattle.hex_digits.specs.Hex.{nibble, pair_byte, unhex, hex_digit, hex}
+use Rattle.hex_digits.specs.Hex.{nibble, digit, pair_byte, unhex, hex_digit, hex}
 
 -- ---- one digit, by computation
 
@@ -44,9 +45,24 @@ pub digit_nibble : (c : ℕ) → is_lower_hex c ≡ true → hex_digit (nibble c
 unfolding reads_back
 digit_nibble c h = eqb-true _ c (rw h at (below_at reads_back 103 each_lower c (lower_below c h)))
 
+-- ---- a digit's value is a nibble
+
+pub digit_is : (c : ℕ) {v : ℕ} → digit c ≡ Some v → (nibble c ≡ v) × (v < 16)
+digit_is c {v} e =
+    let o = only_some (ltb (nibble c) 16) (Some (nibble c)) e in
+    let k = same_Some (nibble c) v o.1 in
+    (k, subst (λ (x : ℕ). x < 16) k (ltb-true (nibble c) 16 o.0))
+
+pub digit_none : (c : ℕ) → digit c ≡ None → 16 ≤ nibble c
+digit_none c e = go (ltb (nibble c) 16) refl e
+  where
+    go : (t : Bool) → ltb (nibble c) 16 ≡ t → only t (Some (nibble c)) ≡ None → 16 ≤ nibble c
+    go true h k = absurd (none-some (nibble c) (sym k))
+    go false h k = ltb-false (nibble c) 16 h
+
 -- ---- writing, then reading
 
-pub unhex_hex : (t : List ℕ) → all is_byte t ≡ true → unhex (hex t) ≡ some t
+pub unhex_hex : (t : List ℕ) → all is_byte t ≡ true → unhex (hex t) ≡ Some t
 unfolding unhex hex
 unhex_hex [] h = refl
 unhex_hex (b ∷ t) h =
@@ -74,39 +90,39 @@ record PairRead (a b : ℕ) (s t : List ℕ) : Type 0 where
   high : nibble a < 16
   low : nibble b < 16
   rest : List ℕ
-  read : unhex s ≡ some rest
+  read : unhex s ≡ Some rest
   is : (nibble a * 16 + nibble b) ∷ rest ≡ t
 
-pair_read : (a b : ℕ) (s t : List ℕ) → unhex (a ∷ b ∷ s) ≡ some t → PairRead a b s t
+pair_read : (a b : ℕ) (s t : List ℕ) → unhex (a ∷ b ∷ s) ≡ Some t → PairRead a b s t
 unfolding unhex
 pair_read a b s t e =
     let x = then_some (pair_byte a b) (λ x. prepend x (unhex s)) e in
-    let o = only_some (ltb (nibble a) 16 && ltb (nibble b) 16) (some (nibble a * 16 + nibble b)) x.1 in
+    let o = only_some (ltb (nibble a) 16 && ltb (nibble b) 16) (Some (nibble a * 16 + nibble b)) x.1 in
     let d = and_true (ltb (nibble a) 16) (ltb (nibble b) 16) o.0 in
     let k = prepend_some x.0 (unhex s) x.2 in
-    record { high = ltb-true _ 16 d.0; low = ltb-true _ 16 d.1; rest = k.0; read = k.1; is = ap (λ (y : ℕ). y ∷ k.0) (some-injective _ x.0 o.1) ∙ k.2 }
+    record { high = ltb-true _ 16 d.0; low = ltb-true _ 16 d.1; rest = k.0; read = k.1; is = ap (λ (y : ℕ). y ∷ k.0) (same_Some _ x.0 o.1) ∙ k.2 }
 
-none_due : (t : List ℕ) → unhex [] ≡ some t → [] ≡ t
+none_due : (t : List ℕ) → unhex [] ≡ Some t → [] ≡ t
 unfolding unhex
-none_due t e = some-injective [] t e
+none_due t e = same_Some [] t e
 
-odd_unread : (a : ℕ) (t : List ℕ) → unhex (a ∷ []) ≡ some t → ⊥
+odd_unread : (a : ℕ) (t : List ℕ) → unhex (a ∷ []) ≡ Some t → ⊥
 unfolding unhex
-odd_unread a t e = none-ne-some t e
+odd_unread a t e = none-some t e
 
-pub unhex_length : (s : List ℕ) {t : List ℕ} → unhex s ≡ some t → length s ≡ 2 * length t
+pub unhex_length : (s : List ℕ) {t : List ℕ} → unhex s ≡ Some t → length s ≡ 2 * length t
 unhex_length [] {t} e = rw (← none_due t e)
 unhex_length (a ∷ []) {t} e = absurd (odd_unread a t e)
 unhex_length (a ∷ b ∷ s) {t} e = let p = pair_read a b s t e in rw (← p.is) (omega (arith, unhex_length s p.read))
 
-pub unhex_bytes : (s : List ℕ) {t : List ℕ} → unhex s ≡ some t → all is_byte t ≡ true
+pub unhex_bytes : (s : List ℕ) {t : List ℕ} → unhex s ≡ Some t → all is_byte t ≡ true
 unhex_bytes [] {t} e = rw (← none_due t e)
 unhex_bytes (a ∷ []) {t} e = absurd (odd_unread a t e)
 unhex_bytes (a ∷ b ∷ s) {t} e =
     let p = pair_read a b s t e in
     rw (← p.is, lt-ltb (nibble a * 16 + nibble b) 256 (omega (arith, p.high, p.low))) (unhex_bytes s p.read)
 
-pub hex_unhex : (s : List ℕ) {t : List ℕ} → all is_lower_hex s ≡ true → unhex s ≡ some t → hex t ≡ s
+pub hex_unhex : (s : List ℕ) {t : List ℕ} → all is_lower_hex s ≡ true → unhex s ≡ Some t → hex t ≡ s
 unfolding hex
 hex_unhex [] {t} h e = rw (← none_due t e)
 hex_unhex (a ∷ []) {t} h e = absurd (odd_unread a t e)
@@ -131,10 +147,10 @@ hex_nibble c = go (is_digit c) refl (between 97 102 c) refl (between 65 70 c) re
     go false e false f true g = lt-ltb (c - 55) 16 (omega (arith, between_high {x = c} 65 70 g))
     go false e false f false g = refl
 
-some_pair : (t : Bool) (x : ℕ) (o : Option (List ℕ)) → is_some (and_then (only t (some x)) (λ y. prepend y o)) ≡ (t && is_some o)
+some_pair : (t : Bool) (x : ℕ) (o : Option (List ℕ)) → is_some (and_then (only t (Some x)) (λ y. prepend y o)) ≡ (t && is_some o)
 some_pair false x o = refl
-some_pair true x none = refl
-some_pair true x (some l) = refl
+some_pair true x None = refl
+some_pair true x (Some l) = refl
 
 before_even : (a b e r : Bool) → ((a && b) && (e && r)) ≡ (e && (a && (b && r)))
 before_even true true e r = refl

@@ -8,33 +8,30 @@ ghost use Rattle.std.specs.Prelude.{◌≡◌, ◌+◌, ◌≤◌, ◌<◌, leng
 ghost use Rattle.text.specs.Parts.{padded};
 ghost use Rattle.text.specs.Options.{is_some, or_empty, ReadsUpTo};
 ghost use Rattle.put.specs.Put.{Wrote};
-ghost use Rattle.hex_digits.specs.Hex.{nibble, unhex, hex_digit, hex};
+ghost use Rattle.hex_digits.specs.Hex.{digit, pair_byte, unhex, hex_digit, hex};
 
 use text::Class;
 
-// A hex digit's value, 16 where c is none.
-pub fn digit_value(c: u8) -> u8
-    ensures { result ≡ nibble c }
+// A hex digit's value, none where c is no digit.
+#[tactic(auto, using(crate::proofs::Loops::digits))]
+pub fn digit_value(c: u8) -> Option<u8>
+    ensures { result ≡ digit c }
 {
-    if c < 48 {
-        return 16;
+    match c {
+        b'0'..=b'9' => Some(c - b'0'),
+        b'A'..=b'F' => Some(c - b'A' + 10),
+        b'a'..=b'f' => Some(c - b'a' + 10),
+        _ => None,
     }
-    if c <= 57 {
-        return c - 48;
-    }
-    if c < 65 {
-        return 16;
-    }
-    if c <= 70 {
-        return c - 55;
-    }
-    if c < 97 {
-        return 16;
-    }
-    if c <= 102 {
-        return c - 87;
-    }
-    16
+}
+
+// The byte that a pair of hex digits writes, none where one is no digit.
+pub fn pair_value(a: u8, b: u8) -> Option<u8>
+    ensures { result ≡ pair_byte a b }
+{
+    let sixteens = digit_value(a)?;
+    let ones = digit_value(b)?;
+    Some(sixteens * 16 + ones)
 }
 
 // Whether s is pairs of hex digits.
@@ -52,24 +49,19 @@ pub fn put_unhexed(out: &mut [u8], s: &[u8]) -> usize
     requires { ReadsUpTo (length out.old) (unhex s.now) }
     ensures { Wrote (or_empty (unhex s.now)) 0 out.old out.new result }
 {
-    let mut n = 0;
-    let mut i = 0;
-    while i + 1 < s.len() {
-        let a = digit_value(s[i]);
-        let b = digit_value(s[i + 1]);
-        out[n] = a * 16 + b;
-        n += 1;
-        i += 2;
+    let pairs = s.len() / 2;
+    for n in 0..pairs {
+        out[n] = pair_value(s[2 * n], s[2 * n + 1]).unwrap();
     }
-    n
+    pairs
 }
 
-// The bytes that s gives in hex, and zeros up to 32.
-pub fn unhexed_32(s: &[u8]) -> [u8; 32]
-    requires { ReadsUpTo 32 (unhex s.now) }
-    ensures { result ≡ padded 32 (or_empty (unhex s.now)) }
+// The bytes that s gives in hex, and zeros up to N.
+pub fn unhexed<const N: usize>(s: &[u8]) -> [u8; N]
+    requires { ReadsUpTo N (unhex s.now) }
+    ensures { result ≡ padded N (or_empty (unhex s.now)) }
 {
-    let mut a = [0u8; 32];
+    let mut a = [0u8; N];
     put_unhexed(&mut a, s);
     a
 }
@@ -80,9 +72,9 @@ pub fn hex_digit(n: u8) -> u8
     ensures { result ≡ hex_digit n }
 {
     if n < 10 {
-        return 48 + n;
+        return b'0' + n;
     }
-    87 + n
+    b'a' + (n - 10)
 }
 
 // Writes the bytes of s in lower-case hex at a place of out, and returns the place behind it.
@@ -91,13 +83,10 @@ pub fn put_hex(out: &mut [u8], at: usize, s: &[u8]) -> usize
     ensures { Wrote (hex s.now) at out.old out.new result }
 {
     let mut p = at;
-    let mut i = 0;
-    while i < s.len() {
-        let b = s[i];
+    for &b in s {
         out[p] = hex_digit(b / 16);
         out[p + 1] = hex_digit(b % 16);
         p += 2;
-        i += 1;
     }
     p
 }

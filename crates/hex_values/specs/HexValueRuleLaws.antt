@@ -1,7 +1,7 @@
 -- What `mac`, `pre_shared_key_of` and `ssid` read is what their hex digits write.
-use Rattle.std.specs.Prelude.{ℕ, ◌+◌, ◌*◌, ◌≡◌, refl, List, [], ◌∷◌, eqb, length}
+use Rattle.std.specs.Prelude.{ℕ, ◌+◌, ◌*◌, ◌≡◌, refl, List, [], ◌∷◌, eqb, length, Option, Some}
 use Rattle.std.proofs.Common.{arith, ap, ◌∙◌, subst, eqb-true}
-use Rattle.std.proofs.Math.Option.{Option, some, some-injective, none-ne-some}
+use Rattle.std.proofs.lemmas.Option.{same_Some, none-some}
 use Rattle.text.specs.Options.{and_then, prepend}
 use Rattle.text.specs.OptionLaws.{only_some, then_some, is_sized, sized_then, prepend_some}
 use Rattle.hex_digits.specs.Hex.{pair_byte, unhex}
@@ -12,13 +12,13 @@ use Rattle.hex_values.specs.HexValueRules.{ColonPairs, last, next, MacIs, PreSha
 
 -- ---- pairs with colons
 
-colon_is : (a b byte : ℕ) (s : List ℕ) {t : List ℕ} → HexPair a b byte → colon_pairs s ≡ some t →
+colon_is : (a b byte : ℕ) (s : List ℕ) {t : List ℕ} → HexPair a b byte → colon_pairs s ≡ Some t →
     ColonPairs (a ∷ b ∷ s) (byte ∷ t)
 unfolding colon_pairs
 colon_is a b byte [] {t} h e =
-    subst (λ (l : List ℕ). ColonPairs (a ∷ b ∷ []) (byte ∷ l)) (some-injective [] t e) (last h)
-colon_is a b byte (c ∷ []) {t} h e = absurd (none-ne-some t e)
-colon_is a b byte (c ∷ x ∷ []) {t} h e = absurd (none-ne-some t e)
+    subst (λ (l : List ℕ). ColonPairs (a ∷ b ∷ []) (byte ∷ l)) (same_Some [] t e) (last h)
+colon_is a b byte (c ∷ []) {t} h e = absurd (none-some t e)
+colon_is a b byte (c ∷ x ∷ []) {t} h e = absurd (none-some t e)
 colon_is a b byte (c ∷ x ∷ y ∷ s) {t} h e =
     let o = only_some (eqb c 58) (and_then (pair_byte x y) (λ z. prepend z (colon_pairs s))) e in
     let z = then_some (pair_byte x y) (λ z. prepend z (colon_pairs s)) o.1 in
@@ -26,21 +26,21 @@ colon_is a b byte (c ∷ x ∷ y ∷ s) {t} h e =
     let k = colon_is x y z.0 s (pair_is x y z.1) u.1 in
     rw (eqb-true c 58 o.0, ← u.2) (next h k)
 
-pairs_are : (v : List ℕ) {t : List ℕ} → pairs v ≡ some t → ColonPairs v t
-pairs_are [] {t} e = absurd (none-ne-some t e)
-pairs_are (a ∷ []) {t} e = absurd (none-ne-some t e)
+pairs_are : (v : List ℕ) {t : List ℕ} → pairs v ≡ Some t → ColonPairs v t
+pairs_are [] {t} e = absurd (none-some t e)
+pairs_are (a ∷ []) {t} e = absurd (none-some t e)
 pairs_are (a ∷ b ∷ s) {t} e =
     let z = then_some (pair_byte a b) (λ z. prepend z (colon_pairs s)) e in
     let u = prepend_some z.0 (colon_pairs s) z.2 in
     subst (ColonPairs (a ∷ b ∷ s)) u.2 (colon_is a b z.0 s (pair_is a b z.1) u.1)
 
-are_colon : {s t : List ℕ} → ColonPairs s t → colon_pairs (58 ∷ s) ≡ some t
+are_colon : {s t : List ℕ} → ColonPairs s t → colon_pairs (58 ∷ s) ≡ Some t
 unfolding colon_pairs
 are_colon (last {a} {b} h) = ap (λ (o : Option ℕ). and_then o (λ x. prepend x (colon_pairs []))) (is_pair a b h)
 are_colon (next {a} {b} {byte} {s} h k) =
     ap (λ (o : Option ℕ). and_then o (λ x. prepend x (colon_pairs (58 ∷ s)))) (is_pair a b h) ∙ ap (prepend byte) (are_colon k)
 
-are_pairs : {v t : List ℕ} → ColonPairs v t → pairs v ≡ some t
+are_pairs : {v t : List ℕ} → ColonPairs v t → pairs v ≡ Some t
 unfolding colon_pairs
 are_pairs (last h) = are_colon (last h)
 are_pairs (next h k) = are_colon (next h k)
@@ -51,7 +51,7 @@ pairs_length (next h k) = let e = pairs_length k in omega arith
 
 -- ---- the three kinds
 
-pub mac_is : (v : List ℕ) {t : List ℕ} → mac v ≡ some t → MacIs v t
+pub mac_is : (v : List ℕ) {t : List ℕ} → mac v ≡ Some t → MacIs v t
 unfolding mac
 mac_is v {t} e =
     let s = sized_then 17 17 pairs v e in
@@ -60,22 +60,22 @@ mac_is v {t} e =
     let n = pairs_length k in
     record { size = z; six = record { least = omega arith; most = omega arith }; pairs = k }
 
-pub is_mac : (v : List ℕ) {t : List ℕ} → MacIs v t → mac v ≡ some t
+pub is_mac : (v : List ℕ) {t : List ℕ} → MacIs v t → mac v ≡ Some t
 unfolding mac
-is_mac v h = rw (is_sized 17 17 (some v) h.size refl) (are_pairs h.pairs)
+is_mac v h = rw (is_sized 17 17 (Some v) h.size refl) (are_pairs h.pairs)
 
-pub pre_shared_key_is : (v : List ℕ) {t : List ℕ} → pre_shared_key_of v ≡ some t → PreSharedKeyIs v t
+pub pre_shared_key_is : (v : List ℕ) {t : List ℕ} → pre_shared_key_of v ≡ Some t → PreSharedKeyIs v t
 unfolding pre_shared_key_of
 pre_shared_key_is v e = let h = sized_then 64 64 unhex v e in record { size = h.0; digits = unhex_writes v h.1 }
 
-pub is_pre_shared_key : (v : List ℕ) {t : List ℕ} → PreSharedKeyIs v t → pre_shared_key_of v ≡ some t
+pub is_pre_shared_key : (v : List ℕ) {t : List ℕ} → PreSharedKeyIs v t → pre_shared_key_of v ≡ Some t
 unfolding pre_shared_key_of
-is_pre_shared_key v h = rw (is_sized 64 64 (some v) h.size refl) (writes_unhex h.digits)
+is_pre_shared_key v h = rw (is_sized 64 64 (Some v) h.size refl) (writes_unhex h.digits)
 
-pub ssid_is : (v : List ℕ) {t : List ℕ} → ssid v ≡ some t → SsidIs v t
+pub ssid_is : (v : List ℕ) {t : List ℕ} → ssid v ≡ Some t → SsidIs v t
 unfolding ssid
 ssid_is v e = let h = sized_then 2 64 unhex v e in record { size = h.0; digits = unhex_writes v h.1 }
 
-pub is_ssid : (v : List ℕ) {t : List ℕ} → SsidIs v t → ssid v ≡ some t
+pub is_ssid : (v : List ℕ) {t : List ℕ} → SsidIs v t → ssid v ≡ Some t
 unfolding ssid
-is_ssid v h = rw (is_sized 2 64 (some v) h.size refl) (writes_unhex h.digits)
+is_ssid v h = rw (is_sized 2 64 (Some v) h.size refl) (writes_unhex h.digits)

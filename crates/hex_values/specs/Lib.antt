@@ -5,5 +5,3 @@ pub mod HexValueRules
 pub mod HexValueRuleLaws
 pub mod Laws
 pub mod Printable
--- For the proofs only: the definitions laid out in the code's types
-pub mod Answers

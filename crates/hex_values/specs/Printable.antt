@@ -1,5 +1,5 @@
 -- A MAC, a key and a network name in hex are printable, since hex digits and colons are.
-use Rattle.std.specs.Prelude.{ℕ, ◌≡◌, refl, List}
+use Rattle.std.specs.Prelude.{ℕ, List}
 use Rattle.text.specs.Printable.{Printable}
 use Rattle.hex_digits.specs.Printable.{digit_printable, hex_printable}
 use Rattle.hex_values.specs.HexValueRules.{ColonPairs, last, next, MacIs, PreSharedKeyIs, SsidIs}

@@ -1,85 +1,36 @@
 // Values in hex: a MAC, a key, a network name.
 //
-// This is document 01's MAC, PreSharedKey and SSID under "Settings and their kinds". Each reader gives the bytes, or says
-// that the value breaks its kind and gives zeros. The definitions are in specs/HexValues, their layout in the types below
-// in specs/Answers.
+// This is document 01's MAC, PreSharedKey and SSID under "Settings and their kinds". Each reader gives the bytes, or none
+// where the value breaks its kind. The definitions are in specs/HexValues.
 #![tactic(auto)]
 
 ghost use Rattle.std.specs.Prelude.{◌≡◌};
-ghost use Rattle.std.proofs.Math.Option.{none};
-ghost use Rattle.text.specs.Options.{is_some};
+ghost use Rattle.text.specs.Options.{is_some, mapped};
+ghost use Rattle.put.specs.Texts.{bounded};
 ghost use Rattle.hex_values.specs.HexValues.{mac, pre_shared_key_of, ssid};
-ghost use Rattle.hex_values.specs.Answers.{mac_answer, pre_shared_key_answer, ssid_answer};
 
-#[derive(Clone, Copy)]
-pub struct Mac {
-    pub ok: bool,
-    pub bytes: [u8; 6],
-}
-
-// The 32-byte key of a PreSharedKey.
-#[derive(Clone, Copy)]
-pub struct PreSharedKey {
-    pub ok: bool,
-    pub bytes: [u8; 32],
-}
-
-// A network name given in hex, with zeros behind it.
-#[derive(Clone, Copy)]
-pub struct Ssid {
-    pub ok: bool,
-    pub length: usize,
-    pub bytes: [u8; 32],
-}
-
-fn no_mac() -> Mac
-    ensures { result ≡ mac_answer none }
-{
-    Mac {
-        ok: false,
-        bytes: [0; 6],
-    }
-}
+use put::Bounded;
 
 // Six pairs of hex digits with colons, 17 bytes in all.
-pub fn read_mac(s: &[u8]) -> Mac
-    ensures { result ≡ mac_answer (mac s.now) }
+pub fn read_mac(s: &[u8]) -> Option<[u8; 6]>
+    ensures { result ≡ mac s.now }
 {
     if s.len() != 17 {
-        return no_mac();
-    }
-    let a = hex_digits::digit_value(s[0]);
-    let b = hex_digits::digit_value(s[1]);
-    if 15 < a {
-        return no_mac();
-    }
-    if 15 < b {
-        return no_mac();
+        return None;
     }
     let mut bytes = [0u8; 6];
-    bytes[0] = a * 16 + b;
-    let mut n = 1;
-    let mut i = 2;
-    while i < 17 {
-        let c = hex_digits::digit_value(s[i + 1]);
-        let d = hex_digits::digit_value(s[i + 2]);
-        if s[i] != 58 {
-            return no_mac();
+    bytes[0] = hex_digits::pair_value(s[0], s[1])?;
+    for n in 1..6 {
+        if s[3 * n - 1] != b':' {
+            return None;
         }
-        if 15 < c {
-            return no_mac();
-        }
-        if 15 < d {
-            return no_mac();
-        }
-        bytes[n] = c * 16 + d;
-        n += 1;
-        i += 3;
+        bytes[n] = hex_digits::pair_value(s[3 * n], s[3 * n + 1])?;
     }
-    Mac { ok: true, bytes }
+    Some(bytes)
 }
 
 // Whether s is 64 hex digits.
+#[tactic(auto, using(crate::proofs::Pairs::hex_sizes))]
 pub fn is_pre_shared_key(s: &[u8]) -> bool
     ensures { result ≡ is_some (pre_shared_key_of s.now) }
 {
@@ -90,47 +41,35 @@ pub fn is_pre_shared_key(s: &[u8]) -> bool
 }
 
 // 64 hex digits as a 32-byte key.
-pub fn read_pre_shared_key(s: &[u8]) -> PreSharedKey
-    ensures { result ≡ pre_shared_key_answer (pre_shared_key_of s.now) }
+pub fn read_pre_shared_key(s: &[u8]) -> Option<[u8; 32]>
+    ensures { result ≡ pre_shared_key_of s.now }
 {
     if is_pre_shared_key(s) {
-        let bytes = hex_digits::unhexed_32(s);
-        return PreSharedKey { ok: true, bytes };
+        return Some(hex_digits::unhexed(s));
     }
-    PreSharedKey {
-        ok: false,
-        bytes: [0; 32],
-    }
+    None
 }
 
 // Whether s is 2 to 64 hex digits, an even count.
+#[tactic(auto, using(crate::proofs::Pairs::hex_sizes))]
 pub fn is_ssid(s: &[u8]) -> bool
     ensures { result ≡ is_some (ssid s.now) }
 {
-    if s.len() < 2 {
-        return false;
-    }
-    if 64 < s.len() {
+    if s.len() < 2 || 64 < s.len() {
         return false;
     }
     hex_digits::is_hex(s)
 }
 
 // 2 to 64 hex digits as a network name of 1 to 32 bytes.
-pub fn read_ssid(s: &[u8]) -> Ssid
-    ensures { result ≡ ssid_answer (ssid s.now) }
+pub fn read_ssid(s: &[u8]) -> Option<Bounded<32>>
+    ensures { result ≡ mapped (bounded 32) (ssid s.now) }
 {
     if is_ssid(s) {
-        let bytes = hex_digits::unhexed_32(s);
-        return Ssid {
-            ok: true,
-            length: s.len() / 2,
-            bytes,
-        };
+        return Some(Bounded {
+            len: s.len() / 2,
+            bytes: hex_digits::unhexed(s),
+        });
     }
-    Ssid {
-        ok: false,
-        length: 0,
-        bytes: [0; 32],
-    }
+    None
 }

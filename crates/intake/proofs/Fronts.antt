@@ -7,7 +7,6 @@ use native.Mathlib.Omega.{arith}
 use lib.ListN.{length, take, drop, length-append, length-take}
 use lib.Seq.{take_all, take-nil, take_at, length-take-le}
 use Rattle.text.specs.Parts.{part}
-use Rattle.put.specs.Put.{Wrote}
 use Rattle.intake.specs.Input.{Front}
 use Rattle.intake.specs.Steps.{Appended}
 
@@ -17,15 +16,6 @@ take_both zero [] s = sym (ap (λ (n : ℕ). take n s) (sub-zero 0))
 take_both zero (x ∷ t) s = ap (λ (n : ℕ). take n s) (let z : 0 ≡ 0 - length (x ∷ t) = omega arith in z)
 take_both (suc m) [] s = sym (ap (λ (n : ℕ). take n s) (sub-zero (suc m)))
 take_both (suc m) (x ∷ t) s = ap (λ (l : List ℕ). x ∷ l) (take_both m t s ∙ ap (λ (n : ℕ). take m t ++ take n s) (let z : m - length t ≡ suc m - length (x ∷ t) = omega arith in z))
-
--- ---- what is appended to a buffer: one law for each way to append it
-
-module _ (s : List ℕ) {o x : List ℕ} {a r : ℕ} where
-  pub appended_whole : length s ≤ length o - a → Wrote s a o x r → Appended s a o x r
-  appended_whole h w = record { wrote = rw (take_all (length o - a) s h) w }
-
-  pub appended_part : Wrote (part 0 (length o - a) s) a o x r → Appended s a o x r
-  appended_part w = record { wrote = rw (sub-zero (length o - a)) at w }
 
 -- ---- the front of a buffer with s behind
 

@@ -1,4 +1,3 @@
-pub mod Forming
 pub mod Fronts
 pub mod NumberSoFar
 pub mod Parts

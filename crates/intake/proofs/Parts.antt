@@ -10,18 +10,17 @@ use lib.Dec.{eqb}
 use lib.ListN.{length, take, drop, length-drop, length-take}
 use lib.Seq.{take_all, drop-drop}
 use Rattle.text.specs.Bytes.{in_line}
-use Rattle.text.specs.Parts.{all, part}
+use Rattle.text.specs.Parts.{all}
 use Rattle.text.specs.Laws.{all_append}
 use Rattle.text.specs.Scans.{Stop}
 use Rattle.text.proofs.ScanLaws.{stop_all, stop_some, stop_front, stop_after}
-use Rattle.intake.specs.declared.Cut.{Cut}
 use Rattle.intake.specs.declared.Form.{Form}
 use Rattle.intake.specs.declared.Form.TheVariants.{Empty}
 use Rattle.intake.specs.declared.Input.{Input}
 use Rattle.intake.specs.declared.NamedFile.{NamedFile}
 use Rattle.intake.specs.Forms.{form_from, form_after}
 use Rattle.intake.specs.Input.{first_line, behind_line, Parted, KeepsFile, KeepsInput, SomeInput, InBuffers}
-use Rattle.intake.specs.Steps.{line_part, rest_part, ended_by, Appended, Cuts, TakesFile, TakesInput}
+use Rattle.intake.specs.Steps.{line_part, rest_part, ended_by, Cuts, TakesFile, TakesInput}
 use Rattle.intake.specs.Enough.{front_all, after_all}
 use Rattle.intake.proofs.Fronts.{front_none, appended_front}
 
@@ -42,16 +41,7 @@ line_end (x ∷ s) h = go (eqb x 10) refl (λ l. line_end s l)
         let c : LineEnd s = ih (rw e at h) in
         record { is = rw e (ap (λ (t : List ℕ). x ∷ t) c.is); within = rw e (rw e c.within) }
 
--- ---- where a part of the input is cut: behind the line, in it, or where it ends
-
-pub cuts_behind : (s : List ℕ) → Cuts s true (record { end = 0; from = 0; ended = true })
-cuts_behind s = record {
-  low = omega arith;
-  high = omega arith;
-  line = refl;
-  rest = take_all (length s - 0) s (omega arith);
-  over = refl;
-}
+-- ---- where a part of the input is cut: in the line, or where it ends
 
 module _ {s : List ℕ} {n : ℕ} (p : Stop in_line s 0 n) where
   pub cuts_line : n ≡ length s → Cuts s false (record { end = n; from = n; ended = false })
@@ -73,15 +63,6 @@ module _ {s : List ℕ} {n : ℕ} (p : Stop in_line s 0 n) where
     rest = take_all (length s - (n + 1)) (drop (n + 1) s) (simp length-drop (le_refl _)) ∙ sym (drop-drop 1 n s) ∙ ap (drop 1) (sym (stop_after p));
     over = rw (stop_some p l);
   }
-
--- ---- what is taken: what is cut off to the line, and what is behind it to the rest
-
-module _ {s : List ℕ} {e : Bool} {u : Cut} (p : Cuts s e u) where
-  pub file_taken : {n f x y : List ℕ} {a b l z : ℕ} {g h : Form} → Appended (part 0 u.end s) a n x l → h ≡ form_from g (part 0 u.end s) → Appended (part u.from (length s) s) b f y z → TakesFile s (record { ended = e; name = a; form = g; file = b }) n f x y (record { ended = u.ended; name = l; form = h; file = z })
-  file_taken a g b = record { named = rw p.line at a; formed = rw p.line at g; filed = rw p.rest at b; over = p.over }
-
-  pub input_taken : {m n f w x y : List ℕ} {a l : ℕ} {k q : NamedFile} → Appended (part 0 u.end s) a m w l → TakesFile (part u.from (length s) s) k n f x y q → TakesInput s (record { ended = e; number = a; rest = k }) m n f w x y (record { ended = u.ended; number = l; rest = q })
-  input_taken a t = record { numbered = rw p.line at a; rest = rw p.rest at t; over = p.over }
 
 -- ---- the input with s behind
 

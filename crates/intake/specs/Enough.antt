@@ -1,7 +1,6 @@
 -- Why the kept part of the input is enough.
-use Rattle.std.specs.Prelude.{ℕ, ◌<◌, ◌≡◌, refl, Bool, true, false, List, [], ◌∷◌, leb, length, take, drop}
+use Rattle.std.specs.Prelude.{ℕ, ◌<◌, ◌≡◌, refl, Bool, true, false, List, [], ◌∷◌, leb, length, take, drop, Option}
 use Rattle.std.proofs.Common.{ap, sym, ◌∙◌, arith, leb-true, leb-false, length-take, take_all}
-use Rattle.std.proofs.Math.Option.{Option}
 use Rattle.text.specs.Bytes.{in_line}
 use Rattle.text.specs.Parts.{all, front, after}
 use Rattle.text.specs.Options.{and_then}

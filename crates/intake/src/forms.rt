@@ -60,10 +60,8 @@ pub fn over(f: Form, s: &[u8]) -> Form
     ensures { result ≡ form_from f s.now }
 {
     let mut form = f;
-    let mut i = 0;
-    while i < s.len() {
-        form = after(form, s[i]);
-        i += 1;
+    for &b in s {
+        form = after(form, b);
     }
     form
 }
@@ -72,10 +70,5 @@ pub fn over(f: Form, s: &[u8]) -> Form
 pub fn is_connman(f: Form) -> bool
     ensures { result ≡ complete f }
 {
-    match f {
-        Form::Empty => false,
-        Form::Stem => false,
-        Form::Suffix(n) => n == 7,
-        Form::Broken => false,
-    }
+    matches!(f, Form::Suffix(7))
 }

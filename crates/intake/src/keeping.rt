@@ -9,16 +9,15 @@ use crate::{Cut, FileBuffer, Form, Input, NameBuffer, NamedFile, NumberBuffer, f
 pub fn nothing(ended: bool) -> Input
     ensures { (number : List ℕ) (name : List ℕ) (file : List ℕ) → SomeInput number name file result }
 {
-    let rest = NamedFile {
-        ended: false,
-        name: 0,
-        form: Form::Empty,
-        file: 0,
-    };
     Input {
         ended,
         number: 0,
-        rest,
+        rest: NamedFile {
+            ended: false,
+            name: 0,
+            form: Form::Empty,
+            file: 0,
+        },
     }
 }
 
@@ -53,11 +52,8 @@ fn append(out: &mut [u8], at: usize, s: &[u8]) -> usize
     requires { at ≤ length out.old }
     ensures { Appended s.now at out.old out.new result }
 {
-    let room = out.len() - at;
-    if s.len() <= room {
-        return put::put_text(out, at, s);
-    }
-    put::put_text(out, at, &s[0..room])
+    let room = s.len().min(out.len() - at);
+    put::put_text(out, at, &s[..room])
 }
 
 // What is kept of a name line and a file with s behind.
@@ -66,17 +62,12 @@ fn take_file(name: &mut NameBuffer, file: &mut FileBuffer, k: NamedFile, s: &[u8
     ensures { TakesFile s.now k name.old file.old name.new file.new result }
 {
     let cut = cut_line(s, k.ended);
-    let end = cut.end;
-    let from = cut.from;
-    let length = append(name, k.name, &s[0..end]);
-    let before = k.form;
-    let form = forms::over(before, &s[0..end]);
-    let size = append(file, k.file, &s[from..]);
+    let line = &s[..cut.end];
     NamedFile {
         ended: cut.ended,
-        name: length,
-        form,
-        file: size,
+        name: append(name, k.name, line),
+        form: forms::over(k.form, line),
+        file: append(file, k.file, &s[cut.from..]),
     }
 }
 
@@ -92,14 +83,9 @@ pub fn take(
     ensures { TakesInput s.now k number.old name.old file.old number.new name.new file.new result }
 {
     let cut = cut_line(s, k.ended);
-    let end = cut.end;
-    let from = cut.from;
-    let digits = append(number, k.number, &s[0..end]);
-    let before = k.rest;
-    let rest = take_file(name, file, before, &s[from..]);
     Input {
         ended: cut.ended,
-        number: digits,
-        rest,
+        number: append(number, k.number, &s[..cut.end]),
+        rest: take_file(name, file, k.rest, &s[cut.from..]),
     }
 }

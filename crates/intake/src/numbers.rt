@@ -12,14 +12,11 @@ pub fn service_number(line: &[u8]) -> usize
         return 0;
     }
     let mut v: usize = 0;
-    let mut i = 0;
-    while i < line.len() {
-        let c = line[i];
+    for &c in line {
         if !classes::is_digit(c) {
             return 0;
         }
         v = v * 10 + (c - 48) as usize;
-        i += 1;
     }
     v
 }

@@ -2,7 +2,11 @@
 //
 // Where reading fails nothing is whole, so that no file is judged that was cut off. What is written is no part of a contract, so
 // each `say` says only that it answers nothing, or the error of a write, before which some of the bytes may have been written.
-ghost use Rattle.std.specs.Prelude.{◌≡◌, IfOk};
+ghost use Rattle.std.specs.Prelude.{◌≡◌, ◌++◌, ◌∷◌, [], IfOk, OnOk};
+ghost use Rattle.std.specs.Fmt.{decimal};
+ghost use Rattle.std.specs.Io.KnownBytes.{Appends};
+ghost use Rattle.text.specs.Words.{word};
+ghost use Rattle.rules.specs.Numbers.{number_of};
 ghost use Rattle.intake.specs.Input.{SomeInput};
 
 use crate::{FileBuffer, Input, NameBuffer, NumberBuffer, ReadInput, keeping};
@@ -11,13 +15,15 @@ use std::io;
 use std::io::{Read, Write};
 
 pub fn say<W: Write>(out: &mut W, s: &[u8]) -> io::Result<()>
-    ensures { IfOk result (λ r. r ≡ tt) }
+    ensures ok { IfOk result (λ r. r ≡ tt) }
+    ensures bytes { OnOk result (Appends (W.contents out.old) (W.contents out.new) s.now) }
 {
     out.write_all(s)
 }
 
 pub fn say_number<W: Write>(out: &mut W, n: usize) -> io::Result<()>
-    ensures { IfOk result (λ r. r ≡ tt) }
+    ensures ok { IfOk result (λ r. r ≡ tt) }
+    ensures bytes { OnOk result (Appends (W.contents out.old) (W.contents out.new) (decimal n)) }
 {
     write!(out, "{n}")
 }
@@ -29,26 +35,26 @@ pub fn say_numbers<W: Write>(
     first: usize,
     second: usize,
 ) -> io::Result<()>
-    ensures { IfOk result (λ r. r ≡ tt) }
+    ensures ok { IfOk result (λ r. r ≡ tt) }
+    ensures bytes { OnOk result (Appends (W.contents out.old) (W.contents out.new) (word.now ++ decimal first ++ 32 ∷ decimal second ++ 10 ∷ [])) }
 {
     say(out, word)?;
-    say_number(out, first)?;
-    say(out, b" ")?;
-    say_number(out, second)?;
-    say(out, b"\n")
+    write!(out, "{first} {second}\n")
 }
 
 // The line of a refusal.
 pub fn say_refused<W: Write>(out: &mut W, refusal: Refusal, line: usize) -> io::Result<()>
-    ensures { IfOk result (λ r. r ≡ tt) }
+    ensures ok { IfOk result (λ r. r ≡ tt) }
+    ensures bytes { OnOk result (Appends (W.contents out.old) (W.contents out.new) (word "refused " ++ decimal (number_of refusal) ++ 32 ∷ decimal line ++ 10 ∷ [])) }
 {
     let number = tables::numbers::number_of(refusal);
-    say_numbers(out, b"refused ", number as usize, line)
+    write!(out, "refused {number} {line}\n")
 }
 
 // A file name as a line, and then the file.
 pub fn say_file<W: Write>(out: &mut W, name: &[u8], file: &[u8]) -> io::Result<()>
-    ensures { IfOk result (λ r. r ≡ tt) }
+    ensures ok { IfOk result (λ r. r ≡ tt) }
+    ensures bytes { OnOk result (Appends (W.contents out.old) (W.contents out.new) (name.now ++ 10 ∷ [] ++ file.now)) }
 {
     say(out, name)?;
     say(out, b"\n")?;

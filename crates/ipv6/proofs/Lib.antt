@@ -1,4 +1,3 @@
-pub mod Answered
 pub mod Parsing
 pub mod Seeking
 pub mod Siding

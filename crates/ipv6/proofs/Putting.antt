@@ -2,14 +2,14 @@
 use mathlib.Core.Path.{◌≡◌, refl, ap, ap₂, sym, ◌∙◌}
 use mathlib.Core.Bool.{Bool, true, false, cond}
 use mathlib.Core.List.{List, [], ◌∷◌, ◌++◌, append_assoc, append-nil}
-use Prim.Native.Nat.{ℕ, zero, suc, ◌+◌, ◌-◌, ◌*◌, ◌≤◌, ◌<◌}
+use Prim.Native.Nat.{ℕ, suc, ◌+◌, ◌-◌, ◌*◌, ◌≤◌, ◌<◌}
 use native.Mathlib.Numerals.{add-one}
 use native.Mathlib.Omega.{arith}
 use native.Mathlib.Nat.{zero-add}
 use borrow.Author.Tests.{lt-ltb, le-ltb}
 use lib.Dec.{eqb, leb}
-use lib.ListN.{length, take, drop, set, get_or, replicate, length-append, drop_of_length-le}
-use lib.Seq.{take-suc, take_all, drop-cons, drop-append-le, length-take-le, slice, slice_empty, slice-cons}
+use lib.ListN.{length, take, drop, set, get_or, replicate, length-append, length-drop, drop_of_length-le}
+use lib.Seq.{take-suc, take_all, drop-cons, length-take-le}
 use Rattle.text.specs.Parts.{padded}
 use Rattle.text.specs.Laws.{padded_set}
 use Rattle.put.specs.Put.{Wrote}
@@ -60,35 +60,33 @@ running_first gs e =
     record { room = omega arith; zero = rw n; start = rw n; len = rw n }
 
 module _ {gs : List ℕ} {i n : ℕ} {best : Run} (h : Running gs i n best) (long : length gs ≡ 8) where
-  module _ (l : 0 < i) {z : ℕ} (e : z ≡ cond (eqb (get_or gs (i - 1) 0) 0) (suc n) 0) {b : Run} (q : b ≡ longer best (i - 1) z) where
-    step : drop (i - 1) gs ≡ get_or gs (i - 1) 0 ∷ drop i gs
-    step =
-        let k : suc (i - 1) ≡ i = omega arith in
-        drop-cons gs (i - 1) 0 (omega (arith, h.room)) ∙ ap (λ (m : ℕ). get_or gs (i - 1) 0 ∷ drop m gs) k
+  module _ {j : ℕ} (l : suc j ≡ i) {z : ℕ} (e : z ≡ cond (eqb (get_or gs (j) 0) 0) (suc n) 0) {b : Run} (q : b ≡ longer best (j) z) where
+    step : drop j gs ≡ get_or gs j 0 ∷ drop i gs
+    step = drop-cons gs j 0 (omega (arith, h.room)) ∙ rw l
 
-    now_zero : z ≡ zero_groups (get_or gs (i - 1) 0 ∷ drop i gs)
+    now_zero : z ≡ zero_groups (get_or gs (j) 0 ∷ drop i gs)
     now_zero = e ∙ rw h.zero
 
-    small : (t : Bool) → z ≡ cond t (suc n) 0 → i - 1 + z ≤ 8
+    small : (t : Bool) → z ≡ cond t (suc n) 0 → j + z ≤ 8
     small true w = omega (arith, h.room)
     small false w = omega (arith, h.room)
 
-    both : (b.start ≡ i - 1 + (longest (get_or gs (i - 1) 0 ∷ drop i gs)).start) × (b.len ≡ (longest (get_or gs (i - 1) 0 ∷ drop i gs)).len)
+    both : (b.start ≡ j + (longest (get_or gs (j) 0 ∷ drop i gs)).start) × (b.len ≡ (longest (get_or gs (j) 0 ∷ drop i gs)).len)
     unfolding longest
     both = rw (q, ← now_zero, ← h.len) (go (leb best.len z))
       where
         picked : Bool → Run
-        picked t = cond t (record { start = i - 1; len = z }) best
+        picked t = cond t (record { start = j; len = z }) best
 
         here : Bool → Run
         here t = run_here t z (record { start = (longest (drop i gs)).start; len = best.len })
 
-        go : (t : Bool) → ((picked t).start ≡ i - 1 + (here t).start) × ((picked t).len ≡ (here t).len)
+        go : (t : Bool) → ((picked t).start ≡ j + (here t).start) × ((picked t).len ≡ (here t).len)
         go true = (omega arith, refl)
         go false = (omega (arith, h.start), refl)
 
-    pub running_turn : Running gs (i - 1) z b
-    running_turn = record { room = small (eqb (get_or gs (i - 1) 0) 0) e; zero = rw step now_zero; start = rw step both.0; len = rw step both.1 }
+    pub running_turn : Running gs (j) z b
+    running_turn = record { room = small (eqb (get_or gs (j) 0) 0) e; zero = rw step now_zero; start = rw step both.0; len = rw step both.1 }
 
   pub running_end : i ≤ 0 → best ≡ longest gs
   running_end l =
@@ -101,71 +99,54 @@ with_colons_append : (l m : List ℕ) → colon_groups (l ++ m) ≡ colon_groups
 with_colons_append [] m = refl
 with_colons_append (g ∷ l) m = ap (λ (x : List ℕ). (58 ∷ group_digits g) ++ x) (with_colons_append l m) ∙ sym (append_assoc (58 ∷ group_digits g) (colon_groups l) (colon_groups m))
 
-module _ (gs : List ℕ) where
+module _ (gs : List ℕ) (i : ℕ) (l : i < length gs) where
   -- the groups from i on are the one at i and the others; those before i + 1 are the others and the one at i
-  pub with_colons_next : (i n : ℕ) → i < n → n ≤ length gs → colon_groups (slice i n gs) ≡ (58 ∷ group_digits (get_or gs i 0)) ++ colon_groups (slice (i + 1) n gs)
-  with_colons_next i n h k = rw (add-one i) (ap colon_groups (slice-cons i n gs 0 h k))
+  colons_next : colon_groups (drop i gs) ≡ (58 ∷ group_digits (get_or gs i 0)) ++ colon_groups (drop (i + 1) gs)
+  colons_next = rw (add-one i) (ap colon_groups (drop-cons gs i 0 l))
 
-  pub with_colons_last : (f i : ℕ) → f ≤ i → i < length gs → colon_groups (slice f (i + 1) gs) ≡ colon_groups (slice f i gs) ++ (58 ∷ group_digits (get_or gs i 0))
-  with_colons_last f i h k =
-      rw (add-one i, take-suc gs i 0 k, drop-append-le f (take i gs) (get_or gs i 0 ∷ []) (rw (length-take-le i gs (omega arith)) h))
-      (with_colons_append (slice f i gs) (get_or gs i 0 ∷ []) ∙ ap (λ (x : List ℕ). colon_groups (slice f i gs) ++ x) (append-nil (58 ∷ group_digits (get_or gs i 0))))
+  colons_last : colon_groups (take (i + 1) gs) ≡ colon_groups (take i gs) ++ (58 ∷ group_digits (get_or gs i 0))
+  colons_last =
+      rw (add-one i, take-suc gs i 0 l)
+      (with_colons_append (take i gs) (get_or gs i 0 ∷ []) ∙ ap (λ (x : List ℕ). colon_groups (take i gs) ++ x) (append-nil (58 ∷ group_digits (get_or gs i 0))))
 
-  pub joined_next : (f n : ℕ) → f < n → n ≤ length gs → joined_groups (slice f n gs) ≡ group_digits (get_or gs f 0) ++ colon_groups (slice (f + 1) n gs)
-  joined_next f n h k = rw (add-one f) (ap joined_groups (slice-cons f n gs 0 h k))
+-- the groups before i are written, a colon in front of each, and those from i on fit
+pub record Laying (gs : List ℕ) (at : ℕ) (o x : List ℕ) (i p : ℕ) : Type 0 where
+  pub wrote : Wrote (colon_groups (take i gs)) at o x p
+  pub room : p + length (colon_groups (drop i gs)) ≤ length o
 
--- the groups from from up to i are written, a colon in front of each, and those from i on fit
-pub record Laying (gs : List ℕ) (from end at : ℕ) (o x : List ℕ) (i p : ℕ) : Type 0 where
-  pub low : from ≤ i
-  pub high : i ≤ end
-  pub wrote : Wrote (colon_groups (slice from i gs)) at o x p
-  pub room : p + length (colon_groups (slice i end gs)) ≤ length o
+pub laying_first : (gs : List ℕ) {at : ℕ} {o : List ℕ} → at + length (colon_groups gs) ≤ length o → Laying gs at o o 0 at
+laying_first gs {at} {o} r = record { wrote = wrote_none o at (omega arith); room = r }
 
-module _ (gs : List ℕ) (long : length gs ≡ 8) (from end : ℕ) (most : end ≤ 8) where
-  pub laying_first : from ≤ end → {at : ℕ} {o : List ℕ} → at + length (colon_groups (slice from end gs)) ≤ length o → Laying gs from end at o o from at
-  laying_first l {at} {o} r =
-      let z : slice from from gs ≡ [] = slice_empty from gs in
-      record { low = omega arith; high = l; wrote = rw z (wrote_none o at (omega arith)); room = r }
+module _ {gs : List ℕ} {at i p : ℕ} {o x : List ℕ} (h : Laying gs at o x i p) where
+  module _ (l : i < length gs) where
+    next_length : length (colon_groups (drop i gs)) ≡ length (58 ∷ group_digits (get_or gs i 0)) + length (colon_groups (drop (i + 1) gs))
+    next_length = ap length (colons_next gs i l) ∙ length-append (58 ∷ group_digits (get_or gs i 0)) (colon_groups (drop (i + 1) gs))
 
-  module _ {at i p : ℕ} {o x : List ℕ} (h : Laying gs from end at o x i p) where
-    module _ (l : i < end) where
-      next_length : length (colon_groups (slice i end gs)) ≡ length (58 ∷ group_digits (get_or gs i 0)) + length (colon_groups (slice (i + 1) end gs))
-      next_length = ap length (with_colons_next gs i end l (omega arith)) ∙ length-append (58 ∷ group_digits (get_or gs i 0)) (colon_groups (slice (i + 1) end gs))
+    pub laying_room : p + length (58 ∷ group_digits (get_or gs i 0)) ≤ length x
+    laying_room = omega (arith, next_length, h.room, h.wrote.long)
 
-      pub laying_room : p + length (58 ∷ group_digits (get_or gs i 0)) ≤ length x
-      laying_room = omega (arith, next_length, h.room, h.wrote.long)
+    pub laying_turn : {y : List ℕ} {q : ℕ} → Wrote (58 ∷ group_digits (get_or gs i 0)) p x y q → Laying gs at o y (i + 1) q
+    laying_turn w = record { wrote = rw (colons_last gs i l) (then h.wrote w); room = omega (arith, next_length, h.room, w.next) }
 
-      pub laying_turn : {y : List ℕ} {q : ℕ} → Wrote (58 ∷ group_digits (get_or gs i 0)) p x y q → Laying gs from end at o y (i + 1) q
-      laying_turn w =
-          record {
-            low = omega (arith, h.low);
-            high = omega arith;
-            wrote = rw (with_colons_last gs from i h.low (omega arith)) (then h.wrote w);
-            room = omega (arith, next_length, h.room, w.next);
-          }
+  pub laying_end : length gs ≤ i → Wrote (colon_groups gs) at o x p
+  laying_end k = rw (take_all i gs k) at h.wrote
 
-    pub laying_end : end ≤ i → Wrote (colon_groups (slice from end gs)) at o x p
-    laying_end k = let e : i ≡ end = omega (arith, h.high) in rw e at h.wrote
+-- ---- joined groups: the first, and the others behind it
 
--- ---- joined groups: none, or the first and the others behind it
+module _ (gs : List ℕ) (some : length gs ≡ 0 → ⊥) where
+  -- the groups behind the first, as the code lends them
+  abbrev pub others : List ℕ
+  others = take (length gs - 1) (drop 1 gs)
 
-module _ (gs : List ℕ) (long : length gs ≡ 8) (from end : ℕ) (most : end ≤ 8) (at : ℕ) (o : List ℕ) (room : at + length (joined_groups (slice from end gs)) ≤ length o) where
-  pub joined_none : from ≡ end → Wrote (joined_groups (slice from end gs)) at o o at
-  joined_none e = let z : slice end end gs ≡ [] = slice_empty end gs in rw (e, z) (wrote_none o at (omega arith))
+  joined_next : joined_groups gs ≡ group_digits (get_or gs 0 0) ++ colon_groups others
+  joined_next = go gs some
+    where
+      go : (l : List ℕ) → (length l ≡ 0 → ⊥) → joined_groups l ≡ group_digits (get_or l 0 0) ++ colon_groups (take (length l - 1) (drop 1 l))
+      go [] h = absurd (h refl)
+      go (g ∷ l) h = rw (take_all (length (g ∷ l) - 1) l (omega arith))
 
-  module _ (low : from ≤ end) (some : from ≡ end → ⊥) where
-    next : joined_groups (slice from end gs) ≡ group_digits (get_or gs from 0) ++ colon_groups (slice (from + 1) end gs)
-    next = joined_next gs from end (omega (arith, some)) (omega arith)
-
-    pub joined_first : at + length (group_digits (get_or gs from 0)) ≤ length o
-    joined_first = room_first (group_digits (get_or gs from 0)) (colon_groups (slice (from + 1) end gs)) at (rw next at room)
-
-    module _ {x : List ℕ} {p : ℕ} (w : Wrote (group_digits (get_or gs from 0)) at o x p) where
-      pub joined_rest : p + length (colon_groups (slice (from + 1) end gs)) ≤ length x
-      joined_rest = room_then w (colon_groups (slice (from + 1) end gs)) (rw next at room)
-
-      pub joined_whole : {y : List ℕ} {q : ℕ} → Wrote (colon_groups (slice (from + 1) end gs)) p x y q → Wrote (joined_groups (slice from end gs)) at o y q
-      joined_whole v = rw next (then w v)
+  pub joined_whole : {at p q : ℕ} {o x y : List ℕ} → Wrote (group_digits (get_or gs 0 0)) at o x p → Wrote (colon_groups others) p x y q → Wrote (joined_groups gs) at o y q
+  joined_whole w v = rw joined_next (then w v)
 
 -- ---- an address
 
@@ -177,24 +158,25 @@ module _ (a : List ℕ) {gs : List ℕ} {run : Run} (e : gs ≡ groups_of a) (q 
   unfolding canonical
   is_shortened = rw (q, e)
 
-  all : take 8 gs ≡ gs
-  all = take_all 8 gs (omega arith)
-
-  pub plain_text : run.len < 2 → canonical a ≡ joined_groups (slice 0 8 gs)
-  plain_text h = is_shortened ∙ rw (lt-ltb run.len 2 h, all)
-
-  pub gapped_text : 2 ≤ run.len → canonical a ≡ joined_groups (slice 0 run.start gs) ++ (58 ∷ 58 ∷ []) ++ joined_groups (slice (run.start + run.len) 8 gs)
-  gapped_text h = is_shortened ∙ rw (le-ltb run.len 2 h, all)
+  pub plain_text : run.len < 2 → canonical a ≡ joined_groups gs
+  plain_text h = is_shortened ∙ rw (lt-ltb run.len 2 h)
 
   module _ (h : 2 ≤ run.len) (at : ℕ) (o : List ℕ) (room : at + length (canonical a) ≤ length o) where
     abbrev before : List ℕ
-    before = joined_groups (slice 0 run.start gs)
+    before = joined_groups (take run.start gs)
 
+    -- the groups behind the run, as the code lends them
     abbrev after : List ℕ
-    after = joined_groups (slice (run.start + run.len) 8 gs)
+    after = joined_groups (take (8 - (run.start + run.len)) (drop (run.start + run.len) gs))
+
+    gapped_text : canonical a ≡ before ++ (58 ∷ 58 ∷ []) ++ after
+    gapped_text =
+        let all : take (8 - (run.start + run.len)) (drop (run.start + run.len) gs) ≡ drop (run.start + run.len) gs =
+        take_all (8 - (run.start + run.len)) (drop (run.start + run.len) gs) (simp length-drop (omega arith)) in
+        is_shortened ∙ rw (le-ltb run.len 2 h, all)
 
     fits : at + length (before ++ (58 ∷ 58 ∷ []) ++ after) ≤ length o
-    fits = rw (gapped_text h) at room
+    fits = rw gapped_text at room
 
     pub gapped_front : at + length before ≤ length o
     gapped_front = room_first before (58 ∷ 58 ∷ []) at (room_first (before ++ (58 ∷ 58 ∷ [])) after at fits)
@@ -208,4 +190,4 @@ module _ (a : List ℕ) {gs : List ℕ} {run : Run} (e : gs ≡ groups_of a) (q 
         gapped_back = room_then (then w v) after fits
 
         pub gapped_whole : {u : List ℕ} {r : ℕ} → Wrote after s y u r → Wrote (canonical a) at o u r
-        gapped_whole k = rw (gapped_text h) (then (then w v) k)
+        gapped_whole k = rw gapped_text (then (then w v) k)

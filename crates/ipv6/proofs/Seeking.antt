@@ -2,7 +2,7 @@
 use mathlib.Core.Path.{◌≡◌, refl, ap, sym, ◌∙◌}
 use mathlib.Core.Bool.{Bool, true, false, cond, ◌&&◌}
 use mathlib.Core.List.{List, [], ◌∷◌, ◌++◌, append-nil}
-use mathlib.Core.Option.{none, some}
+use Rattle.std.specs.Prelude.{None, Some}
 use Prim.Native.Nat.{ℕ, zero, suc, ◌+◌, ◌-◌, ◌≤◌, ◌<◌}
 use native.Mathlib.Omega.{arith}
 use borrow.Author.Tests.{eq-eqb, ne_eqb}
@@ -15,8 +15,8 @@ use Rattle.ipv6.specs.HalfLaws.{shift, shift_nil}
 use Rattle.ipv6.specs.Places.{Gap}
 
 shift_snoc : (t : List ℕ) (x : ℕ) (o : Halves) → shift (t ++ (x ∷ [])) o ≡ shift t (infront x o)
-shift_snoc t x none = refl
-shift_snoc t x (some h) = ap (λ (l : List ℕ). some (l, h.1)) (append_snoc t x h.0)
+shift_snoc t x None = refl
+shift_snoc t x (Some h) = ap (λ (l : List ℕ). Some (l, h.1)) (append_snoc t x h.0)
 
 starts_at : (s : List ℕ) (k : ℕ) → starts 58 (drop k s) ≡ eqb (get_or s k 0) 58
 starts_at [] zero = refl
@@ -24,12 +24,12 @@ starts_at [] (suc k) = refl
 starts_at (x ∷ s) zero = refl
 starts_at (x ∷ s) (suc k) = starts_at s k
 
-halves_none : (s : List ℕ) → length s ≤ 1 → halves s ≡ none
+halves_none : (s : List ℕ) → length s ≤ 1 → halves s ≡ None
 unfolding halves
 halves_none [] h = refl
 halves_none (x ∷ []) h = go (eqb x 58)
   where
-    go : (t : Bool) → cond {A = Halves} (t && false) (some ([], [])) none ≡ none
+    go : (t : Bool) → cond {A = Halves} (t && false) (Some ([], [])) None ≡ None
     go true = refl
     go false = refl
 halves_none (x ∷ y ∷ s) h = absurd (omega arith)
@@ -43,13 +43,13 @@ pub seeking_first : (s : List ℕ) → Seeking s 1
 seeking_first s = record { low = omega arith; rest = sym (shift_nil (halves s)) }
 
 module _ {s : List ℕ} {i : ℕ} (h : Seeking s i) where
-  pub seeking_end : length s ≤ i → Gap s (length s)
+  pub seeking_end : length s ≤ i → halves s ≡ None
   seeking_end l =
       let k : length (drop (i - 1) s) ≤ 1 = simp length-drop (omega (arith, h.low)) in
-      record { is = h.rest ∙ rw (halves_none (drop (i - 1) s) k, eq-eqb (length s) (length s) refl); within = omega arith; room = λ e. absurd (e refl) }
+      h.rest ∙ rw (halves_none (drop (i - 1) s) k)
 
   module _ (l : i - 1 < length s) where
-    here : halves (drop (i - 1) s) ≡ cond (eqb (get_or s (i - 1) 0) 58 && eqb (get_or s i 0) 58) (some ([], drop (i - 1 + 2) s)) (infront (get_or s (i - 1) 0) (halves (drop i s)))
+    here : halves (drop (i - 1) s) ≡ cond (eqb (get_or s (i - 1) 0) 58 && eqb (get_or s i 0) 58) (Some ([], drop (i - 1 + 2) s)) (infront (get_or s (i - 1) 0) (halves (drop i s)))
     unfolding halves
     here =
         let k : i - 1 + 1 ≡ i = omega (arith, h.low) in
@@ -77,8 +77,8 @@ module _ {s : List ℕ} {i : ℕ} (h : Seeking s i) where
 
     pub seeking_found : i < length s → get_or s (i - 1) 0 ≡ 58 → get_or s i 0 ≡ 58 → Gap s (i - 1)
     seeking_found k e f =
-        let found : halves (drop (i - 1) s) ≡ some ([], drop (i - 1 + 2) s) = here ∙ rw (eq-eqb (get_or s (i - 1) 0) 58 e, eq-eqb (get_or s i 0) 58 f) in
-        record { is = h.rest ∙ rw (found, append-nil (take (i - 1) s), ne_eqb (i - 1) (length s) (λ w. omega arith)); within = omega arith; room = λ w. omega arith }
+        let found : halves (drop (i - 1) s) ≡ Some ([], drop (i - 1 + 2) s) = here ∙ rw (eq-eqb (get_or s (i - 1) 0) 58 e, eq-eqb (get_or s i 0) 58 f) in
+        record { is = h.rest ∙ rw (found, append-nil (take (i - 1) s)); room = omega arith }
 
 pub seeking_both : {s : List ℕ} {i : ℕ} → Seeking s i → i < length s → (get_or s i 0 ≡ 58 → ⊥) → Seeking s (i + 2)
 seeking_both {s} {i} h l e =

@@ -1,7 +1,6 @@
 -- The text of a group: its digits, how many they are, and that it reads back.
-use Rattle.std.specs.Prelude.{◌≡◌, refl, Bool, true, false, cond, List, [], ◌∷◌, ◌++◌, ℕ, ◌+◌, ◌*◌, ◌/◌, ◌%◌, ◌≤◌, ◌<◌, ltb, length}
+use Rattle.std.specs.Prelude.{◌≡◌, refl, Bool, true, false, cond, List, [], ◌∷◌, ◌++◌, ℕ, ◌+◌, ◌*◌, ◌/◌, ◌%◌, ◌≤◌, ◌<◌, ltb, length, Some}
 use Rattle.std.proofs.Common.{ap, ◌∙◌}
-use Rattle.std.proofs.Math.Option.{some}
 use native.Mathlib.Omega.{arith}
 use borrow.Author.Tests.{lt-ltb, le-ltb, ltb-true, ltb-false}
 use Rattle.text.specs.Bytes.{between, other, is_lower_hex}
@@ -124,14 +123,14 @@ value_next v n s h = rw (nibble_digit n h, lt-ltb n 16 h)
 value_first : (n : ℕ) (s : List ℕ) → n < 16 → hex_value 0 (hex_digit n ∷ s) ≡ hex_value n s
 value_first n s h = let e : 0 * 16 + n ≡ n = omega arith in value_next 0 n s h ∙ ap (λ (m : ℕ). hex_value m s) e
 
-value_none : (v : ℕ) → hex_value v [] ≡ some v
+value_none : (v : ℕ) → hex_value v [] ≡ Some v
 unfolding hex_value
 value_none v = refl
 
-pub group_text_lem : (v : ℕ) → v < 65536 → group (group_digits v) ≡ some v
+pub group_text_lem : (v : ℕ) → v < 65536 → group (group_digits v) ≡ Some v
 unfolding group
 group_text_lem =
-    group_text_elim (λ v t. only (between 1 4 (length t)) (hex_value 0 t) ≡ some v)
+    group_text_elim (λ v t. only (between 1 4 (length t)) (hex_value 0 t) ≡ Some v)
     (λ a h. value_first a [] h ∙ value_none _)
     (λ a b z h k. value_first a _ h ∙ value_next _ b [] k ∙ value_none _)
     (λ a b c z h k l. value_first a _ h ∙ value_next _ b _ k ∙ value_next _ c [] l ∙ value_none _)

@@ -1,6 +1,5 @@
 -- IPv6 addresses in text: RFC 4291, section 2.2, read, and RFC 5952, section 4, written.
-use Rattle.std.specs.Prelude.{ℕ, suc, ◌+◌, ◌-◌, ◌*◌, ◌/◌, ◌%◌, Bool, true, false, cond, ◌&&◌, ◌||◌, List, [], ◌∷◌, ◌++◌, eqb, leb, ltb, length, take, drop, replicate}
-use Rattle.std.proofs.Math.Option.{Option, none, some}
+use Rattle.std.specs.Prelude.{ℕ, suc, ◌+◌, ◌-◌, ◌*◌, ◌/◌, ◌%◌, Bool, true, false, cond, ◌&&◌, ◌||◌, List, [], ◌∷◌, ◌++◌, eqb, leb, ltb, length, take, drop, replicate, Option, None, Some}
 use Rattle.text.specs.Bytes.{between, is_lower_hex}
 use Rattle.text.specs.Parts.{pieces}
 use Rattle.text.specs.Options.{and_then, mapped, or_else, only, sized, glue}
@@ -16,8 +15,8 @@ is_ipv6 a = is_bytes 16 a
 
 -- the number that hex digits of either case write, behind those of v
 unfoldable pub hex_value : ℕ → List ℕ → Option ℕ
-hex_value v [] = some v
-hex_value v (c ∷ s) = cond (ltb (nibble c) 16) (hex_value (v * 16 + nibble c) s) none
+hex_value v [] = Some v
+hex_value v (c ∷ s) = cond (ltb (nibble c) 16) (hex_value (v * 16 + nibble c) s) None
 
 -- "one to four hexadecimal digits of the eight 16-bit pieces of the address"
 unfoldable pub group : List ℕ → Option ℕ
@@ -39,12 +38,12 @@ is_last (p ∷ ps) = false
 
 -- the bytes of pieces, of which the last may be dotted: "x:x:x:x:x:x:x:x", "x:x:x:x:x:x:d.d.d.d"
 unfoldable pub groups : Bool → List (List ℕ) → Option (List ℕ)
-groups dotted [] = some []
+groups dotted [] = Some []
 groups dotted (p ∷ ps) = and_then (piece (dotted && is_last ps) p) (λ b. glue b (groups dotted ps))
 
 -- the bytes of a text on one side of "::", which may be empty; an address has sixteen
 unfoldable pub side : Bool → List ℕ → Option (List ℕ)
-side dotted [] = some []
+side dotted [] = Some []
 side dotted (x ∷ s) = sized 0 16 (groups dotted (pieces 58 (x ∷ s)))
 
 -- the texts before and behind the first "::", where there is one
@@ -56,21 +55,21 @@ abbrev pub Halves : Type 0
 Halves = Option (List ℕ × List ℕ)
 
 abbrev pub infront : ℕ → Halves → Halves
-infront x none = none
-infront x (some h) = some (x ∷ h.0, h.1)
+infront x None = None
+infront x (Some h) = Some (x ∷ h.0, h.1)
 
 unfoldable pub halves : List ℕ → Halves
-halves [] = none
-halves (x ∷ s) = cond (eqb x 58 && starts 58 s) (some ([], drop 1 s)) (infront x (halves s))
+halves [] = None
+halves (x ∷ s) = cond (eqb x 58 && starts 58 s) (Some ([], drop 1 s)) (infront x (halves s))
 
 -- "The use of "::" indicates one or more groups of 16 bits of zeros.": those that the bytes on its two sides leave of sixteen
 abbrev pub spread : List ℕ → List ℕ → Option (List ℕ)
-spread f b = only (leb (length f + length b) 14) (some (f ++ replicate (16 - (length f + length b)) 0 ++ b))
+spread f b = only (leb (length f + length b) 14) (Some (f ++ replicate (16 - (length f + length b)) 0 ++ b))
 
 -- "The "::" can only appear once in an address.": a second one leaves an empty piece, which is no group
 abbrev pub whole : List ℕ → Halves → Option (List ℕ)
-whole s none = sized 16 16 (side true s)
-whole s (some h) = and_then (side false h.0) (λ f. and_then (side true h.1) (spread f))
+whole s None = sized 16 16 (side true s)
+whole s (Some h) = and_then (side false h.0) (λ f. and_then (side true h.1) (spread f))
 
 unfoldable pub ipv6 : List ℕ → Option (List ℕ)
 ipv6 s = whole s (halves s)

@@ -1,6 +1,5 @@
 -- What is read: a group of sixteen bits, and an address of sixteen bytes.
-use Rattle.std.specs.Prelude.{◌≡◌, refl, true, List, [], ◌∷◌, ◌++◌, ℕ, zero, suc, ◌+◌, ◌*◌, ◌<◌, replicate}
-use Rattle.std.proofs.Math.Option.{some}
+use Rattle.std.specs.Prelude.{◌≡◌, refl, true, List, [], ◌∷◌, ◌++◌, ℕ, zero, suc, ◌+◌, ◌*◌, ◌<◌, replicate, Some}
 use Rattle.std.proofs.Common.{arith, length-append}
 use Rattle.std.proofs.lemmas.List.{length-replicate}
 use Rattle.text.specs.Bytes.{between}
@@ -76,5 +75,5 @@ is_bytes_lem (compressed {front = front} {back = back} h f k b zero_groups low s
     (all_append (between 0 255) (front ++ replicate (2 * zero_groups) 0) back (all_append (between 0 255) front (replicate (2 * zero_groups) 0) (groups_bytes f) (zero_bytes (2 * zero_groups))) (tailed_bytes b))
 
 -- what is read is an address
-pub ipv6_bytes : (s a : List ℕ) → ipv6 s ≡ some a → is_ipv6 a ≡ true
+pub ipv6_bytes : (s a : List ℕ) → ipv6 s ≡ Some a → is_ipv6 a ≡ true
 ipv6_bytes s a e = is_bytes_lem (ipv6_is s e)

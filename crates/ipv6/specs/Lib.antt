@@ -14,6 +14,5 @@ pub mod Shapes
 pub mod Written
 pub mod RecommendedLaws
 pub mod Printable
--- For the proofs only: the definitions laid out in the code's types, and what the code's private steps answer
-pub mod Answers
+-- For the proofs only: what the code's private steps answer
 pub mod Places

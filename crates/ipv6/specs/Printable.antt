@@ -1,5 +1,5 @@
 -- An IPv6 address is printable, since its groups, its dotted tail and the colons between them are.
-use Rattle.std.specs.Prelude.{ℕ, ◌≡◌, refl, List, [], ◌∷◌, ◌++◌}
+use Rattle.std.specs.Prelude.{ℕ, refl, List, [], ◌∷◌}
 use Rattle.text.specs.Relations.{Each, Pairwise}
 use Rattle.text.specs.RelationLaws.{each_append}
 use Rattle.text.specs.Laws.{all_append}

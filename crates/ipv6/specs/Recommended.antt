@@ -1,7 +1,6 @@
 -- RFC 5952, section 4, said of a text and of the eight groups that it is of. `RecommendedLaws` shows that `canonical` keeps
 -- to it, and that no other text does.
-use Rattle.std.specs.Prelude.{◌≡◌, Bool, true, not, ◌&&◌, ◌||◌, List, [], ◌∷◌, ℕ, ◌+◌, ◌-◌, ◌≤◌, eqb, length, take, drop, replicate}
-use Rattle.std.proofs.Math.Option.{none, some}
+use Rattle.std.specs.Prelude.{◌≡◌, Bool, true, not, ◌&&◌, ◌||◌, List, [], ◌∷◌, ℕ, ◌+◌, ◌-◌, ◌≤◌, eqb, length, take, drop, replicate, None, Some}
 use Rattle.text.specs.Bytes.{is_lower_hex}
 use Rattle.text.specs.Parts.{all, pieces}
 use Rattle.ipv6.specs.Ipv6.{starts, Halves, halves}
@@ -35,8 +34,8 @@ pub record Best (gs : List ℕ) (i n : ℕ) : Type 0 where
 -- 4.2.1, "The use of the symbol "::" MUST be used to its maximum capability.": where there is none, no two zero groups
 -- stand together; where there is one, it stands for the groups that its two sides leave of eight
 abbrev pub Placed : List ℕ → Halves → Type 0
-Placed gs none = (j m : ℕ) → ZeroRun gs j m → m ≤ 1
-Placed gs (some h) = Best gs (group_count h.0) (8 - (group_count h.0 + group_count h.1))
+Placed gs None = (j m : ℕ) → ZeroRun gs j m → m ≤ 1
+Placed gs (Some h) = Best gs (group_count h.0) (8 - (group_count h.0 + group_count h.1))
 
 pub record Recommended (t gs : List ℕ) : Type 0 where
   pub tidied : all_tidy (pieces 58 t) ≡ true

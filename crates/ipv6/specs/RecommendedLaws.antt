@@ -1,8 +1,8 @@
 -- The text that is written is recommended, and a recommended text of an address is the one that is written.
-use Rattle.std.specs.Prelude.{◌≡◌, refl, Bool, true, false, not, ◌||◌, List, [], ◌∷◌, ◌++◌, map, ℕ, suc, ◌+◌, ◌-◌, ◌*◌, ◌/◌, ◌%◌, ◌≤◌, ◌<◌, eqb, length, replicate}
+use Rattle.std.specs.Prelude.{◌≡◌, refl, Bool, true, false, not, ◌||◌, List, [], ◌∷◌, ◌++◌, map, ℕ, suc, ◌+◌, ◌-◌, ◌*◌, ◌/◌, ◌%◌, ◌≤◌, ◌<◌, eqb, length, replicate, None, Some}
 use Rattle.std.proofs.Common.{ap, ap₂, sym, ◌∙◌, subst, append_assoc, arith, ne_eqb}
 use Rattle.std.proofs.lemmas.Bool.{false≢true, eqb-false}
-use Rattle.std.proofs.Math.Option.{none, some, none-ne-some}
+use Rattle.std.proofs.lemmas.Option.{none-some}
 use Rattle.std.proofs.lemmas.List.{length-replicate}
 use Rattle.text.specs.Bytes.{is_lower_hex}
 use Rattle.text.specs.Parts.{all, pieces}
@@ -134,7 +134,7 @@ tailed_groups (plain h) t = h
 tailed_groups (dotted {ps} {p} {tail = tail} h a) t =
     let c = and_true (tidy p) true (tidy_parts ps (p ∷ []) t).1 in
     let k = all_other is_lower_hex 46 refl p (and_true (all is_lower_hex p) _ c.0).0 in
-    absurd (none-ne-some tail (sym (address_undotted p k) ∙ is_address_lem p a))
+    absurd (none-some tail (sym (address_undotted p k) ∙ is_address_lem p a))
 
 -- ---- a side
 
@@ -204,7 +204,7 @@ is_recommended (compressed {before} {behind} {front} {back} {ps} {qs} h f k b ze
     ap₂ (λ (v w : List ℕ). v ++ (58 ∷ 58 ∷ w)) x.text y.text
     ∙ shape_canonical (front ++ replicate (2 * zero_groups) 0 ++ back) (one_gap (groups_of front) (groups_of back) zero_groups (groups_split front back zero_groups (length (groups_of front)) (length (groups_of back)) x.even y.even) best)
 
-pub recommended_canonical : (t a : List ℕ) → ipv6 t ≡ some a → Recommended t (groups_of a) → t ≡ canonical a
+pub recommended_canonical : (t a : List ℕ) → ipv6 t ≡ Some a → Recommended t (groups_of a) → t ≡ canonical a
 recommended_canonical t a e r = is_recommended (ipv6_is t e) r
 
 -- ---- the text that is written is recommended
@@ -218,7 +218,7 @@ canonical_recommended a h = go (canonical_shape a)
     joined_tidy : (l : List ℕ) → all is_group l ≡ true → all_tidy (pieces 58 (joined_groups l)) ≡ true
     joined_tidy l k = tidy_colons (joined_colons l) (texts_tidy l k)
 
-    whole : (l : List ℕ) → 1 ≤ length l → halves (joined_groups l) ≡ none
+    whole : (l : List ℕ) → 1 ≤ length l → halves (joined_groups l) ≡ None
     whole [] n = absurd (omega arith)
     whole (g ∷ l) n = halves_whole (joined_are g l) (texts_some (g ∷ l))
 

@@ -1,7 +1,6 @@
 -- What is written reads back, how long it is, and of which bytes it is made.
-use Rattle.std.specs.Prelude.{◌≡◌, refl, true, List, [], ◌∷◌, ◌++◌, map, ℕ, ◌+◌, ◌-◌, ◌*◌, ◌≤◌, ◌<◌, length, replicate}
+use Rattle.std.specs.Prelude.{◌≡◌, refl, true, List, [], ◌∷◌, ◌++◌, map, ℕ, ◌+◌, ◌-◌, ◌*◌, ◌≤◌, ◌<◌, length, replicate, Some}
 use Rattle.std.proofs.Common.{ap, sym, ◌∙◌, subst, append_assoc, append-nil, arith, length-append}
-use Rattle.std.proofs.Math.Option.{some}
 use Rattle.std.proofs.lemmas.List.{length-replicate}
 use Rattle.text.specs.Bytes.{is_lower_hex}
 use Rattle.text.specs.Parts.{all}
@@ -90,7 +89,7 @@ canonical_is a h = go (canonical_shape a)
         subst (Ipv6Is (joined_groups f ++ (58 ∷ 58 ∷ joined_groups b))) (split_bytes (groups_of a) f b n e ∙ back a h)
         (compressed_joined f b n s.0 s.1 (omega (arith, best.two)) (sym (split_length (groups_of a) f b n e) ∙ groups_eight a h))
 
-pub ipv6_canonical : (a : List ℕ) → is_ipv6 a ≡ true → ipv6 (canonical a) ≡ some a
+pub ipv6_canonical : (a : List ℕ) → is_ipv6 a ≡ true → ipv6 (canonical a) ≡ Some a
 ipv6_canonical a h = is_ipv6_lem (canonical a) (canonical_is a h)
 
 -- ---- how long, and of which bytes

@@ -7,27 +7,11 @@
 pub mod reading;
 pub mod writing;
 
-// A group and the end of its text, or a refusal, which holds 0.
+// The end of a piece, and the group that the piece writes, if it is one.
 #[derive(Clone, Copy)]
 struct Group {
     end: usize,
-    ok: bool,
-    value: u16,
-}
-
-// The bytes on one side of "::" with zeros behind them, or a refusal, which holds none.
-#[derive(Clone, Copy)]
-struct Side {
-    ok: bool,
-    len: usize,
-    bytes: [u8; 16],
-}
-
-// An address, or a refusal, which holds ::.
-#[derive(Clone, Copy)]
-pub struct Address {
-    pub ok: bool,
-    pub bytes: [u8; 16],
+    value: Option<u16>,
 }
 
 // A run of zero groups: the place of the first, and how many they are.

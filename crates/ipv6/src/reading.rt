@@ -1,25 +1,15 @@
 // Groups, the sides of "::" and addresses, read.
-ghost use Rattle.std.specs.Prelude.{◌≡◌, ◌+◌, ◌≤◌, length, take};
-ghost use Rattle.text.specs.Options.{only, sized, glue};
+ghost use Rattle.std.specs.Prelude.{◌≡◌, ◌≤◌, length, take};
+ghost use Rattle.text.specs.Options.{mapped, only, sized, glue};
+ghost use Rattle.put.specs.Texts.{bounded};
 ghost use Rattle.addresses.specs.Addresses.{address};
 ghost use Rattle.ipv6.specs.Ipv6.{side, spread, ipv6};
-ghost use Rattle.ipv6.specs.Answers.{side_answer, ipv6_answer};
-ghost use Rattle.ipv6.specs.Places.{GroupAt, Gap, Padded};
+ghost use Rattle.ipv6.specs.Places.{GroupAt, GapAt, Padded};
 
-use crate::{Address, Group, Side};
+use crate::Group;
 use addresses::numbers;
+use put::Bounded;
 use text::scan;
-
-const NO_SIDE: Side = Side {
-    ok: false,
-    len: 0,
-    bytes: [0; 16],
-};
-
-const NO_ADDRESS: Address = Address {
-    ok: false,
-    bytes: [0; 16],
-};
 
 // The group that starts at at, up to the next colon.
 fn read_group(s: &[u8], at: usize) -> Group
@@ -27,161 +17,127 @@ fn read_group(s: &[u8], at: usize) -> Group
     ensures { GroupAt s.now at result }
 {
     let mut v: u16 = 0;
-    let mut i = at;
-    while i < s.len() {
+    for i in at..s.len() {
         let c = s[i];
-        let d = hex_digits::digit_value(c);
-        if 16 <= d {
+        let Some(d) = hex_digits::digit_value(c) else {
             if c == 58 {
                 return Group {
                     end: i,
-                    ok: i != at,
-                    value: v,
+                    value: (i != at).then_some(v),
                 };
             }
             return Group {
                 end: scan::find_near(s, i, 58),
-                ok: false,
-                value: 0,
+                value: None,
             };
-        }
+        };
         if 4 <= i - at {
             return Group {
                 end: scan::find_near(s, i, 58),
-                ok: false,
-                value: 0,
+                value: None,
             };
         }
         v = v * 16 + d as u16;
-        i += 1;
     }
     Group {
-        end: i,
-        ok: i != at,
-        value: v,
+        end: s.len(),
+        value: (s.len() != at).then_some(v),
     }
 }
 
-// The place of the first "::", or the end of s. Where the second of two bytes is no colon, both are passed over.
-fn find_gap(s: &[u8]) -> usize
-    ensures { Gap s.now result }
+// The place of the first "::", if there is one. Where the second of two bytes is no colon, both are passed over.
+fn find_gap(s: &[u8]) -> Option<usize>
+    ensures { GapAt s.now result }
 {
     let mut i = 1;
+    // It steps by one or by two, which no range does.
     while i < s.len() {
         if s[i] != 58 {
             i += 2;
             continue;
         }
-        let first = i - 1;
-        if s[first] == 58 {
-            return first;
+        if s[i - 1] == 58 {
+            return Some(i - 1);
         }
         i += 1;
     }
-    s.len()
+    None
 }
 
-// A side whose first n bytes are read and whose last piece is s: an address with dots, where dotted allows it.
-fn end_dotted(s: &[u8], dotted: bool, bytes: [u8; 16], n: usize) -> Side
-    requires { Padded bytes n }
-    ensures { result ≡ side_answer (sized 0 16 (glue (take n bytes) (only dotted (address s.now)))) }
+// A side whose bytes but for those of its last piece s are read: s is an address with dots, where dotted allows it.
+fn end_dotted(s: &[u8], dotted: bool, front: Bounded<16>) -> Option<Bounded<16>>
+    requires { Padded front }
+    ensures { result ≡ mapped (bounded 16) (sized 0 16 (glue (take front.len front.bytes) (only dotted (address s.now)))) }
 {
     if !dotted {
-        return NO_SIDE;
+        return None;
     }
-    if 12 < n {
-        return NO_SIDE;
+    if 12 < front.len {
+        return None;
     }
-    let a = numbers::read_address(s);
-    if !a.ok {
-        return NO_SIDE;
-    }
-    let tail = a.bytes;
-    let mut all = bytes;
-    put::put_text(&mut all, n, &tail);
-    Side {
-        ok: true,
-        len: n + 4,
-        bytes: all,
-    }
+    let tail = numbers::read_address(s)?;
+    let mut bytes = front.bytes;
+    put::put_text(&mut bytes, front.len, &tail);
+    Some(Bounded {
+        len: front.len + 4,
+        bytes,
+    })
 }
 
 // The bytes of the groups of s, which may be none; the last may be an address with dots where dotted allows it.
-fn read_side(s: &[u8], dotted: bool) -> Side
-    ensures { result ≡ side_answer (side dotted s.now) }
+fn read_side(s: &[u8], dotted: bool) -> Option<Bounded<16>>
+    ensures { result ≡ mapped (bounded 16) (side dotted s.now) }
 {
     let mut bytes = [0u8; 16];
     if s.len() == 0 {
-        return Side {
-            ok: true,
-            len: 0,
-            bytes,
-        };
+        return Some(Bounded { len: 0, bytes });
     }
     let mut at = 0;
-    let mut n = 0;
-    while n < 15 {
-        let g = read_group(s, at);
-        let e = g.end;
-        if !g.ok {
-            if e == s.len() {
-                return end_dotted(&s[at..e], dotted, bytes, n);
+    for i in 0..8 {
+        let n = 2 * i;
+        let Group { end, value } = read_group(s, at);
+        let Some(v) = value else {
+            if end == s.len() {
+                return end_dotted(&s[at..end], dotted, Bounded { len: n, bytes });
             }
-            return NO_SIDE;
-        }
-        let v = g.value;
+            return None;
+        };
         bytes[n] = (v / 256) as u8;
         bytes[n + 1] = (v % 256) as u8;
-        n += 2;
-        if e == s.len() {
-            return Side {
-                ok: true,
-                len: n,
-                bytes,
-            };
+        if end == s.len() {
+            return Some(Bounded { len: n + 2, bytes });
         }
-        at = e + 1;
+        at = end + 1;
     }
-    NO_SIDE
+    None
 }
 
-// The first m bytes of front and the first n of back, with zeros between them; refused where no group of zeros is left.
-fn spread(front: [u8; 16], m: usize, back: [u8; 16], n: usize) -> Address
-    requires { Padded front m × Padded back n }
-    ensures { result ≡ ipv6_answer (spread (take m front) (take n back)) }
+// The bytes in front of "::" and those behind it, with zeros between them; refused where no group of zeros is left.
+fn spread(front: Bounded<16>, back: Bounded<16>) -> Option<[u8; 16]>
+    requires { Padded front × Padded back }
+    ensures { result ≡ spread (take front.len front.bytes) (take back.len back.bytes) }
 {
-    if 14 < m + n {
-        return NO_ADDRESS;
+    if 14 < front.len + back.len {
+        return None;
     }
-    let mut bytes = front;
-    put::put_text(&mut bytes, 16 - n, &back[..n]);
-    Address { ok: true, bytes }
+    let mut bytes = front.bytes;
+    put::put_text(&mut bytes, 16 - back.len, back.text());
+    Some(bytes)
 }
 
 // The address that s is, as RFC 4291 says; a zone, brackets or a prefix length are refused.
-pub fn read_address(s: &[u8]) -> Address
-    ensures { result ≡ ipv6_answer (ipv6 s.now) }
+pub fn read_address(s: &[u8]) -> Option<[u8; 16]>
+    ensures { result ≡ ipv6 s.now }
 {
-    let gap = find_gap(s);
-    if gap == s.len() {
-        let w = read_side(s, true);
-        let bytes = w.bytes;
-        return if w.len == 16 {
-            Address { ok: true, bytes }
+    let Some(gap) = find_gap(s) else {
+        let whole = read_side(s, true)?;
+        return if whole.len == 16 {
+            Some(whole.bytes)
         } else {
-            NO_ADDRESS
+            None
         };
-    }
-    let f = read_side(&s[..gap], false);
-    if !f.ok {
-        return NO_ADDRESS;
-    }
-    let from = gap + 2;
-    let b = read_side(&s[from..], true);
-    if !b.ok {
-        return NO_ADDRESS;
-    }
-    let front = f.bytes;
-    let back = b.bytes;
-    spread(front, f.len, back, b.len)
+    };
+    let front = read_side(&s[..gap], false)?;
+    let back = read_side(&s[gap + 2..], true)?;
+    spread(front, back)
 }

@@ -1,6 +1,5 @@
 // Groups, runs of zeros and addresses, written, and how long an address is.
 ghost use Rattle.std.specs.Prelude.{◌≡◌, cond, [], ◌∷◌, suc, ◌+◌, ◌*◌, ◌/◌, ◌%◌, ◌≤◌, ◌<◌, eqb, length};
-ghost use Rattle.std.proofs.Math.Seq.{slice};
 ghost use Rattle.put.specs.Put.{Wrote};
 ghost use Rattle.hex_digits.specs.Hex.{hex_digit};
 ghost use Rattle.ipv6.specs.Ipv6.{groups_of, group_digits, colon_groups, joined_groups, longest, canonical};
@@ -20,10 +19,8 @@ fn groups_of(a: [u8; 16]) -> [u16; 8]
     ensures { result ≡ groups_of a }
 {
     let mut gs = [0u16; 8];
-    let mut i = 0;
-    while i < 8 {
+    for i in 0..8 {
         gs[i] = joint(a[2 * i], a[2 * i + 1]);
-        i += 1;
     }
     gs
 }
@@ -53,9 +50,8 @@ fn longest_run(gs: [u16; 8]) -> Run
 {
     let mut best = Run { start: 8, len: 0 };
     let mut n = 0;
-    let mut i = 8;
-    while 0 < i {
-        i -= 1;
+    for k in 0..8 {
+        let i = 7 - k;
         n = zeros_from(gs[i], n);
         best = longer_of(best, i, n);
     }
@@ -104,30 +100,28 @@ fn put_with_colon(out: &mut [u8], at: usize, v: u16) -> usize
     put_group(out, at + 1, v)
 }
 
-// Writes the groups from from up to end, a colon in front of each.
-fn put_rest(out: &mut [u8], at: usize, gs: [u16; 8], from: usize, end: usize) -> usize
-    requires { (from ≤ end) × (end ≤ 8) × (at + length (colon_groups (slice from end gs)) ≤ length out.old) }
-    ensures { Wrote (colon_groups (slice from end gs)) at out.old out.new result }
+// Writes groups, a colon in front of each.
+fn put_rest(out: &mut [u8], at: usize, gs: &[u16]) -> usize
+    requires { at + length (colon_groups gs.now) ≤ length out.old }
+    ensures { Wrote (colon_groups gs.now) at out.old out.new result }
 {
-    let mut p = at;
-    let mut i = from;
-    while i < end {
-        p = put_with_colon(out, p, gs[i]);
-        i += 1;
+    let mut end = at;
+    for &g in gs {
+        end = put_with_colon(out, end, g);
     }
-    p
+    end
 }
 
-// Writes the groups from from up to end, with colons between them.
-fn put_joined(out: &mut [u8], at: usize, gs: [u16; 8], from: usize, end: usize) -> usize
-    requires { (from ≤ end) × (end ≤ 8) × (at + length (joined_groups (slice from end gs)) ≤ length out.old) }
-    ensures { Wrote (joined_groups (slice from end gs)) at out.old out.new result }
+// Writes groups with colons between them.
+fn put_joined(out: &mut [u8], at: usize, gs: &[u16]) -> usize
+    requires { at + length (joined_groups gs.now) ≤ length out.old }
+    ensures { Wrote (joined_groups gs.now) at out.old out.new result }
 {
-    if from == end {
+    if gs.len() == 0 {
         return at;
     }
-    let p = put_group(out, at, gs[from]);
-    put_rest(out, p, gs, from + 1, end)
+    let p = put_group(out, at, gs[0]);
+    put_rest(out, p, &gs[1..])
 }
 
 // Writes an address at a place of out as RFC 5952 says, and returns the place behind it.
@@ -138,11 +132,11 @@ pub fn put_address(out: &mut [u8], at: usize, a: [u8; 16]) -> usize
     let gs = groups_of(a);
     let run = longest_run(gs);
     if run.len < 2 {
-        return put_joined(out, at, gs, 0, 8);
+        return put_joined(out, at, &gs);
     }
-    let p = put_joined(out, at, gs, 0, run.start);
+    let p = put_joined(out, at, &gs[..run.start]);
     let q = put::put_text(out, p, b"::");
-    put_joined(out, q, gs, run.start + run.len, 8)
+    put_joined(out, q, &gs[run.start + run.len..])
 }
 
 // How long the text of an address is.

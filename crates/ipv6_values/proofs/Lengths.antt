@@ -1,124 +1,104 @@
 -- ConnMan's IPv6 and iwd's Address: one law for each return of their readers.
 use mathlib.Core.Path.{◌≡◌, refl, ap, sym, ◌∙◌}
-use mathlib.Core.Bool.{true, false, not}
 use mathlib.Core.List.{List, [], ◌∷◌}
-use mathlib.Core.Option.{Option, none, some, some-injective, none-ne-some}
-use Prim.Native.Nat.{ℕ, ◌+◌, ◌≤◌}
+use Rattle.std.specs.Prelude.{Option, None, Some}
+use Rattle.std.proofs.lemmas.Option.{same_Some, none-some}
+use Prim.Native.Nat.{ℕ, ◌+◌, ◌-◌, ◌≤◌}
 use native.Mathlib.Omega.{arith}
-use lib.ListN.{length, drop}
+use lib.ListN.{length, take, drop}
+use lib.Seq.{take_all}
 use Rattle.text.specs.Bytes.{other}
-use Rattle.text.specs.Options.{is_some, and_then, mapped}
+use Rattle.text.specs.Options.{and_then, mapped}
 use Rattle.text.specs.Parts.{part, pieces}
 use Rattle.text.specs.Laws.{pieces_some}
 use Rattle.text.specs.Scans.{Stop}
-use Rattle.text.proofs.AnswerLaws.{answer_none, answer_some}
 use Rattle.text.proofs.ScanLaws.{pieces_end, pieces_at}
-use Rattle.addresses.specs.Addresses.{prefix_length_of, netmask_answer}
-use Rattle.addresses.proofs.Reading.{mask_refused, mask_read}
-use Rattle.addresses.specs.declared.Netmask.{Netmask}
-use Rattle.addresses.specs.declared.Netmask.TheVariants.{Length, Broken}
+use Rattle.addresses.specs.Addresses.{prefix_length_of}
 use Rattle.addressing.specs.Addressing.{Addressing, static}
 use Rattle.addressing.specs.Settings.{fixed}
-use Rattle.addressing.proofs.Fixing.{routed_bad}
+use Rattle.addressing.proofs.Fixing.{pieces_bad, two_pieces, three_pieces}
 use Rattle.ipv6.specs.Ipv6.{ipv6}
-use Rattle.ipv6.specs.Answers.{ipv6_answer}
-use Rattle.ipv6.specs.declared.Address.{Address}
 use Rattle.ipv6_values.specs.Ipv6Values as Values
 use Rattle.ipv6_values.specs.Ipv6Values.{address_length, with_length}
-use Rattle.ipv6_values.specs.Answers.{connman_ipv6_answer, with_length_answer}
+use Rattle.ipv6_values.specs.Layout.{with_length_laid}
 use Rattle.ipv6_values.specs.declared.WithLength.{WithLength}
 
--- ---- answers taken apart
-
-address_refused : (o : Option (List ℕ)) {r : Address} → r ≡ ipv6_answer o → not r.ok ≡ true → o ≡ none
-address_refused = answer_none ipv6_answer (λ x. x.ok) (λ x. x.bytes) refl (λ a. (refl, refl))
-
-address_read : (o : Option (List ℕ)) {r : Address} → r ≡ ipv6_answer o → not r.ok ≡ false → o ≡ some r.bytes
-address_read = answer_some ipv6_answer (λ x. x.ok) (λ x. x.bytes) refl (λ a. (refl, refl))
-
-abbrev value_in : WithLength → Values.WithLength
-value_in r = record { address = r.address; length = r.length }
-
-sized_refused : (o : Option Values.WithLength) {r : WithLength} → r ≡ with_length_answer o → not r.ok ≡ true → o ≡ none
-sized_refused = answer_none with_length_answer (λ x. x.ok) value_in refl (λ w. (refl, refl))
-
-sized_read : (o : Option Values.WithLength) {r : WithLength} → r ≡ with_length_answer o → not r.ok ≡ false → o ≡ some (value_in r)
-sized_read = answer_some with_length_answer (λ x. x.ok) value_in refl (λ w. (refl, refl))
-
--- ---- an address, and its length
-
-module _ (a : List ℕ) {x : Address} (h : x ≡ ipv6_answer (ipv6 a)) where
-  pub single_bad : not x.ok ≡ true → address_length (a ∷ []) ≡ none
-  single_bad k = rw (address_refused (ipv6 a) h k)
-
-  pub single_good : not x.ok ≡ false → address_length (a ∷ []) ≡ some (record { address = x.bytes; length = 128 })
-  single_good k = rw (address_read (ipv6 a) h k)
-
-  module _ (m : List ℕ) where
-    pub sized_bad : not x.ok ≡ true → address_length (a ∷ m ∷ []) ≡ none
-    sized_bad k = rw (address_refused (ipv6 a) h k)
-
-    module _ (k : not x.ok ≡ false) {r : Netmask} (g : r ≡ netmask_answer (prefix_length_of 128 m)) where
-      pub sized_unsized : r ≡ Broken → address_length (a ∷ m ∷ []) ≡ none
-      sized_unsized e = rw (address_read (ipv6 a) h k, mask_refused (prefix_length_of 128 m) g e)
-
-      pub sized_good : {n : ℕ} → r ≡ Length n → address_length (a ∷ m ∷ []) ≡ some (record { address = x.bytes; length = n })
-      sized_good e = rw (address_read (ipv6 a) h k, mask_read (prefix_length_of 128 m) g e)
-
--- ---- a fixed address of ConnMan's, from what was read of an address and its length
+-- ---- an address and its length: none, or both of them
 
 abbrev sized : Option (List ℕ) → Option ℕ → Option Values.WithLength
 sized o p = and_then o (λ x. mapped (λ n. record { address = x; length = n }) p)
 
-parts_none : (o : Option (List ℕ)) (p : Option ℕ) → sized o p ≡ none → and_then o (λ x. and_then p (λ n. some (static x n none))) ≡ none
-parts_none none p e = refl
-parts_none (some x) none e = refl
-parts_none (some x) (some n) e = absurd (none-ne-some _ (sym e))
+abbrev plain : Option (List ℕ) → Option ℕ → Option Addressing
+plain o p = and_then o (λ x. and_then p (λ n. Some (static x n None)))
 
-parts_some : (o : Option (List ℕ)) (p : Option ℕ) {w : Values.WithLength} → sized o p ≡ some w → (o ≡ some w.address) × (p ≡ some w.length)
-parts_some none p {w} e = absurd (none-ne-some w e)
-parts_some (some x) none {w} e = absurd (none-ne-some w e)
-parts_some (some x) (some n) {w} e =
-    let q = some-injective (record { address = x; length = n }) w e in
-    (ap (λ (w : Values.WithLength). some w.address) q, ap (λ (w : Values.WithLength). some w.length) q)
+sized_none : (o : Option (List ℕ)) (p : Option ℕ) → None ≡ mapped with_length_laid (sized o p) → plain o p ≡ None
+sized_none None p e = refl
+sized_none (Some x) None e = refl
+sized_none (Some x) (Some n) e = absurd (none-some _ e)
 
-module _ (a m : List ℕ) {r : WithLength} (h : r ≡ with_length_answer (address_length (a ∷ m ∷ []))) where
-  pub static_bad : not r.ok ≡ true → fixed ipv6 (prefix_length_of 128) (a ∷ m ∷ []) ≡ none
-  static_bad k = parts_none (ipv6 a) (prefix_length_of 128 m) (sized_refused (address_length (a ∷ m ∷ [])) h k)
+sized_some : (o : Option (List ℕ)) (p : Option ℕ) {w : WithLength} → Some w ≡ mapped with_length_laid (sized o p) →
+    (o ≡ Some w.address) × (p ≡ Some w.length)
+sized_some None p {w} e = absurd (none-some w (sym e))
+sized_some (Some y) None {w} e = absurd (none-some w (sym e))
+sized_some (Some y) (Some m) {w} e =
+    let q = sym (same_Some {A = WithLength} w (record { address = y; length = m }) e) in
+    (ap (λ (w : WithLength). Some w.address) q, ap (λ (w : WithLength). Some w.length) q)
 
-  parts : not r.ok ≡ false → (ipv6 a ≡ some r.address) × (prefix_length_of 128 m ≡ some r.length)
-  parts k = parts_some (ipv6 a) (prefix_length_of 128 m) (sized_read (address_length (a ∷ m ∷ [])) h k)
+-- the piece in front, as the code lends it
+front_part : (a : ℕ) (s : List ℕ) → part 0 a s ≡ take a s
+front_part a s = let e : a - 0 ≡ a = omega arith in rw e
 
-  pub static_good : not r.ok ≡ false → fixed ipv6 (prefix_length_of 128) (a ∷ m ∷ []) ≡ some (static r.address r.length none)
-  static_good k = rw ((parts k).0, (parts k).1)
+-- ---- ConnMan's: what is read of the pieces between slashes
 
-  module _ (g : List ℕ) where
-    pub routed_refused : not r.ok ≡ true → fixed ipv6 (prefix_length_of 128) (a ∷ m ∷ g ∷ []) ≡ none
-    routed_refused k = routed_bad ipv6 (prefix_length_of 128) a m g (ap is_some (static_bad k))
+abbrev Says : List ℕ → Option Addressing → Type 0
+Says s o = fixed ipv6 (prefix_length_of 128) (pieces 47 s) ≡ o
 
-    module _ (k : not r.ok ≡ false) {x : Address} (q : x ≡ ipv6_answer (ipv6 g)) where
-      pub routed_none : not x.ok ≡ true → fixed ipv6 (prefix_length_of 128) (a ∷ m ∷ g ∷ []) ≡ none
-      routed_none e = rw ((parts k).0, (parts k).1, address_refused (ipv6 g) q e)
+module _ {s : List ℕ} {a : ℕ} (ha : Stop (other 47) s 0 a) (na : a ≡ length s → ⊥) {b : ℕ} (hb : Stop (other 47) s (a + 1) b) where
+  pub parts_unsized : None ≡ mapped with_length_laid (address_length (take a s ∷ part (a + 1) b s ∷ [])) → Says s None
+  parts_unsized e = pieces_bad ipv6 (prefix_length_of 128) ha na hb (rw (front_part a s) (sized_none _ _ e))
 
-      pub routed_good : not x.ok ≡ false →
-          fixed ipv6 (prefix_length_of 128) (a ∷ m ∷ g ∷ []) ≡ some (static r.address r.length (some x.bytes))
-      routed_good e = rw ((parts k).0, (parts k).1, address_read (ipv6 g) q e)
+  module _ {w : WithLength} (h : Some w ≡ mapped with_length_laid (address_length (take a s ∷ part (a + 1) b s ∷ []))) where
+    read : (ipv6 (take a s) ≡ Some w.address) × (prefix_length_of 128 (part (a + 1) b s) ≡ Some w.length)
+    read = sized_some _ _ h
 
--- ---- the pieces between slashes
+    pub parts_static : b ≡ length s → Says s (Some (static w.address w.length None))
+    parts_static l = two_pieces ipv6 (prefix_length_of 128) ha na hb l ∙ rw (front_part a s, read.0, read.1)
+
+    module _ (nb : b ≡ length s → ⊥) {c : ℕ} (hc : Stop (other 47) s (b + 1) c) (l : c ≡ length s) where
+      pub parts_unrouted : ipv6 (part (b + 1) c s) ≡ None → Says s None
+      parts_unrouted k = three_pieces ipv6 (prefix_length_of 128) ha na hb nb hc l ∙ rw (front_part a s, read.0, read.1, k)
+
+      pub parts_routed : {y : List ℕ} → ipv6 (part (b + 1) c s) ≡ Some y → Says s (Some (static w.address w.length (Some y)))
+      parts_routed k = three_pieces ipv6 (prefix_length_of 128) ha na hb nb hc l ∙ rw (front_part a s, read.0, read.1, k)
+
+-- ---- iwd's: the pieces between slashes
 
 module _ {s : List ℕ} {a : ℕ} (ha : Stop (other 47) s 0 a) where
-  pub one_piece : a ≡ length s → address_length (pieces 47 s) ≡ address_length (part 0 a s ∷ [])
-  one_piece e = ap address_length (pieces_end 47 ha e)
+  with_one : a ≡ length s → address_length (pieces 47 s) ≡ address_length (s ∷ [])
+  with_one e =
+      let all : part 0 a s ≡ s = front_part a s ∙ take_all a s (omega (arith, e)) in
+      ap address_length (pieces_end 47 ha e ∙ ap (λ (x : List ℕ). x ∷ []) all)
+
+  module _ (e : a ≡ length s) where
+    pub single_none : ipv6 s ≡ None → with_length s ≡ None
+    unfolding with_length
+    single_none k = with_one e ∙ rw k
+
+    pub single_some : {x : List ℕ} → ipv6 s ≡ Some x → with_length s ≡ Some (record { address = x; length = 128 })
+    unfolding with_length
+    single_some k = with_one e ∙ rw k
 
   module _ (na : a ≡ length s → ⊥) {b : ℕ} (hb : Stop (other 47) s (a + 1) b) where
-    pub two_pieces : b ≡ length s → address_length (pieces 47 s) ≡ address_length (part 0 a s ∷ part (a + 1) b s ∷ [])
-    two_pieces e = ap address_length (pieces_at 47 ha na ∙ ap (λ (x : List (List ℕ)). part 0 a s ∷ x) (pieces_end 47 hb e))
+    pub with_two : b ≡ length s → with_length s ≡ address_length (take a s ∷ part (a + 1) b s ∷ [])
+    unfolding with_length
+    with_two e = rw (pieces_at 47 ha na, front_part a s, pieces_end 47 hb e)
 
-    pub more_pieces : (b ≡ length s → ⊥) → address_length (pieces 47 s) ≡ none
-    more_pieces nb =
+    pub with_more : (b ≡ length s → ⊥) → with_length s ≡ None
+    unfolding with_length
+    with_more nb =
         ap address_length (pieces_at 47 ha na ∙ ap (λ (x : List (List ℕ)). part 0 a s ∷ x) (pieces_at 47 hb nb))
         ∙ go (pieces 47 (drop (b + 1) s)) (pieces_some 47 (drop (b + 1) s))
       where
-        go : (ps : List (List ℕ)) → 1 ≤ length ps → address_length (part 0 a s ∷ part (a + 1) b s ∷ ps) ≡ none
+        go : (ps : List (List ℕ)) → 1 ≤ length ps → address_length (part 0 a s ∷ part (a + 1) b s ∷ ps) ≡ None
         go [] h = absurd (omega arith)
         go (p ∷ ps) h = refl

@@ -1,6 +1,5 @@
 -- ConnMan's IPv6, and the Address of iwd's group IPv6, as request 2026-03 says: none where the value breaks its kind.
-use Rattle.std.specs.Prelude.{ℕ, List, [], ◌∷◌}
-use Rattle.std.proofs.Math.Option.{Option, none}
+use Rattle.std.specs.Prelude.{ℕ, List, [], ◌∷◌, Option, None}
 use Rattle.text.specs.Options.{and_then, mapped}
 use Rattle.text.specs.Parts.{pieces}
 use Rattle.text.specs.Words.{word}
@@ -19,10 +18,10 @@ pub record WithLength : Type 0 where
   pub length : ℕ
 
 abbrev pub address_length : List (List ℕ) → Option WithLength
-address_length [] = none
+address_length [] = None
 address_length (a ∷ []) = mapped (λ x. record { address = x; length = 128 }) (ipv6 a)
 address_length (a ∷ m ∷ []) = and_then (ipv6 a) (λ x. mapped (λ n. record { address = x; length = n }) (prefix_length_of 128 m))
-address_length (a ∷ m ∷ b ∷ t) = none
+address_length (a ∷ m ∷ b ∷ t) = None
 
 unfoldable pub with_length : List ℕ → Option WithLength
 with_length s = address_length (pieces 47 s)

@@ -1,7 +1,6 @@
 -- What ConnMan's IPv6 and iwd's Address obey once they are read: an address has sixteen bytes, and a length is 1 to 128.
-use Rattle.std.specs.Prelude.{ℕ, ◌≤◌, ◌≡◌, true, List}
+use Rattle.std.specs.Prelude.{ℕ, ◌≤◌, ◌≡◌, true, List, Some}
 use Rattle.std.proofs.Common.{arith}
-use Rattle.std.proofs.Math.Option.{some}
 use Rattle.text.specs.Words.{word}
 use Rattle.addresses.specs.AddressRules.{LengthIs}
 use Rattle.addressing.specs.Addressing.{Addressing, Good}
@@ -20,7 +19,7 @@ address_good a x h = ipv6_bytes a x (is_ipv6_lem a h)
 length_good : (m : List ℕ) {n : ℕ} → LengthIs 128 m n → (1 ≤ n) × (n ≤ 128)
 length_good m h = (h.least, h.number.most)
 
-pub connman_ipv6_good : (v : List ℕ) {i : Addressing} → connman_ipv6 v ≡ some i → Good 16 128 i
+pub connman_ipv6_good : (v : List ℕ) {i : Addressing} → connman_ipv6 v ≡ Some i → Good 16 128 i
 connman_ipv6_good v e =
     setting_good 16 128 (word "auto") Ipv6Is (LengthIs 128) address_good (λ m n. length_good m) (connman_ipv6_is v e)
 
@@ -29,7 +28,7 @@ pub record GoodWithLength (w : WithLength) : Type 0 where
   pub low : 1 ≤ w.length
   pub high : w.length ≤ 128
 
-pub with_length_good : (v : List ℕ) {w : WithLength} → with_length v ≡ some w → GoodWithLength w
+pub with_length_good : (v : List ℕ) {w : WithLength} → with_length v ≡ Some w → GoodWithLength w
 with_length_good v {w} e = go w (with_length_is v e)
   where
     go : (w : WithLength) → WithLengthIs v w → GoodWithLength w

@@ -6,5 +6,5 @@ pub mod Ipv6ValueRuleLaws
 pub mod Laws
 pub mod Written
 pub mod Printable
--- For the proofs only: the definitions laid out in the code's types
-pub mod Answers
+-- The definition laid out in the code's type
+pub mod Layout

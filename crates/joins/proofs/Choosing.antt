@@ -1,99 +1,84 @@
 -- The parts of a record by what was read of each setting, absent or not.
-use Prim.Native.Nat.{ℕ, zero, suc, ◌≤◌}
-use native.Mathlib.Omega.{arith}
-use mathlib.Core.Path.{◌≡◌, refl, ap, ap₂, ◌∙◌}
-use mathlib.Core.Bool.{Bool, true, false, ◌||◌}
-use mathlib.Core.List.{List}
-use mathlib.Core.Option.{Option, none, some, none-ne-some}
-use Rattle.addresses.specs.Addresses.{address_answer, netmask}
-use Rattle.text.specs.declared.Dialect.{Dialect}
+use mathlib.Core.Path.{◌≡◌, refl, ap, ap₂, sym, ◌∙◌}
+use mathlib.Core.Bool.{Bool, ◌||◌}
+use mathlib.Core.List.{List, []}
+use Prim.Native.Nat.{ℕ}
+use Rattle.std.specs.Prelude.{Option, None, Some, unwrap_or}
+use Rattle.std.proofs.lemmas.Option.{none-some, same_Some}
+use Rattle.names.specs.Names.{Network, network_laid}
+use Rattle.names.specs.declared.IwdName.{IwdName}
+use Rattle.text.specs.Options.{mapped, or_else, or_empty}
 use Rattle.text.specs.declared.Dialect.TheVariants.{ConnMan}
-use Rattle.named_words.specs.NamedWords.{flag}
-use Rattle.kinds.specs.declared.Kind.TheVariants.{Flag}
+use Rattle.put.specs.Texts.{bounded}
+use Rattle.put.specs.declared.Bounded.{Bounded}
+use Rattle.addressing.specs.Addressing.{Addressing, auto, or_auto}
+use Rattle.addressing.specs.Numbers.{numbers_laid}
+use Rattle.addressing.specs.declared.Numbers.{Numbers}
 use Rattle.named_words.specs.declared.Word.TheVariants as W
 use Rattle.named_words.specs.declared.WordList.TheVariants as L
-use Rattle.hex_values.specs.Answers.{pre_shared_key_answer}
-use Rattle.addressing.specs.Addressing.{Addressing}
-use Rattle.connman_ipv4.specs.Answers.{ipv4_answer}
-use Rattle.ipv6.specs.Answers.{ipv6_answer}
 use Rattle.ipv6_values.specs.Ipv6Values.{WithLength}
-use Rattle.ipv6_values.specs.Answers.{connman_ipv6_answer, with_length_answer}
+use Rattle.ipv6_values.specs.Layout.{with_length_laid}
+use Rattle.ipv6_values.specs.declared.WithLength.{WithLength as Prefixed}
 use Rattle.rules.specs.Tables.{keys_of}
 use Rattle.rules.specs.Sections.{Entry, entry_of}
 use Rattle.rules.specs.declared.Group.TheVariants as G
-use Rattle.rules.specs.Asking.{read_as}
-use Rattle.places.specs.Keys.{key_group, key_word as name_of, key_kind}
 use Rattle.places.specs.Holds.{RowKeeps}
-use Rattle.places.specs.declared.KeyName.{KeyName}
 use Rattle.places.specs.declared.KeyName.TheVariants as N
-use Rattle.values.specs.Values.{choice, length_or0}
-use Rattle.values.proofs.KeptValues.{row_word, row_flag}
-use Rattle.joins.specs.Joins.{secret_from, length_or24, static_or_dhcp, static_or_auto, unless_off, foreign}
-use Rattle.joins.specs.Answers.{phrase_answer, login_answer, or24, choice_in, login_read, numbers_read, ipv6_read, ipv6_unless}
-use Rattle.joins.specs.Places.{yes_at, foreign_at}
-use Rattle.hex_values.specs.declared.PreSharedKey.{PreSharedKey}
-use Rattle.addresses.specs.MaskRuleLaws.{netmask_good}
-use Rattle.joins.specs.declared.Phrase.{Phrase}
+use Rattle.values.proofs.KeptValues.{row_word}
+use Rattle.joins.specs.Joins.{secret_from, name_from, network_name, static_or_auto, foreign}
+use Rattle.joins.specs.Answers.{login_answer, login_read, ipv6_read}
+use Rattle.joins.specs.Places.{foreign_at}
 use Rattle.joins.specs.declared.Login.{Login}
 
 -- ---- the credential
 
-login_chosen : (o q : Option (List ℕ)) → login_read (phrase_answer o) (pre_shared_key_answer q) ≡ login_answer (secret_from o q)
-login_chosen (some p) q = refl
-login_chosen none (some k) = refl
-login_chosen none none = refl
+login_chosen : (o q : Option (List ℕ)) → login_read (mapped (bounded 63) o) q ≡ login_answer (secret_from o q)
+login_chosen (Some p) q = refl
+login_chosen None (Some k) = refl
+login_chosen None None = refl
 
-pub login_is : (o q : Option (List ℕ)) {p : Phrase} {k : PreSharedKey} {r : Login} → p ≡ phrase_answer o → k ≡ pre_shared_key_answer q → r ≡ login_read p k → r ≡ login_answer (secret_from o q)
+pub login_is : (o q : Option (List ℕ)) {p : Option (Bounded 63)} {k : Option (List ℕ)} {r : Login} → p ≡ mapped (bounded 63) o →
+    k ≡ q → r ≡ login_read p k → r ≡ login_answer (secret_from o q)
 login_is o q e f g = g ∙ ap₂ login_read e f ∙ login_chosen o q
 
--- ---- the numbers; a mask's length is not 0, so 0 can stand for none
+-- ---- a text, or none
 
-or24_is : (o : Option ℕ) → ((n : ℕ) → o ≡ some n → 1 ≤ n) → or24 (length_or0 o) ≡ length_or24 o
-or24_is none h = refl
-or24_is (some zero) h = let z : 1 ≤ 0 = h 0 refl in absurd (omega (arith, z))
-or24_is (some (suc n)) h = refl
+pub text_or_none : (n : ℕ) (o : Option (List ℕ)) → unwrap_or (mapped (bounded n) o) (bounded n []) ≡ bounded n (or_empty o)
+text_or_none n None = refl
+text_or_none n (Some t) = refl
 
-pub or24_some : (n : ℕ) → (n ≡ 0 → ⊥) → n ≡ or24 n
-or24_some zero h = absurd (h refl)
-or24_some (suc n) h = refl
+pub name_or_none : (n : ℕ) (o q : Option (List ℕ)) →
+    unwrap_or (or_else (mapped (bounded n) o) (mapped (bounded n) q)) (bounded n []) ≡ bounded n (name_from o q)
+name_or_none n (Some s) q = refl
+name_or_none n None None = refl
+name_or_none n None (Some t) = refl
 
-numbers_chosen : (a : Option (List ℕ)) (m : Option ℕ) (g : Option (List ℕ)) → ((n : ℕ) → m ≡ some n → 1 ≤ n) → numbers_read (address_answer a) (length_or0 m) (address_answer g) ≡ ipv4_answer (some (static_or_dhcp a m g))
-numbers_chosen none m g h = refl
-numbers_chosen (some a) m none h = rw (or24_is m h)
-numbers_chosen (some a) m (some g) h = rw (or24_is m h)
+-- ---- the name of a network
 
-pub numbers_given : (a g : Option (List ℕ)) (m : Option Entry) → numbers_read (address_answer a) (length_or0 (read_as netmask m)) (address_answer g) ≡ ipv4_answer (some (static_or_dhcp a (read_as netmask m) g))
-numbers_given a g m = numbers_chosen a (read_as netmask m) g (some_ones m)
-  where
-    some_ones : (m : Option Entry) (n : ℕ) → read_as netmask m ≡ some n → 1 ≤ n
-    some_ones none n h = absurd (none-ne-some n h)
-    some_ones (some e) n h = (netmask_good e.value h).0
+pub named_network : (o : Option Network) {n : IwdName} → Some n ≡ mapped network_laid o → n.name ≡ bounded 32 (network_name o)
+named_network None {n} q = absurd (none-some n (sym q))
+named_network (Some x) {n} q = ap (λ (n : IwdName). n.name) (same_Some n (network_laid x) q)
+
+pub unnamed_network : (o : Option Network) {r : Bounded 32} → None ≡ mapped network_laid o → r ≡ bounded 32 [] → r ≡ bounded 32 (network_name o)
+unnamed_network None q e = e
+unnamed_network (Some x) q e = absurd (none-some (network_laid x) q)
 
 -- ---- IPv6
 
-ipv6_chosen : (a : Option WithLength) (g : Option (List ℕ)) → ipv6_read (with_length_answer a) (ipv6_answer g) ≡ connman_ipv6_answer (some (static_or_auto a g))
-ipv6_chosen none g = refl
-ipv6_chosen (some a) none = refl
-ipv6_chosen (some a) (some g) = refl
+pub ipv6_given : (o : Option WithLength) (q : Option (List ℕ)) {a : Option Prefixed} {g : Option (List ℕ)} {r : Numbers 16} →
+    a ≡ mapped with_length_laid o → g ≡ q → r ≡ ipv6_read a g → r ≡ numbers_laid 16 (static_or_auto o q)
+ipv6_given o q e f h = h ∙ ap₂ ipv6_read e f ∙ go o
+  where
+    go : (o : Option WithLength) → ipv6_read (mapped with_length_laid o) q ≡ numbers_laid 16 (static_or_auto o q)
+    go None = refl
+    go (Some a) = refl
 
-ipv6_put_off : (o : Option Bool) (i : Addressing) → ipv6_unless o (connman_ipv6_answer (some i)) ≡ connman_ipv6_answer (some (unless_off o i))
-ipv6_put_off none i = refl
-ipv6_put_off (some true) i = refl
-ipv6_put_off (some false) i = refl
+-- ---- an addressing, or auto
 
-pub ipv6_given : (o : Option Bool) (a : Option WithLength) (g : Option (List ℕ)) → ipv6_unless o (ipv6_read (with_length_answer a) (ipv6_answer g)) ≡ connman_ipv6_answer (some (unless_off o (static_or_auto a g)))
-ipv6_given o a g = ap (ipv6_unless o) (ipv6_chosen a g) ∙ ipv6_put_off o (static_or_auto a g)
-
--- ---- a yes/no
-
-choice_back : (o : Option Bool) → choice_in (choice o) ≡ o
-choice_back none = refl
-choice_back (some true) = refl
-choice_back (some false) = refl
-
--- the yes/no that a row keeps
-pub row_choice : {d : Dialect} {file x : List ℕ} {b : ℕ} (k : KeyName) {es : List Entry} → RowKeeps d file x b (key_group k) es → key_kind k ≡ Flag → yes_at x b k ≡ read_as (flag d) (entry_of (name_of k) es)
-row_choice k h e = ap choice_in (row_flag k h e) ∙ choice_back _
+pub numbers_or_auto : (n : ℕ) (o : Option Addressing) →
+    unwrap_or (mapped (numbers_laid n) o) (numbers_laid n auto) ≡ numbers_laid n (or_auto o)
+numbers_or_auto n None = refl
+numbers_or_auto n (Some i) = refl
 
 -- ---- Security, by the words that a row keeps
 

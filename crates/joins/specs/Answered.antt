@@ -1,8 +1,8 @@
 -- Every join record that is answered is well-formed: of an iwd file, and of a ConnMan service.
-use Rattle.std.specs.Prelude.{ℕ, ◌≤◌, ◌≡◌, Bool, true, false, cond, not, ◌&&◌, ◌||◌, List}
+use Rattle.std.specs.Prelude.{ℕ, ◌≤◌, ◌≡◌, Bool, true, false, cond, not, ◌&&◌, ◌||◌, List, Option, None, Some}
 use Rattle.std.proofs.Common.{arith, ap, sym, ◌∙◌, subst, true≢false}
 use Rattle.std.proofs.Math.Path.{refl}
-use Rattle.std.proofs.Math.Option.{Option, none, some, none-ne-some}
+use Rattle.std.proofs.lemmas.Option.{none-some}
 use Rattle.text.specs.Words.{word, same}
 use Rattle.text.specs.Options.{is_some, and_then, mapped, or_else, only, or_empty}
 use Rattle.text.specs.OptionLaws.{IfSome, sized_some}
@@ -56,39 +56,39 @@ use Rattle.joins.specs.Joining.{or_false_lem, joined_good, service_joining}
 
 -- ---- what is read from a setting
 
-string_of : (low high : ℕ) (v : List ℕ) {t : List ℕ} → string low high v ≡ some t →
-    unescape v ≡ some t
+string_of : (low high : ℕ) (v : List ℕ) {t : List ℕ} → string low high v ≡ Some t →
+    unescape v ≡ Some t
 unfolding string
 string_of low high v e = (sized_some low high (unescape v) e).1
 
-good_passphrase : (v : List ℕ) {p : List ℕ} → value_text v ≡ true → K.passphrase v ≡ some p →
+good_passphrase : (v : List ℕ) {p : List ℕ} → value_text v ≡ true → K.passphrase v ≡ Some p →
     GoodPassphrase p
 good_passphrase v h e =
     let s = string_size 8 63 v e in
     record { low = s.0; high = s.1; text = unescape_text v h (string_of 8 63 v e) }
 
-good_key : (v : List ℕ) {k : List ℕ} → HexValues.pre_shared_key_of v ≡ some k → GoodKey k
+good_key : (v : List ℕ) {k : List ℕ} → HexValues.pre_shared_key_of v ≡ Some k → GoodKey k
 good_key v e = let s = pre_shared_key_size v e in record { long = s.0; bytes = s.1 }
 
-good_domain : (v : List ℕ) {t : List ℕ} → value_text v ≡ true → string 1 253 v ≡ some t → GoodDomain t
+good_domain : (v : List ℕ) {t : List ℕ} → value_text v ≡ true → string 1 253 v ≡ Some t → GoodDomain t
 good_domain v h e = record { high = (string_size 1 253 v e).1; text = unescape_text v h (string_of 1 253 v e) }
 
 -- ---- the parts of a record, of what is read
 
 secret_formed : (p k : Option (List ℕ)) → IfSome GoodPassphrase p → IfSome GoodKey k → GoodSecret (secret_from p k)
-secret_formed (some p) k g h = g
-secret_formed none (some k) g h = h
-secret_formed none none g h = tt
+secret_formed (Some p) k g h = g
+secret_formed None (Some k) g h = h
+secret_formed None None g h = tt
 
 static_formed : (a : Option (List ℕ)) (m : Option ℕ) (g : Option (List ℕ)) → IfSome (λ x. is_address x ≡ true) a →
     IfSome (λ n. (1 ≤ n) × (n ≤ 32)) m → IfSome (λ x. is_address x ≡ true) g → GoodIpv4 (static_or_dhcp a m g)
-static_formed none m g x y z = tt
-static_formed (some a) none g x y z = record { address = x; low = omega arith; high = omega arith; gateway = z }
-static_formed (some a) (some n) g x y z = record { address = x; low = y.0; high = y.1; gateway = z }
+static_formed None m g x y z = tt
+static_formed (Some a) None g x y z = record { address = x; low = omega arith; high = omega arith; gateway = z }
+static_formed (Some a) (Some n) g x y z = record { address = x; low = y.0; high = y.1; gateway = z }
 
 servers_formed_lem : (o : Option (List (List ℕ))) → IfSome GoodServers o → GoodServers (or_empty o)
-servers_formed_lem none h = record { high = omega arith; addresses = refl }
-servers_formed_lem (some l) h = h
+servers_formed_lem None h = record { high = omega arith; addresses = refl }
+servers_formed_lem (Some l) h = h
 
 good_servers : (sep : Separator) (at : Option Entry) → GoodServers (or_empty (read_as (addresses sep) at))
 good_servers sep at =
@@ -96,11 +96,11 @@ good_servers sep at =
 
 domain_formed_lem : (o : Option (List ℕ)) → IfSome GoodDomain o → GoodDomain (or_empty o)
 unfolding text utf8_from
-domain_formed_lem none h = record { high = omega arith; text = refl }
-domain_formed_lem (some d) h = h
+domain_formed_lem None h = record { high = omega arith; text = refl }
+domain_formed_lem (Some d) h = h
 
 -- a passphrase and a domain of either format, their text being whole
-module _ (o : Option Entry) (whole : (e : Entry) → o ≡ some e → value_text e.value ≡ true) where
+module _ (o : Option Entry) (whole : (e : Entry) → o ≡ Some e → value_text e.value ≡ true) where
   read_passphrase : IfSome GoodPassphrase (read_as K.passphrase o)
   read_passphrase = read_holds GoodPassphrase K.passphrase o (λ e q x r. good_passphrase e.value (whole e q) r)
 
@@ -112,9 +112,9 @@ module _ (o : Option Entry) (whole : (e : Entry) → o ≡ some e → value_text
 -- ---- an iwd file
 
 network_formed : (name : List ℕ) (o : Option Network) → network_of name ≡ o → {k : Name} →
-    mapped (λ x. iwd_name x.suffix) o ≡ some k → NetworkName (network_name o)
-network_formed name none q {k} e = absurd (none-ne-some k e)
-network_formed name (some x) q e = network_bytes name q
+    mapped (λ x. iwd_name x.suffix) o ≡ Some k → NetworkName (network_name o)
+network_formed name None q {k} e = absurd (none-some k e)
+network_formed name (Some x) q e = network_bytes name q
 
 -- of an accepted file
 module _ (name file : List ℕ) {n m : ℕ} (a : reading D.Iwd name file ≡ Accepted n m) where
@@ -144,14 +144,14 @@ iwd_ipv4_formed at =
     (address_formed (at (word "Gateway")))
 
 unless_off_formed : (o : Option Bool) (i : Addressing) → GoodIpv6 i → GoodIpv6 (unless_off o i)
-unless_off_formed none i h = h
-unless_off_formed (some true) i h = h
-unless_off_formed (some false) i h = tt
+unless_off_formed None i h = h
+unless_off_formed (Some true) i h = h
+unless_off_formed (Some false) i h = tt
 
 fixed_formed : (a : Option WithLength) (g : Option (List ℕ)) → IfSome GoodWithLength a → IfSome (λ x. is_ipv6 x ≡ true) g →
     GoodIpv6 (static_or_auto a g)
-fixed_formed none g x y = tt
-fixed_formed (some a) g x y = record { address = x.address; low = x.low; high = x.high; gateway = y }
+fixed_formed None g x y = tt
+fixed_formed (Some a) g x y = record { address = x.address; low = x.low; high = x.high; gateway = y }
 
 iwd_ipv6_formed : (at : List ℕ → Option Entry) → GoodIpv6 (iwd_ipv6 at)
 unfolding keys_of
@@ -164,7 +164,7 @@ iwd_ipv6_formed at =
 pub iwd_formed : (name file : List ℕ) {j : Join} → iwd_joined name file ≡ joined j → WellFormed j
 unfolding keys_of
 iwd_formed name file a =
-    let h = joined_good (asked (reading D.Iwd name file)) none (iwd_join (network_name (network_of name)) (iwd_entry (sections_of D.Iwd file))) a in
+    let h = joined_good (asked (reading D.Iwd name file)) None (iwd_join (network_name (network_of name)) (iwd_entry (sections_of D.Iwd file))) a in
     let r = (asked_reading (reading D.Iwd name file) h.0).1.1 in
     subst WellFormed h.1 (
     record {
@@ -179,29 +179,29 @@ iwd_formed name file a =
 
 -- ---- a service of a ConnMan file: what its group has
 
-mapped_some : {A B : Type 0} (f : A → B) (o : Option A) {b : B} → mapped f o ≡ some b → (a : A) × (o ≡ some a)
-mapped_some f none {b} e = absurd (none-ne-some b e)
-mapped_some f (some a) e = (a, refl)
+mapped_some : {A B : Type 0} (f : A → B) (o : Option A) {b : B} → mapped f o ≡ Some b → (a : A) × (o ≡ Some a)
+mapped_some f None {b} e = absurd (none-some b e)
+mapped_some f (Some a) e = (a, refl)
 
 -- a key without a setting is not given
-not_given : (k : List ℕ) (es : List Entry) → entry_of k es ≡ none → given k es ≡ false
+not_given : (k : List ℕ) (es : List Entry) → entry_of k es ≡ None → given k es ≡ false
 not_given k es e = sym (entry_given k es) ∙ ap is_some e
 
 -- a service that is not ethernet is wifi
-wifi_word : (v : List ℕ) {w : Word} → word_of L.ServiceType v ≡ some w → is_word W.Ethernet (some w) ≡ false →
-    is_word W.Wifi (some w) ≡ true
+wifi_word : (v : List ℕ) {w : Word} → word_of L.ServiceType v ≡ Some w → is_word W.Ethernet (Some w) ≡ false →
+    is_word W.Wifi (Some w) ≡ true
 unfolding word_of
 wifi_word v {w} e h = go (same v (word "wifi")) (same v (word "ethernet")) e
   where
-    go : (b c : Bool) → cond b (some W.Wifi) (cond c (some W.Ethernet) none) ≡ some w → is_word W.Wifi (some w) ≡ true
+    go : (b c : Bool) → cond b (Some W.Wifi) (cond c (Some W.Ethernet) None) ≡ Some w → is_word W.Wifi (Some w) ≡ true
     go true c e = sym (ap (is_word W.Wifi) e)
     go false true e = absurd (true≢false (ap (is_word W.Ethernet) e ∙ h))
-    go false false e = absurd (none-ne-some w e)
+    go false false e = absurd (none-some w e)
 
 -- so it has a name: of a group that lacks nothing, with a Type that is read
 has_name : (es : List Entry) → lacks es ≡ false →
-    ((e : Entry) → entry_of (word "Type") es ≡ some e → (w : Word) × (word_of L.ServiceType e.value ≡ some w)) →
-    wired (λ k. entry_of k es) ≡ false → entry_of (word "SSID") es ≡ none → entry_of (word "Name") es ≡ none → ⊥
+    ((e : Entry) → entry_of (word "Type") es ≡ Some e → (w : Word) × (word_of L.ServiceType e.value ≡ Some w)) →
+    wired (λ k. entry_of k es) ≡ false → entry_of (word "SSID") es ≡ None → entry_of (word "Name") es ≡ None → ⊥
 unfolding keys_of
 has_name es h t r s n = go (entry_of (word "Type") es) refl
   where
@@ -214,53 +214,53 @@ has_name es h t r s n = go (entry_of (word "Type") es) refl
         (or_false_lem (type_is W.Wifi es && not (given (word "Name") es || given (word "SSID") es)) (security_is W.Psk es && not (given (word "Passphrase") es)) parts.1).0
 
     go : (o : Option Entry) → entry_of (word "Type") es ≡ o → ⊥
-    go none q = true≢false (sym (ap not (not_given (word "Type") es q)) ∙ parts.0)
-    go (some e) q =
+    go None q = true≢false (sym (ap not (not_given (word "Type") es q)) ∙ parts.0)
+    go (Some e) q =
         let w = t e q in
-        let v : is_word W.Wifi (some w.0) ≡ true = wifi_word e.value w.1 (sym (ap (λ (o : Option Entry). is_word W.Ethernet (read_as (word_of L.ServiceType) o)) q ∙ ap (is_word W.Ethernet) w.1) ∙ r) in
+        let v : is_word W.Wifi (Some w.0) ≡ true = wifi_word e.value w.1 (sym (ap (λ (o : Option Entry). is_word W.Ethernet (read_as (word_of L.ServiceType) o)) q ∙ ap (is_word W.Ethernet) w.1) ∙ r) in
         let y : type_is W.Wifi es ≡ true = ap (λ (o : Option Entry). is_word W.Wifi (and_then o (λ x. word_of L.ServiceType x.value))) q ∙ ap (is_word W.Wifi) w.1 ∙ v in
         let z : (given (word "Name") es || given (word "SSID") es) ≡ false = ap (λ (b : Bool). b || given (word "SSID") es) (not_given (word "Name") es n) ∙ not_given (word "SSID") es s in
         true≢false (sym (ap (λ (b : Bool). b && not (given (word "Name") es || given (word "SSID") es)) y ∙ ap not z) ∙ unnamed)
 
 -- ---- the name of a service
 
-ssid_name : (v : List ℕ) {s : List ℕ} → ssid v ≡ some s → NetworkName s
+ssid_name : (v : List ℕ) {s : List ℕ} → ssid v ≡ Some s → NetworkName s
 ssid_name v e = let h = ssid_size v e in record { low = h.0; high = h.1; bytes = h.2 }
 
-text_name : (v : List ℕ) {t : List ℕ} → value_text v ≡ true → string 1 32 v ≡ some t → NetworkName t
+text_name : (v : List ℕ) {t : List ℕ} → value_text v ≡ true → string 1 32 v ≡ Some t → NetworkName t
 text_name v {t} h e =
     let s = string_size 1 32 v e in
     record { low = s.0; high = s.1; bytes = text_bytes t (unescape_text v h (string_of 1 32 v e)) }
 
-reads_ssid : (v : List ℕ) → GoodValue D.ConnMan Kind.Ssid v → (s : List ℕ) × (ssid v ≡ some s)
+reads_ssid : (v : List ℕ) → GoodValue D.ConnMan Kind.Ssid v → (s : List ℕ) × (ssid v ≡ Some s)
 unfolding typed
 reads_ssid v g = mapped_some T.bytes (ssid v) g.reads
 
-reads_name : (v : List ℕ) → GoodValue D.ConnMan (Kind.Text 1 32) v → (s : List ℕ) × (string 1 32 v ≡ some s)
+reads_name : (v : List ℕ) → GoodValue D.ConnMan (Kind.Text 1 32) v → (s : List ℕ) × (string 1 32 v ≡ Some s)
 unfolding typed
 reads_name v g = mapped_some T.bytes (string 1 32 v) g.reads
 
 reads_type : (v : List ℕ) → GoodValue D.ConnMan (Kind.Named L.ServiceType) v →
-    (w : Word) × (word_of L.ServiceType v ≡ some w)
+    (w : Word) × (word_of L.ServiceType v ≡ Some w)
 unfolding typed
 reads_type v g = mapped_some T.word (word_of L.ServiceType v) g.reads
 
-name_formed : (s n : Option Entry) → ((e : Entry) → s ≡ some e → GoodValue D.ConnMan Kind.Ssid e.value) →
-    ((e : Entry) → n ≡ some e → GoodValue D.ConnMan (Kind.Text 1 32) e.value) → (s ≡ none → n ≡ none → ⊥) →
+name_formed : (s n : Option Entry) → ((e : Entry) → s ≡ Some e → GoodValue D.ConnMan Kind.Ssid e.value) →
+    ((e : Entry) → n ≡ Some e → GoodValue D.ConnMan (Kind.Text 1 32) e.value) → (s ≡ None → n ≡ None → ⊥) →
     NetworkName (name_from (read_as ssid s) (read_as (string 1 32) n))
-name_formed (some e) n f g h =
+name_formed (Some e) n f g h =
     let r = reads_ssid e.value (f e refl) in
     subst (λ (o : Option (List ℕ)). NetworkName (name_from o (read_as (string 1 32) n))) (sym r.1) (ssid_name e.value r.1)
-name_formed none (some e) f g h =
+name_formed None (Some e) f g h =
     let r = reads_name e.value (g e refl) in
-    subst (λ (o : Option (List ℕ)). NetworkName (name_from none o)) (sym r.1) (text_name e.value (g e refl).text r.1)
-name_formed none none f g h = absurd (h refl refl)
+    subst (λ (o : Option (List ℕ)). NetworkName (name_from None o)) (sym r.1) (text_name e.value (g e refl).text r.1)
+name_formed None None f g h = absurd (h refl refl)
 
 -- ---- the other parts
 
 or_auto_formed : (width most : ℕ) (o : Option Addressing) → IfSome (Good width most) o → Good width most (or_auto o)
-or_auto_formed width most none h = tt
-or_auto_formed width most (some i) h = h
+or_auto_formed width most None h = tt
+or_auto_formed width most (Some i) h = h
 
 service_ipv4_formed : (at : Option Entry) → GoodIpv4 (or_auto (read_as ipv4 at))
 service_ipv4_formed at =
@@ -275,7 +275,7 @@ module _ (name file : List ℕ) (w : ℕ) {n m : ℕ} (a : reading D.ConnMan nam
   service_secret_formed : GoodSecret (service_join (service_setting w file)).credential
   unfolding keys_of
   service_secret_formed =
-      secret_formed (read_as K.passphrase (service_setting w file (word "Passphrase"))) none
+      secret_formed (read_as K.passphrase (service_setting w file (word "Passphrase"))) None
       (read_passphrase (service_setting w file (word "Passphrase")) (λ e q. (service_value D.ConnMan name file a w (word "Passphrase") refl q).text))
       tt
 
@@ -298,13 +298,13 @@ module _ (name file : List ℕ) (w : ℕ) {n m : ℕ} (a : reading D.ConnMan nam
 -- ---- the service that is asked for
 
 -- "Asking the record of an ethernet .. service is 16"
-record_unwired : (at : List ℕ → Option Entry) → no_record at ≡ none → wired at ≡ false
+record_unwired : (at : List ℕ → Option Entry) → no_record at ≡ None → wired at ≡ false
 record_unwired at e = go (wired at) e
   where
     go : (b : Bool) →
-        or_else (only b (some (entry_line (at (word "Type"))))) (only (foreign at) (some (entry_line (at (word "Security"))))) ≡ none →
+        or_else (only b (Some (entry_line (at (word "Type"))))) (only (foreign at) (Some (entry_line (at (word "Security"))))) ≡ None →
         b ≡ false
-    go true e = absurd (none-ne-some (entry_line (at (word "Type"))) (sym e))
+    go true e = absurd (none-some (entry_line (at (word "Type"))) (sym e))
     go false e = refl
 
 pub service_formed : (name file : List ℕ) (w : ℕ) {j : Join} → service_joined name file w ≡ joined j → WellFormed j

@@ -1,6 +1,5 @@
 -- Worked join records: document 01's service and iwd file, defaults, and what has no record.
-use Rattle.std.specs.Prelude.{◌≡◌, refl, false, List, [], ◌∷◌, map, ℕ, replicate}
-use Rattle.std.proofs.Math.Option.{none, some}
+use Rattle.std.specs.Prelude.{◌≡◌, refl, false, List, [], ◌∷◌, map, ℕ, replicate, None, Some}
 use Prim.Native.String.{String}
 use Rattle.text.specs.Bytes.{is_key_byte, is_plain}
 use Rattle.text.specs.Words.{word}
@@ -53,13 +52,13 @@ iwd_cases =
     ("Desk 4.psk", desk, joined worked)
     ∷ ("Desk.open", "", joined (plain_join "Desk" no_secret))
     ∷ ("Desk.psk", "", refused Missing 0)
-    ∷ ("Desk.open", "[IPv4]\nAddress=10.0.0.2\nNetmask=255.255.254.0\nGateway=10.0.0.1", joined (with_numbers (static (10 ∷ 0 ∷ 0 ∷ 2 ∷ []) 23 (some (10 ∷ 0 ∷ 0 ∷ 1 ∷ [])))))
-    ∷ ("Desk.open", "[IPv4]\nAddress=10.0.0.2\nGateway=10.0.0.1", joined (with_numbers (static (10 ∷ 0 ∷ 0 ∷ 2 ∷ []) 24 (some (10 ∷ 0 ∷ 0 ∷ 1 ∷ [])))))
+    ∷ ("Desk.open", "[IPv4]\nAddress=10.0.0.2\nNetmask=255.255.254.0\nGateway=10.0.0.1", joined (with_numbers (static (10 ∷ 0 ∷ 0 ∷ 2 ∷ []) 23 (Some (10 ∷ 0 ∷ 0 ∷ 1 ∷ [])))))
+    ∷ ("Desk.open", "[IPv4]\nAddress=10.0.0.2\nGateway=10.0.0.1", joined (with_numbers (static (10 ∷ 0 ∷ 0 ∷ 2 ∷ []) 24 (Some (10 ∷ 0 ∷ 0 ∷ 1 ∷ [])))))
     ∷ ("Desk.psk", "[Security]\nPreSharedKey=0101010101010101010101010101010101010101010101010101010101010101", joined (plain_join "Desk" (R.key (replicate 32 1))))
     ∷ ("Desk.psk", "[Security]\nPreSharedKey=0101010101010101010101010101010101010101010101010101010101010101\nPassphrase=1234567 ", joined (plain_join "Desk" (passphrase (word "1234567 "))))
     ∷ ("Desk.open", "[IPv4]\nDomainName=\\sab\n[IPv6]\nEnabled=1\n[Settings]\nHidden=0", joined (record { name = word "Desk"; credential = no_secret; hidden = false; ipv4 = auto; servers = []; domain = word " ab"; ipv6 = auto }))
-    ∷ ("Desk.open", "[IPv6]\nAddress=2001:DB8:0:0::14/64\nGateway=2001:db8::1\nEnabled=true", joined (with_ipv6 (static till6 64 (some router6))))
-    ∷ ("Desk.open", "[IPv6]\nGateway=2001:db8::1\nAddress=2001:db8::14", joined (with_ipv6 (static till6 128 (some router6))))
+    ∷ ("Desk.open", "[IPv6]\nAddress=2001:DB8:0:0::14/64\nGateway=2001:db8::1\nEnabled=true", joined (with_ipv6 (static till6 64 (Some router6))))
+    ∷ ("Desk.open", "[IPv6]\nGateway=2001:db8::1\nAddress=2001:db8::14", joined (with_ipv6 (static till6 128 (Some router6))))
     ∷ ("Desk.open", "[IPv6]\nEnabled=0", joined (with_ipv6 off))
     ∷ []
 
@@ -85,7 +84,7 @@ service_cases =
     (1, shop, joined worked)
     ∷ (1, "[service_a]\nType=wifi\nName=Till\nSSID=4465736b\nPassphrase=12345678", joined (plain_join "Desk" (passphrase (word "12345678"))))
     ∷ (2, "[service_a]\nType=ethernet\n[global]\nName=x\n[service_b]\nType=wifi\nName=Desk", joined (plain_join "Desk" no_secret))
-    ∷ (1, "[service_a]\nType=wifi\nName=Desk\nIPv4=10.0.0.2/24", joined (with_numbers (static (10 ∷ 0 ∷ 0 ∷ 2 ∷ []) 24 none)))
+    ∷ (1, "[service_a]\nType=wifi\nName=Desk\nIPv4=10.0.0.2/24", joined (with_numbers (static (10 ∷ 0 ∷ 0 ∷ 2 ∷ []) 24 None)))
     ∷ (1, "[service_a]\nType=ethernet\n[service_b]\nType=wifi\nName=Desk", refused NoPlace 2)
     ∷ (1, "[service_a]\nType=wifi\nName=Desk\nSecurity=wep\nPassphrase=12345678", refused NoPlace 4)
     ∷ (1, "[service_a]\nType=wifi\nSecurity=ieee8021x\nName=Desk", refused NoPlace 3)
@@ -93,8 +92,8 @@ service_cases =
     ∷ (0, "[service_a]\nType=wifi\nName=Desk", refused NoService 0)
     ∷ (1, "[service_a]\nType=wifi\nName=\\s \nPassphrase= \\ta\\nb\\rcde\\s\t", joined (plain_join " " (passphrase (word "\ta\nb\rcde "))))
     ∷ (1, "[service_a]\nType=wifi\nName=Desk\nPassphrase=abcdefg\\ \t", refused ValueText 4)
-    ∷ (1, "[service_a]\nType=wifi\nName=Desk\nIPv6=2001:db8::14/64/2001:DB8::0:1 ", joined (with_ipv6 (static till6 64 (some router6))))
-    ∷ (1, "[service_a]\nType=wifi\nName=Desk\nIPv6=2001:db8::14/64", joined (with_ipv6 (static till6 64 none)))
+    ∷ (1, "[service_a]\nType=wifi\nName=Desk\nIPv6=2001:db8::14/64/2001:DB8::0:1 ", joined (with_ipv6 (static till6 64 (Some router6))))
+    ∷ (1, "[service_a]\nType=wifi\nName=Desk\nIPv6=2001:db8::14/64", joined (with_ipv6 (static till6 64 None)))
     ∷ (1, "[service_a]\nType=wifi\nName=Desk\nIPv6=auto", joined (with_ipv6 auto))
     ∷ (1, "[service_a]\nType=wifi\nName=Desk\nIPv6=2001:db8::14", refused ValueKind 4)
     ∷ []

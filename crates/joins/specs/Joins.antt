@@ -1,7 +1,6 @@
 -- The join record of an iwd file and of a ConnMan service, as document 01 says it under "The join record". A value is
 -- asked for by its group and key; which kind reads it stands in the table of keys.
-use Rattle.std.specs.Prelude.{ℕ, Bool, true, false, cond, ◌||◌, List, [], replicate}
-use Rattle.std.proofs.Math.Option.{Option, none, some}
+use Rattle.std.specs.Prelude.{ℕ, Bool, true, false, cond, ◌||◌, List, [], replicate, Option, None, Some}
 use Rattle.text.specs.Words.{word}
 use Rattle.text.specs.Options.{only, or_else, or_empty}
 use Rattle.text.specs.declared.Dialect.TheVariants as D
@@ -32,40 +31,40 @@ use Rattle.joins.specs.declared.RecordAnswer.{RecordAnswer}
 
 -- "a Passphrase wins over a PreSharedKey"
 abbrev pub secret_from : Option (List ℕ) → Option (List ℕ) → Secret
-secret_from (some p) k = passphrase p
-secret_from none (some k) = key k
-secret_from none none = no_secret
+secret_from (Some p) k = passphrase p
+secret_from None (Some k) = key k
+secret_from None None = no_secret
 
 -- "Netmask absent means 24"
 abbrev pub length_or24 : Option ℕ → ℕ
-length_or24 none = 24
-length_or24 (some n) = n
+length_or24 None = 24
+length_or24 (Some n) = n
 
 -- "no Address means dhcp"
 abbrev pub static_or_dhcp : Option (List ℕ) → Option ℕ → Option (List ℕ) → Addressing
-static_or_dhcp none m g = auto
-static_or_dhcp (some a) m g = static a (length_or24 m) g
+static_or_dhcp None m g = auto
+static_or_dhcp (Some a) m g = static a (length_or24 m) g
 
 -- "Hidden absent means false", in both
 abbrev pub or_false : Option Bool → Bool
-or_false none = false
-or_false (some b) = b
+or_false None = false
+or_false (Some b) = b
 
 -- "iwd's group gains Address (length 128 if left off) and Gateway" (2026-03): no Address means auto
 abbrev pub static_or_auto : Option WithLength → Option (List ℕ) → Addressing
-static_or_auto none g = auto
-static_or_auto (some x) g = static x.address x.length g
+static_or_auto None g = auto
+static_or_auto (Some x) g = static x.address x.length g
 
 -- "Enabled absent or true means auto (house)", or by request 2026-03 what the Address says; false means off
 abbrev pub unless_off : Option Bool → Addressing → Addressing
-unless_off none i = i
-unless_off (some true) i = i
-unless_off (some false) i = off
+unless_off None i = i
+unless_off (Some true) i = i
+unless_off (Some false) i = off
 
 -- "SSID, if present, is the name and Name is ignored"
 abbrev pub name_from : Option (List ℕ) → Option (List ℕ) → List ℕ
-name_from (some s) n = s
-name_from none n = or_empty n
+name_from (Some s) n = s
+name_from None n = or_empty n
 
 -- ---- the record of an iwd file, at giving the setting with a key in the group with a name
 
@@ -111,7 +110,7 @@ service_join at =
     let value = value_of G.Service at in
     record {
       name = name_from (value (word "SSID")) (value (word "Name"));
-      credential = secret_from (value (word "Passphrase")) none;
+      credential = secret_from (value (word "Passphrase")) None;
       hidden = or_false (value (word "Hidden"));
       ipv4 = or_auto (value (word "IPv4"));
       servers = or_empty (value (word "Nameservers"));
@@ -133,7 +132,7 @@ foreign at = foreign_security (value_of G.Service at (word "Security"))
 
 abbrev pub no_record : (List ℕ → Option Entry) → Option ℕ
 no_record at =
-    or_else (only (wired at) (some (entry_line (at (word "Type"))))) (only (foreign at) (some (entry_line (at (word "Security")))))
+    or_else (only (wired at) (Some (entry_line (at (word "Type"))))) (only (foreign at) (Some (entry_line (at (word "Security")))))
 
 -- "A service needs a key when its credential is not none."
 abbrev pub secret_given : Secret → Bool
@@ -153,16 +152,16 @@ pub data Joined : Type 0 where
 
 -- the name that the file name gives
 abbrev pub network_name : Option Network → List ℕ
-network_name none = []
-network_name (some x) = x.name
+network_name None = []
+network_name (Some x) = x.name
 
 abbrev pub joined_if_good : Answer → Joined → Joined
 joined_if_good Good j = j
 joined_if_good (Refused r l) j = refused r l
 
 abbrev pub or_no_place : Option ℕ → Join → Joined
-or_no_place none j = joined j
-or_no_place (some l) j = refused NoPlace l
+or_no_place None j = joined j
+or_no_place (Some l) j = refused NoPlace l
 
 -- of an iwd file under its name
 abbrev pub iwd_joined : List ℕ → List ℕ → Joined

@@ -1,7 +1,6 @@
 -- "A faulty Passphrase line treated as absent, so the service reads as open": what is said of such a line, wherever it
 -- stands in a file of either kind, and of a good one. That it holds is shown in SaturdayHolds; of the move, in `mover`.
-use Rattle.std.specs.Prelude.{ℕ, suc, ◌≤◌, ◌≡◌, true, false, List, ◌∷◌, ◌++◌, length}
-use Rattle.std.proofs.Math.Option.{some}
+use Rattle.std.specs.Prelude.{ℕ, suc, ◌≤◌, ◌≡◌, true, false, List, ◌∷◌, ◌++◌, length, Some}
 use Rattle.text.specs.Parts.{lines}
 use Rattle.text.specs.Words.{word}
 use Rattle.text.specs.Relations.{Sized}
@@ -54,7 +53,7 @@ pub record RefusedBy (d : Dialect) (name file : List ℕ) (n : ℕ) : Type 0 whe
 -- the bytes that a passphrase reads as
 pub record PassphraseRead (v : List ℕ) : Type 0 where
   pub bytes : List ℕ
-  pub is : K.passphrase v ≡ some bytes
+  pub is : K.passphrase v ≡ Some bytes
 
 -- the credential is that passphrase
 pub record PassphraseKept (e : Entry) (j : Join) : Type 0 where

@@ -1,10 +1,9 @@
 -- "Security absent means psk with a Passphrase, none without", and Security psk or none means what it says, of every
 -- record that is answered: a service needs a key exactly when it has a Passphrase line; with psk it needs one, and with
 -- none it needs none.
-use Rattle.std.specs.Prelude.{ℕ, ◌≡◌, refl, Bool, true, false, not, ◌&&◌, ◌||◌, List}
+use Rattle.std.specs.Prelude.{ℕ, ◌≡◌, refl, Bool, true, false, not, ◌&&◌, ◌||◌, List, Option, None, Some}
 use Rattle.std.proofs.Math.Path.{ap}
 use Rattle.std.proofs.Common.{sym, ◌∙◌}
-use Rattle.std.proofs.Math.Option.{Option, none, some}
 use Rattle.text.specs.Options.{is_some}
 use Rattle.text.specs.Words.{word}
 use Rattle.text.specs.declared.Dialect.TheVariants as D
@@ -49,9 +48,9 @@ module _ (es : List Entry) (o : ServiceObeys es) where
 
 -- ---- the record that is answered
 
-secret_some : (o : Option (List ℕ)) → secret_given (secret_from o none) ≡ is_some o
-secret_some none = refl
-secret_some (some p) = refl
+secret_some : (o : Option (List ℕ)) → secret_given (secret_from o None) ≡ is_some o
+secret_some None = refl
+secret_some (Some p) = refl
 
 module _ (name file : List ℕ) (w : ℕ) {j : Join} (a : service_joined name file w ≡ joined j) where
   -- whatever Security says, or says not
@@ -62,7 +61,7 @@ module _ (name file : List ℕ) (w : ℕ) {j : Join} (a : service_joined name fi
       ap needs_key (sym h.is) ∙ secret_some (value_of G.Service (service_setting w file) (word "Passphrase")) ∙ service_given name file h.accepted w (word "Passphrase")
 
   -- a Security line with a word
-  module _ {e : Entry} (l : service_setting w file (word "Security") ≡ some e) where
+  module _ {e : Entry} (l : service_setting w file (word "Security") ≡ Some e) where
     security_is_lem : (s : Word) {v : List ℕ} → e.value ≡ v → is_word s (word_of L.Security v) ≡ true →
         security_is s (service_at w (sections_of D.ConnMan file)) ≡ true
     security_is_lem s q t = rw (l, q) t

@@ -3,63 +3,91 @@ ghost use Rattle.std.specs.Prelude.{◌≡◌};
 ghost use Rattle.places.specs.History.{base};
 ghost use Rattle.values.specs.Rows.{RowOf, RowGives};
 ghost use Rattle.records.specs.Record.{laid};
-ghost use Rattle.joins.specs.Joins.{service_join};
+ghost use Rattle.put.specs.Texts.{bounded};
+ghost use Rattle.names.specs.Names.{network_of};
+ghost use Rattle.joins.specs.Joins.{service_join, network_name};
 ghost use Rattle.joins.specs.Places.{IwdFileRows, iwd_file_join, server_count_at, assembled};
 
-use crate::{Domain, Login, parts};
+use crate::{Login, parts};
 use addresses::Separator;
-use connman_ipv4::Ipv4;
-use ipv6_values::Ipv6;
+use addressing::Numbers;
 use places::rows::base_of;
 use places::{KeyName, Places};
+use put::Bounded;
 use records::JoinRecord;
 use rules::Group;
 use text::Dialect;
 
 // Lays the parts of a record out.
 fn assemble(
-    length: usize,
-    name: [u8; 32],
+    name: Bounded<32>,
     login: Login,
     hidden: bool,
-    numbers: Ipv4,
+    ipv4: Numbers<4>,
     servers: usize,
-    domain: Domain,
-    six: Ipv6,
+    domain: Bounded<253>,
+    ipv6: Numbers<16>,
 ) -> JoinRecord
-    ensures { result ≡ assembled length name login hidden numbers servers domain six }
+    ensures { result ≡ assembled name login hidden ipv4 servers domain ipv6 }
 {
-    let credential = login.credential;
-    let passphrase = login.passphrase;
-    let key = login.key;
-    let ipv4 = numbers.method;
-    let address = numbers.address;
-    let gateway = numbers.gateway;
-    let bytes = domain.bytes;
-    let ipv6 = six.method;
-    let ipv6_address = six.address;
-    let ipv6_gateway = six.gateway;
+    let Bounded {
+        len: name_len,
+        bytes: name,
+    } = name;
+    let Login {
+        credential,
+        passphrase,
+        key,
+    } = login;
+    let Bounded {
+        len: passphrase_len,
+        bytes: passphrase,
+    } = passphrase;
+    let Bounded {
+        len: domain_len,
+        bytes: domain,
+    } = domain;
+    let Numbers {
+        address,
+        gateway,
+        ..
+    } = ipv4;
+    let Numbers {
+        address: ipv6_address,
+        gateway: ipv6_gateway,
+        ..
+    } = ipv6;
     JoinRecord {
-        name_len: length,
+        name_len,
         name,
         credential,
-        passphrase_len: login.length,
+        passphrase_len,
         passphrase,
         key,
         hidden,
-        ipv4,
+        ipv4: ipv4.method,
         address,
-        length: numbers.length,
-        has_gateway: numbers.has_gateway,
+        length: ipv4.length,
+        has_gateway: ipv4.has_gateway,
         gateway,
         server_count: servers,
-        domain_len: domain.length,
-        domain: bytes,
-        ipv6,
+        domain_len,
+        domain,
+        ipv6: ipv6.method,
         ipv6_address,
-        ipv6_length: six.length,
-        has_ipv6_gateway: six.has_gateway,
+        ipv6_length: ipv6.length,
+        has_ipv6_gateway: ipv6.has_gateway,
         ipv6_gateway,
+    }
+}
+
+// The name of the network that an iwd file's name gives, empty where it gives none.
+fn network_name(name: &[u8]) -> Bounded<32>
+    ensures { result ≡ bounded 32 (network_name (network_of name.now)) }
+{
+    match names::read_iwd_name(name) {
+        Some(network) => network.name,
+        None => Bounded::none(),
     }
 }
 
@@ -69,23 +97,15 @@ pub fn iwd_join(name: &[u8], file: &[u8], x: &Places, count: usize) -> JoinRecor
     requires counted { count ≡ server_count_at Separator.Spaces file.now x.now (base Group.Ipv4 0) KeyName.Dns }
     ensures { result ≡ laid (iwd_file_join name.now file.now) }
 {
-    let network = names::read_iwd_name(name);
-    let login = parts::iwd_login(file, x, base_of(Group::Security, 0));
-    let hidden = parts::hidden_at(x, base_of(Group::Settings, 0), KeyName::IwdHidden);
     let row = base_of(Group::Ipv4, 0);
-    let numbers = parts::iwd_numbers(file, x, row);
-    let domain = parts::domain_at(file, x, row, KeyName::DomainName);
-    let ipv6 = parts::iwd_ipv6(file, x, base_of(Group::Ipv6, 0));
-    let bytes = network.bytes;
     assemble(
-        network.length,
-        bytes,
-        login,
-        hidden,
-        numbers,
+        network_name(name),
+        parts::iwd_login(file, x, base_of(Group::Security, 0)),
+        parts::hidden_at(x, base_of(Group::Settings, 0), KeyName::IwdHidden),
+        parts::iwd_numbers(file, x, row),
         count,
-        domain,
-        ipv6,
+        parts::domain_at(file, x, row, KeyName::DomainName),
+        parts::iwd_ipv6(file, x, base_of(Group::Ipv6, 0)),
     )
 }
 
@@ -95,21 +115,13 @@ pub fn service_join(file: &[u8], x: &Places, row: usize, count: usize) -> JoinRe
     requires counted { count ≡ server_count_at Separator.Comma file.now x.now row KeyName.Nameservers }
     ensures { RowGives Dialect.ConnMan file.now x.now row Group.Service (λ at. laid (service_join at)) result }
 {
-    let name = parts::service_name(file, x, row);
-    let login = parts::service_login(file, x, row);
-    let hidden = parts::hidden_at(x, row, KeyName::Hidden);
-    let numbers = values::ipv4_at(file, x, row, KeyName::Ipv4);
-    let domain = parts::domain_at(file, x, row, KeyName::Domain);
-    let ipv6 = values::ipv6_at(file, x, row, KeyName::Ipv6);
-    let bytes = name.bytes;
     assemble(
-        name.length,
-        bytes,
-        login,
-        hidden,
-        numbers,
+        parts::service_name(file, x, row),
+        parts::service_login(file, x, row),
+        parts::hidden_at(x, row, KeyName::Hidden),
+        parts::service_ipv4(file, x, row),
         count,
-        domain,
-        ipv6,
+        parts::domain_at(file, x, row, KeyName::Domain),
+        parts::service_ipv6(file, x, row),
     )
 }

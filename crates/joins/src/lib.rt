@@ -8,6 +8,7 @@
 pub mod joining;
 pub mod parts;
 
+use put::Bounded;
 use records::{Credential, JoinRecord};
 use rules::Answer;
 
@@ -18,33 +19,10 @@ pub struct RecordAnswer {
     pub record: JoinRecord,
 }
 
-// A passphrase, the first `length` of `bytes`, with zeros behind it; one that is absent is not ok, and zeros.
-#[derive(Clone, Copy)]
-pub struct Phrase {
-    pub ok: bool,
-    pub length: usize,
-    pub bytes: [u8; 63],
-}
-
-// A domain, the first `length` of `bytes`, with zeros behind it; one that is absent has length 0.
-#[derive(Clone, Copy)]
-pub struct Domain {
-    pub length: usize,
-    pub bytes: [u8; 253],
-}
-
 // A record's credential with its places.
 #[derive(Clone, Copy)]
 pub struct Login {
     pub credential: Credential,
-    pub length: usize,
-    pub passphrase: [u8; 63],
+    pub passphrase: Bounded<63>,
     pub key: [u8; 32],
-}
-
-// The line for which a service has no record, if there is one.
-#[derive(Clone, Copy)]
-pub enum Hindrance {
-    Nothing,
-    At(usize),
 }

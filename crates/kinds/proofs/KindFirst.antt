@@ -8,12 +8,15 @@ use Rattle.text.specs.declared.Place.{Place}
 use Rattle.utf8.specs.Utf8.{value_text}
 use Rattle.kinds.specs.Typed.{Judged, good, broken_text, broken_kind, kind_judged, judged}
 use Rattle.kinds.specs.Answers.{judgement_at}
-use Rattle.kinds.specs.Judging.{is_free_text, broken_judgement}
+use Rattle.kinds.specs.Judging.{is_free_text, broken_by}
 use Rattle.kinds.proofs.Printable.{good_text}
 use Rattle.kinds.specs.declared.Kind.{Kind}
 use Rattle.kinds.specs.declared.Kind.TheVariants as K
-use Rattle.kinds.specs.declared.Judgement.{Judgement}
-use Rattle.kinds.specs.declared.Judgement.TheVariants.{BrokenKind}
+use Rattle.std.specs.Prelude.{Result, Ok, Err, is_ok}
+use Rattle.std.proofs.Common.{true≢false}
+use Rattle.kinds.specs.declared.Value.{Value}
+use Rattle.kinds.specs.declared.Broken.{Broken}
+use Rattle.kinds.specs.declared.Broken.TheVariants as B
 
 -- ---- the kinds other than free text
 
@@ -35,24 +38,29 @@ printable_kind K.Ssid e p t = refl
 printable_kind K.Passphrase e p t = absurd (p refl)
 printable_kind (K.Text low high) e p t = absurd (t low high refl)
 
+abbrev is_text_error : Result Value Broken → Bool
+is_text_error (Ok x) = false
+is_text_error (Err B.Text) = true
+is_text_error (Err B.Kind) = false
+
 -- ---- the judgement j by the kind
 
 module _ (d : Dialect) (k : Kind) (v : List ℕ) (p : Place)
-    {j : Judgement} (e : j ≡ judgement_at p (kind_judged d k v)) where
-  pub broken_judged : j ≡ BrokenKind → {r : Judgement} → r ≡ broken_judgement (value_text v) →
-      r ≡ judgement_at p (judged d k v)
+    {j : Result Value Broken} (e : j ≡ judgement_at p (kind_judged d k v)) where
+  pub broken_judged : j ≡ Err B.Kind → {r : Broken} → r ≡ broken_by (value_text v) →
+      Err r ≡ judgement_at p (judged d k v)
   unfolding judged
-  broken_judged q h = h ∙ go (value_text v)
+  broken_judged q h = ap Err h ∙ go (value_text v)
     where
-      go : (t : Bool) → broken_judgement t ≡ judgement_at p (cond t (kind_judged d k v) broken_text)
+      go : (t : Bool) → Err (broken_by t) ≡ judgement_at p (cond t (kind_judged d k v) broken_text)
       go true = sym q ∙ e
       go false = refl
 
-  pub text_judged : value_text v ≡ true → j ≡ judgement_at p (judged d k v)
+  pub text_judged : value_text v ≡ true → {r : Result Value Broken} → j ≡ r → r ≡ judgement_at p (judged d k v)
   unfolding judged
-  text_judged t = rw t e
+  text_judged t q = sym q ∙ rw t e
 
-  pub kind_judged_lem : is_free_text k ≡ false → (j ≡ BrokenKind → ⊥) → j ≡ judgement_at p (judged d k v)
+  kind_judged_lem : is_free_text k ≡ false → (j ≡ Err B.Kind → ⊥) → j ≡ judgement_at p (judged d k v)
   unfolding judged
   kind_judged_lem n u = go (kind_judged d k v) refl
     where
@@ -64,3 +72,10 @@ module _ (d : Dialect) (k : Kind) (v : List ℕ) (p : Place)
       go (good t) q = rw (good_text d k v n q) e
       go broken_text q = e ∙ rw q (sym (broken (value_text v)))
       go broken_kind q = absurd (u (e ∙ ap (judgement_at p) q))
+
+  -- a good value, and one whose text is broken
+  pub good_judged : is_free_text k ≡ false → {x : Value} → j ≡ Ok x → Ok x ≡ judgement_at p (judged d k v)
+  good_judged n q = sym q ∙ kind_judged_lem n (λ u. true≢false (ap is_ok (sym q ∙ u)))
+
+  pub broken_text_judged : is_free_text k ≡ false → j ≡ Err B.Text → Err B.Text ≡ judgement_at p (judged d k v)
+  broken_text_judged n q = sym q ∙ kind_judged_lem n (λ u. true≢false (ap is_text_error (sym q ∙ u)))

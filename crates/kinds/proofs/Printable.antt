@@ -1,7 +1,6 @@
 -- A good value of every kind but free text is printable, so its text is whole.
-use Rattle.std.specs.Prelude.{ℕ, ◌≡◌, refl, Bool, true, false, cond, List}
+use Rattle.std.specs.Prelude.{ℕ, ◌≡◌, refl, Bool, true, false, cond, List, Option, None, Some}
 use Rattle.std.proofs.Common.{arith, true≢false}
-use Rattle.std.proofs.Math.Option.{Option, none, some}
 use Rattle.text.specs.Printable.{Printable}
 use Rattle.text.specs.declared.Dialect.{Dialect}
 use Rattle.utf8.specs.Utf8.{value_text}
@@ -44,5 +43,5 @@ good_text d k v {t} n e = go (string_broken k v) (typed d k v) refl e
   where
     go : (b : Bool) (o : Option Typed) → typed d k v ≡ o → cond b broken_text (by_kind o) ≡ good t → value_text v ≡ true
     go true o q e = let z : ◌≡◌ {A = ℕ} 0 1 = cc in absurd (omega arith)
-    go false none q e = let z : ◌≡◌ {A = ℕ} 0 1 = cc in absurd (omega arith)
-    go false (some u) q e = text_printable true v (value_printable (typed_value d k v q) n)
+    go false None q e = let z : ◌≡◌ {A = ℕ} 0 1 = cc in absurd (omega arith)
+    go false (Some u) q e = text_printable true v (value_printable (typed_value d k v q) n)

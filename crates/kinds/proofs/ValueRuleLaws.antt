@@ -1,7 +1,6 @@
 -- A value is read by its kind exactly as the rules say, and its text is judged broken exactly where the rules say so.
-use Rattle.std.specs.Prelude.{ℕ, ◌≤◌, ◌≡◌, refl, Bool, true, false, not, List, [], ◌∷◌, length}
+use Rattle.std.specs.Prelude.{ℕ, ◌≤◌, ◌≡◌, refl, Bool, true, false, not, List, [], ◌∷◌, length, Option, Some}
 use Rattle.std.proofs.Common.{ap, subst, true≢false}
-use Rattle.std.proofs.Math.Option.{Option, some}
 use Rattle.text.specs.Bytes.{other}
 use Rattle.text.specs.Parts.{all}
 use Rattle.text.specs.Options.{is_some, mapped}
@@ -38,17 +37,17 @@ use Rattle.kinds.specs.declared.Kind.TheVariants as K
 
 -- ---- strings
 
-text_is : (low high : ℕ) (v : List ℕ) {t : List ℕ} → string low high v ≡ some t →
+text_is : (low high : ℕ) (v : List ℕ) {t : List ℕ} → string low high v ≡ Some t →
     TextIs low high v t
 unfolding string
 text_is low high v e = let s = sized_is low high (unescape v) e in record { is = unescape_is v s.1; size = s.0 }
 
 is_text_lem : (low high : ℕ) (v : List ℕ) {t : List ℕ} → TextIs low high v t →
-    string low high v ≡ some t
+    string low high v ≡ Some t
 unfolding string
 is_text_lem low high v h = is_sized low high (unescape v) h.size (is_unescape h.is)
 
-pub string_size : (low high : ℕ) (v : List ℕ) {t : List ℕ} → string low high v ≡ some t →
+pub string_size : (low high : ℕ) (v : List ℕ) {t : List ℕ} → string low high v ≡ Some t →
     (low ≤ length t) × (length t ≤ high)
 unfolding string
 string_size low high v {t} e =
@@ -59,10 +58,10 @@ string_size low high v {t} e =
 
 module _ {A : Type 0} (d : Dialect) (k : Kind) (v : List ℕ) (f : A → Typed) (o : Option A) where
   -- what is read of a value is its typed value
-  given : ((a : A) → o ≡ some a → ValueIs d k v (f a)) → {t : Typed} → mapped f o ≡ some t → ValueIs d k v t
+  given : ((a : A) → o ≡ Some a → ValueIs d k v (f a)) → {t : Typed} → mapped f o ≡ Some t → ValueIs d k v t
   given g e = let m = mapped_some f o e in subst (ValueIs d k v) m.2 (g m.0 m.1)
 
-pub typed_value : (d : Dialect) (k : Kind) (v : List ℕ) {t : Typed} → typed d k v ≡ some t → ValueIs d k v t
+pub typed_value : (d : Dialect) (k : Kind) (v : List ℕ) {t : Typed} → typed d k v ≡ Some t → ValueIs d k v t
 unfolding typed
 typed_value d K.Flag v e = given d K.Flag v T.flag (flag d v) (λ b q. R.flag (flag_means d v q)) e
 typed_value d (K.Named l) v e = given d (K.Named l) v T.word (word_of l v) (λ w q. R.named (word_means l v q)) e
@@ -84,7 +83,7 @@ typed_value d K.Passphrase v e =
 typed_value d (K.Text low high) v e =
     given d (K.Text low high) v T.bytes (string low high v) (λ b q. R.text (text_is low high v q)) e
 
-pub value_typed : (d : Dialect) (k : Kind) (v : List ℕ) {t : Typed} → ValueIs d k v t → typed d k v ≡ some t
+pub value_typed : (d : Dialect) (k : Kind) (v : List ℕ) {t : Typed} → ValueIs d k v t → typed d k v ≡ Some t
 unfolding typed
 value_typed d k v (R.flag h) = ap (mapped T.flag) (means_flag d v h)
 value_typed d k v (R.named {l} h) = ap (mapped T.word) (means_word l v h)

@@ -1,7 +1,6 @@
 -- What is written of a value: it is text, it stands on a line, and it reads back by its kind.
-use Rattle.std.specs.Prelude.{ℕ, ◌≤◌, ◌≡◌, refl, Bool, true, false, ◌||◌, List, [], ◌∷◌, ◌++◌, eqb, length}
+use Rattle.std.specs.Prelude.{ℕ, ◌≤◌, ◌≡◌, refl, Bool, true, false, ◌||◌, List, [], ◌∷◌, ◌++◌, eqb, length, Some}
 use Rattle.std.proofs.Common.{arith, ◌∙◌, true≢false, eqb-true}
-use Rattle.std.proofs.Math.Option.{some}
 use Rattle.text.specs.Bytes.{is_byte, between, in_line, is_blank, is_digit, is_lower_hex}
 use Rattle.text.specs.Parts.{all, after, empty}
 use Rattle.text.specs.Laws.{inside, between_low, between_high, pass_other, all_cons, all_weaken, all_other, all_append}
@@ -33,7 +32,7 @@ pub escape_stands : (t : List ℕ) → record_text t ≡ true → StandsOnLine (
 escape_stands t h = record { text = escape_text t ∙ h; line = escape_line t; start = escape_start t }
 
 pub string_escape : (low high : ℕ) (t : List ℕ) → low ≤ length t → length t ≤ high →
-    string low high (escape t) ≡ some t
+    string low high (escape t) ≡ Some t
 unfolding string
 string_escape low high t h g = rw (unescape_escape t, inside {x = length t} low high h g)
 

@@ -1,8 +1,7 @@
 -- The kinds of values that are strings, as document 01 lists them under "Settings and their kinds": none where the value breaks its kind.
 -- The others are in the crates below: `NamedWords`, `Addresses`, `Ipv6`, `ConnmanIpv4`, `Ipv6Values`, `EntryLists`, `HexValues`; `Typed` lists
 -- them all.
-use Rattle.std.specs.Prelude.{ℕ, List}
-use Rattle.std.proofs.Math.Option.{Option}
+use Rattle.std.specs.Prelude.{ℕ, List, Option}
 use Rattle.text.specs.Options.{sized}
 use Rattle.escapes.specs.Escapes.{unescape}
 

@@ -1,6 +1,5 @@
 -- What a value is once it is read by its kind, and how a value is judged: refusal 11 before refusal 12.
-use Rattle.std.specs.Prelude.{ℕ, Bool, false, cond, not, List}
-use Rattle.std.proofs.Math.Option.{Option, none, some}
+use Rattle.std.specs.Prelude.{ℕ, Bool, false, cond, not, List, Option, None, Some}
 use Rattle.text.specs.Options.{is_some, mapped}
 use Rattle.text.specs.declared.Dialect.{Dialect}
 use Rattle.utf8.specs.Utf8.{value_text}
@@ -77,8 +76,8 @@ pub data Judged : Type 0 where
   broken_kind : Judged
 
 abbrev pub by_kind : Option Typed → Judged
-by_kind none = broken_kind
-by_kind (some t) = good t
+by_kind None = broken_kind
+by_kind (Some t) = good t
 
 -- by its kind, where its text is good so far
 unfoldable pub kind_judged : Dialect → Kind → List ℕ → Judged

@@ -4,101 +4,51 @@ ghost use Rattle.text.specs.Parts.{part_at, Inside};
 ghost use Rattle.utf8.specs.Utf8.{value_text};
 ghost use Rattle.kinds.specs.Typed.{kind_judged, judged};
 ghost use Rattle.kinds.specs.Answers.{judgement_at};
-ghost use Rattle.kinds.specs.Judging.{kept_at, flag_judgement, word_judgement, mask_judgement, string_judgement, is_free_text, broken_judgement};
+ghost use Rattle.kinds.specs.Judging.{kept_at, string_judgement, is_free_text, broken_by};
 
-use crate::{Judgement, Kind, Value};
-use addresses::Netmask;
-use escapes::Size;
-use named_words::{NamedWord, YesNo};
+use crate::{Broken, Kind, Value};
 use text::{Dialect, Place};
 
 // A value that is kept by its place, if its kind is good.
-fn kept(ok: bool, at: Place) -> Judgement
-    ensures { result ≡ kept_at at ok }
+fn kept(good: bool, at: Place) -> Result<Value, Broken>
+    ensures { result ≡ kept_at at good }
 {
-    if ok {
-        return Judgement::Good(Value::Text(at));
-    }
-    Judgement::BrokenKind
+    good.then_some(Value::Text(at)).ok_or(Broken::Kind)
 }
 
-fn flag_judgement(y: YesNo) -> Judgement
-    ensures { result ≡ flag_judgement y }
+// A string of low to high bytes, by its length once unescaped; one that has a broken escape has none.
+fn string_judgement(length: Option<usize>, low: u8, high: u8, at: Place) -> Result<Value, Broken>
+    ensures { result ≡ string_judgement at low high length }
 {
-    match y {
-        YesNo::Is(b) => Judgement::Good(Value::Flag(b)),
-        YesNo::Broken => Judgement::BrokenKind,
-    }
-}
-
-fn word_judgement(w: NamedWord) -> Judgement
-    ensures { result ≡ word_judgement w }
-{
-    match w {
-        NamedWord::Is(word) => Judgement::Good(Value::Word(word)),
-        NamedWord::Broken => Judgement::BrokenKind,
-    }
-}
-
-fn mask_judgement(m: Netmask) -> Judgement
-    ensures { result ≡ mask_judgement m }
-{
-    match m {
-        Netmask::Length(n) => Judgement::Good(Value::Mask(n)),
-        Netmask::Broken => Judgement::BrokenKind,
-    }
-}
-
-// A string of low to high bytes, by its size once unescaped.
-fn string_judgement(size: Size, low: u8, high: u8, at: Place) -> Judgement
-    ensures { result ≡ string_judgement at low high size }
-{
-    let Size::Long(n) = size else {
-        return Judgement::BrokenText;
-    };
+    let n = length.ok_or(Broken::Text)?;
     if n < low as usize {
-        return Judgement::BrokenKind;
+        return Err(Broken::Kind);
     }
     kept(n <= high as usize, at)
 }
 
 // The value v by its kind alone.
-fn judge_kind(d: Dialect, kind: Kind, v: &[u8], at: Place) -> Judgement
+fn judge_kind(d: Dialect, kind: Kind, v: &[u8], at: Place) -> Result<Value, Broken>
     ensures { result ≡ judgement_at at (kind_judged d kind v.now) }
 {
     match kind {
-        Kind::Flag => flag_judgement(named_words::read_flag(d, v)),
-        Kind::Named(w) => word_judgement(named_words::read_word(w, v)),
-        Kind::Address => {
-            let a = addresses::numbers::read_address(v);
-            kept(a.ok, at)
-        }
-        Kind::Netmask => mask_judgement(addresses::masks::read_netmask(v)),
-        Kind::Ipv4 => {
-            let a = connman_ipv4::read_ipv4(v);
-            kept(a.ok, at)
-        }
-        Kind::Ipv6 => {
-            let a = ipv6_values::read_ipv6(v);
-            kept(a.ok, at)
-        }
-        Kind::Ipv6Address => {
-            let a = ipv6::reading::read_address(v);
-            kept(a.ok, at)
-        }
-        Kind::Ipv6WithLength => {
-            let a = ipv6_values::read_with_length(v);
-            kept(a.ok, at)
-        }
+        Kind::Flag => named_words::read_flag(d, v)
+            .map(Value::Flag)
+            .ok_or(Broken::Kind),
+        Kind::Named(w) => named_words::read_word(w, v)
+            .map(Value::Word)
+            .ok_or(Broken::Kind),
+        Kind::Netmask => addresses::masks::read_netmask(v)
+            .map(Value::Mask)
+            .ok_or(Broken::Kind),
+        Kind::Address => kept(addresses::numbers::read_address(v).is_some(), at),
+        Kind::Ipv4 => kept(connman_ipv4::read_ipv4(v).is_some(), at),
+        Kind::Ipv6 => kept(ipv6_values::read_ipv6(v).is_some(), at),
+        Kind::Ipv6Address => kept(ipv6::reading::read_address(v).is_some(), at),
+        Kind::Ipv6WithLength => kept(ipv6_values::read_with_length(v).is_some(), at),
         Kind::Addresses(sep) => kept(addresses::lists::count_addresses(v, sep) != 0, at),
-        Kind::Entries => {
-            let e = entry_lists::read_entries(v, 0);
-            kept(e.count != 0, at)
-        }
-        Kind::Mac => {
-            let m = hex_values::read_mac(v);
-            kept(m.ok, at)
-        }
+        Kind::Entries => kept(entry_lists::read_entries(v, 0).is_some(), at),
+        Kind::Mac => kept(hex_values::read_mac(v).is_some(), at),
         Kind::PreSharedKey => kept(hex_values::is_pre_shared_key(v), at),
         Kind::Ssid => kept(hex_values::is_ssid(v), at),
         Kind::Passphrase => string_judgement(escapes::string_len(v), 8, 63, at),
@@ -118,31 +68,29 @@ fn is_free_text(kind: Kind) -> bool
     }
 }
 
-// The value v, which breaks its kind: broken text goes before that.
-fn broken_judgement(v: &[u8]) -> Judgement
-    ensures { result ≡ broken_judgement (value_text v.now) }
+// Why the value v is not good, which breaks its kind: broken text goes before that.
+fn broken(v: &[u8]) -> Broken
+    ensures { result ≡ broken_by (value_text v.now) }
 {
     if utf8::is_value_text(v) {
-        return Judgement::BrokenKind;
+        return Broken::Kind;
     }
-    Judgement::BrokenText
+    Broken::Text
 }
 
 // The value that stands at a place of the file, by its kind. Free text is asked for its text first; a good value of any other
 // kind is printable ASCII, so only one that breaks its kind is asked.
-pub fn judge(d: Dialect, kind: Kind, file: &[u8], at: Place) -> Judgement
+pub fn judge(d: Dialect, kind: Kind, file: &[u8], at: Place) -> Result<Value, Broken>
     requires { Inside (length file.now) at }
     ensures { result ≡ judgement_at at (judged d kind (part_at file.now at)) }
 {
-    let start = at.start;
-    let end = at.end;
-    let v = &file[start..end];
+    let v = &file[at.start..at.end];
     if is_free_text(kind) && !utf8::is_value_text(v) {
-        return Judgement::BrokenText;
+        return Err(Broken::Text);
     }
-    let j = judge_kind(d, kind, v, at);
-    match j {
-        Judgement::BrokenKind => broken_judgement(v),
-        _ => j,
+    match judge_kind(d, kind, v, at) {
+        Ok(value) => Ok(value),
+        Err(Broken::Text) => Err(Broken::Text),
+        Err(Broken::Kind) => Err(broken(v)),
     }
 }

@@ -40,10 +40,9 @@ pub enum Value {
     Text(Place),
 }
 
-// A value that is good, whose text is broken (11), or that breaks its kind (12).
+// Why a value is not good: its text is broken (11), or it breaks its kind (12).
 #[derive(Clone, Copy)]
-pub enum Judgement {
-    Good(Value),
-    BrokenText,
-    BrokenKind,
+pub enum Broken {
+    Text,
+    Kind,
 }

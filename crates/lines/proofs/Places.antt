@@ -16,38 +16,40 @@ use Rattle.text.specs.declared.Dialect.{Dialect}
 use Rattle.text.specs.declared.Dialect.TheVariants.{Iwd, ConnMan}
 use Rattle.lines.specs.Lines.{Line, blank, comment, header, setting, broken, extends, closed, bracket_of, ended, equal_of, behind_equal, setting_of, body_of, line_of, value_start}
 use Rattle.lines.specs.Forms.{run_end, value_from, value_place, form_in, form_at}
+use Rattle.std.specs.Prelude.{Result, Ok, Err}
+use Rattle.lines.specs.declared.Break.{Break}
 use Rattle.lines.specs.declared.Form.{Form}
-use Rattle.lines.specs.declared.Form.TheVariants.{Blank, Comment, Header, Setting, Broken}
+use Rattle.lines.specs.declared.Form.TheVariants.{Blank, Comment, Header, Setting}
 use Rattle.lines.specs.declared.Break.TheVariants.{Unrecognized, Extension, BadHeader}
 
 -- ---- what a form says of its line
 
 -- the line that a form with places in l stands for
-abbrev pub line_of_form : List ℕ → Form → Line
-line_of_form l Blank = blank
-line_of_form l Comment = comment
-line_of_form l (Header p) = header (part_at l p)
-line_of_form l (Setting k v) = setting (part_at l k) (part_at l v)
-line_of_form l (Broken b) = broken b
+abbrev pub line_of_form : List ℕ → Result Form Break → Line
+line_of_form l (Ok Blank) = blank
+line_of_form l (Ok Comment) = comment
+line_of_form l (Ok (Header p)) = header (part_at l p)
+line_of_form l (Ok (Setting k v)) = setting (part_at l k) (part_at l v)
+line_of_form l (Err b) = broken b
 
 -- the places lie in n bytes
-abbrev pub PlacesInside : ℕ → Form → Type 0
-PlacesInside n Blank = Unit
-PlacesInside n Comment = Unit
-PlacesInside n (Header p) = Inside n p
-PlacesInside n (Setting k v) = Inside n k × Inside n v
-PlacesInside n (Broken b) = Unit
+abbrev pub PlacesInside : ℕ → Result Form Break → Type 0
+PlacesInside n (Ok Blank) = Unit
+PlacesInside n (Ok Comment) = Unit
+PlacesInside n (Ok (Header p)) = Inside n p
+PlacesInside n (Ok (Setting k v)) = Inside n k × Inside n v
+PlacesInside n (Err b) = Unit
 
 -- a value starts where `value_start` says
-abbrev pub ValueStarts : Dialect → List ℕ → Form → Type 0
-ValueStarts d l Blank = Unit
-ValueStarts d l Comment = Unit
-ValueStarts d l (Header p) = Unit
-ValueStarts d l (Setting k v) = v.start ≡ value_start d l
-ValueStarts d l (Broken b) = Unit
+abbrev pub ValueStarts : Dialect → List ℕ → Result Form Break → Type 0
+ValueStarts d l (Ok Blank) = Unit
+ValueStarts d l (Ok Comment) = Unit
+ValueStarts d l (Ok (Header p)) = Unit
+ValueStarts d l (Ok (Setting k v)) = v.start ≡ value_start d l
+ValueStarts d l (Err b) = Unit
 
 -- the form r is the line l, and its places lie in l
-pub record Forms (d : Dialect) (l : List ℕ) (r : Form) : Type 0 where
+pub record Forms (d : Dialect) (l : List ℕ) (r : Result Form Break) : Type 0 where
   pub is : line_of_form l r ≡ line_of d l
   pub placed : PlacesInside (length l) r
   pub starts : ValueStarts d l r

@@ -1,12 +1,13 @@
 -- A line by the places in it: which form the code answers, as a definition, and what its private steps answer.
-use Rattle.std.specs.Prelude.{ℕ, ◌+◌, ◌≤◌, ◌≡◌, Bool, List, length, drop}
+use Rattle.std.specs.Prelude.{ℕ, ◌+◌, ◌≤◌, ◌≡◌, Bool, List, length, drop, Result, Ok, Err}
 use Rattle.text.specs.Bytes.{is_blank, is_header_byte, is_key_byte}
 use Rattle.text.specs.Parts.{lead, part}
 use Rattle.text.specs.declared.Dialect.{Dialect}
 use Rattle.text.specs.declared.Place.{Place}
 use Rattle.lines.specs.Lines.{Line, blank, comment, header, setting, broken, extends, ended, line_of}
+use Rattle.lines.specs.declared.Break.{Break}
 use Rattle.lines.specs.declared.Form.{Form}
-use Rattle.lines.specs.declared.Form.TheVariants.{Blank, Comment, Header, Setting, Broken}
+use Rattle.lines.specs.declared.Form.TheVariants.{Blank, Comment, Header, Setting}
 
 -- where the run of bytes p that starts at i ends, and its place
 abbrev pub run_end : (ℕ → Bool) → List ℕ → ℕ → ℕ
@@ -25,16 +26,16 @@ value_place d l v = record { start = v; end = v + length (ended d (drop v l)) }
 
 -- what a line is, by places in l, where its first byte that is no blank is at i: a header's name stands behind its
 -- `[`, a setting's key at i, and its value behind the `=` and its whitespace
-abbrev pub form_in : Dialect → List ℕ → ℕ → Line → Form
-form_in d l i blank = Blank
-form_in d l i comment = Comment
-form_in d l i (header name) = Header (run_at is_header_byte l (i + 1))
+abbrev pub form_in : Dialect → List ℕ → ℕ → Line → Result Form Break
+form_in d l i blank = Ok Blank
+form_in d l i comment = Ok Comment
+form_in d l i (header name) = Ok (Header (run_at is_header_byte l (i + 1)))
 form_in d l i (setting key value) =
-    Setting (run_at (is_key_byte d) l i) (value_place d l (value_from l (run_end (is_key_byte d) l i)))
-form_in d l i (broken b) = Broken b
+    Ok (Setting (run_at (is_key_byte d) l i) (value_place d l (value_from l (run_end (is_key_byte d) l i))))
+form_in d l i (broken b) = Err b
 
--- the form of the line l
-unfoldable pub form_at : Dialect → List ℕ → Form
+-- the form of the line l, or which rule it breaks
+unfoldable pub form_at : Dialect → List ℕ → Result Form Break
 form_at d l = form_in d l (lead is_blank l) (line_of d l)
 
 -- ---- the answers of the steps

@@ -25,7 +25,6 @@ pub enum Form {
     Comment,
     Header(Place),
     Setting(Place, Place),
-    Broken(Break),
 }
 
 // Whether the line starts with `[@` where that begins an extension; from is the place behind the bracket.
@@ -34,40 +33,29 @@ fn is_extension(d: Dialect, line: &[u8], from: usize) -> bool
     ensures { Begins d line.now from result }
 {
     match d {
-        Dialect::Iwd => {
-            if from == line.len() {
-                return false;
-            }
-            line[from] == 64
-        }
+        Dialect::Iwd => from < line.len() && line[from] == 64,
         Dialect::ConnMan => false,
     }
 }
 
 // The line whose bracket is at a place.
-fn header_form(d: Dialect, line: &[u8], at: usize) -> Form
+fn header_form(d: Dialect, line: &[u8], at: usize) -> Result<Form, Break>
     requires { at < length line.now }
     ensures { result ≡ form_in d line.now at (bracket_of d (drop (at + 1) line.now)) }
 {
     let from = at + 1;
     if is_extension(d, line, from) {
-        return Form::Broken(Break::Extension);
+        return Err(Break::Extension);
     }
     let end = text::scan::run_end(line, from, Class::Header);
-    if end == line.len() {
-        return Form::Broken(Break::BadHeader);
-    }
-    if end == from {
-        return Form::Broken(Break::BadHeader);
-    }
-    if line[end] != 93 {
-        return Form::Broken(Break::BadHeader);
+    if end == line.len() || end == from || line[end] != 93 {
+        return Err(Break::BadHeader);
     }
     let rest = text::scan::blank_end(line, end + 1);
     if rest != line.len() {
-        return Form::Broken(Break::BadHeader);
+        return Err(Break::BadHeader);
     }
-    Form::Header(Place { start: from, end })
+    Ok(Form::Header(Place { start: from, end }))
 }
 
 // The end of the value that starts at from.
@@ -82,46 +70,35 @@ fn value_end(d: Dialect, line: &[u8], from: usize) -> usize
 }
 
 // The line from its first byte that is no blank on, which is neither `#` nor `[`.
-fn setting_form(d: Dialect, line: &[u8], at: usize) -> Form
+fn setting_form(d: Dialect, line: &[u8], at: usize) -> Result<Form, Break>
     requires { at ≤ length line.now }
     ensures { result ≡ form_in d line.now at (setting_of d (drop at line.now)) }
 {
     let key_end = text::scan::key_end(d, line, at);
     let equal = text::scan::blank_end(line, key_end);
-    if equal == line.len() {
-        return Form::Broken(Break::Unrecognized);
-    }
-    if key_end == at {
-        return Form::Broken(Break::Unrecognized);
-    }
-    if line[equal] != 61 {
-        return Form::Broken(Break::Unrecognized);
+    if equal == line.len() || key_end == at || line[equal] != 61 {
+        return Err(Break::Unrecognized);
     }
     let start = text::scan::blank_end(line, equal + 1);
     let end = value_end(d, line, start);
-    Form::Setting(
-        Place {
-            start: at,
-            end: key_end,
-        },
-        Place { start, end },
-    )
+    let key = Place {
+        start: at,
+        end: key_end,
+    };
+    Ok(Form::Setting(key, Place { start, end }))
 }
 
-// What the line is. The line is a part of the file without its byte 10, and the places are counted from its start.
-pub fn form_of(d: Dialect, line: &[u8]) -> Form
+// What the line is, or which rule it breaks. The line is a part of the file without its byte 10, and the places are counted from its start.
+pub fn form_of(d: Dialect, line: &[u8]) -> Result<Form, Break>
     ensures { result ≡ form_at d line.now }
 {
     let at = text::scan::blank_end(line, 0);
     if at == line.len() {
-        return Form::Blank;
+        return Ok(Form::Blank);
     }
-    let first = line[at];
-    if first == 35 {
-        return Form::Comment;
+    match line[at] {
+        35 => Ok(Form::Comment),
+        91 => header_form(d, line, at),
+        _ => setting_form(d, line, at),
     }
-    if first == 91 {
-        return header_form(d, line, at);
-    }
-    setting_form(d, line, at)
 }

@@ -4,7 +4,7 @@ use native.Mathlib.Omega.{arith}
 use mathlib.Core.Path.{◌≡◌, refl, ap, ◌∙◌, subst}
 use mathlib.Core.Bool.{true}
 use mathlib.Core.List.{List}
-use mathlib.Core.Option.{Option, none, some}
+use Rattle.std.specs.Prelude.{Option, None, Some}
 use lib.ListN.{length}
 use Rattle.text.specs.Parts.{part}
 use Rattle.text.specs.Laws.{part_none, part_long}
@@ -39,23 +39,23 @@ use Rattle.lookups.specs.declared.TextPlace.{TextPlace}
 -- ---- the place that a slot gives
 
 kept_placed : (d : Dialect) (t : Option Kind) → OfText t → (file : List ℕ) (s : Slot) (o : Option Entry) → SlotKeeps d t file s o → ValuePlace file (lookup_of Good o) (slot_place file s)
-kept_placed d t u file s none q =
+kept_placed d t u file s None q =
     let p : slot_place file s ≡ record { number = 0; line = 0; start = 0; end = 0 } = ap (slot_place file) q ∙ ap (λ (v : List ℕ). record { number = 0; line = 0; start = 0; end = length v }) (part_none file 0) in
     rw p (record { is = refl; within = omega arith; value_is = part_none file 0 })
-kept_placed d t u file s (some e) h =
+kept_placed d t u file s (Some e) h =
     let n : s.start + length (part s.start s.end file) ≡ s.end = omega (arith, part_long file s.start s.end h.low h.high, h.low) in
     record { is = rw (h.value u, h.line, h.start u) refl; within = rw n h.high; value_is = rw n (h.value u) }
 
 -- the answer where the row keeps the settings es
 answer_placed : {d : Dialect} {file y : List ℕ} {b : ℕ} (k : KeyName) → is_text (key_kind k) ≡ true → {es : List Entry} (a : Answer) → (a ≡ Good → RowKeeps d file y b (key_group k) es) → {p : TextPlace} → p ≡ answered_place a (slot_place file (key_slot y b k)) → ValuePlace file (lookup_of a (entry_of (key_word k) es)) p
-answer_placed {d} {file} {y} {b} k u {es} Good row e = rw e (kept_placed d (some (key_kind k)) u file (key_slot y b k) (entry_of (key_word k) es) (row_key k (row refl)))
+answer_placed {d} {file} {y} {b} k u {es} Good row e = rw e (kept_placed d (Some (key_kind k)) u file (key_slot y b k) (entry_of (key_word k) es) (row_key k (row refl)))
 answer_placed {file = file} k u (Refused r l) row e = rw e (record { is = refl; within = omega arith; value_is = part_none file 0 })
 
 -- ---- the answer of a file
 
 module _ {d : Dialect} {name file y : List ℕ} {r : Reading} (h : ReadsFile d name file y r) {g : Group} {k : KeyName} (s : StandsOnce d g k) {a : Answer} (e : a ≡ asked r) where
   group_key_row : a ≡ Good → RowKeeps d file y (base g 0) (key_group k) (entries_in (group_name g) (sections_of d file))
-  group_key_row q = rw s.group (found_group (file_found h e q) g (subst (λ (b : Dialect). T.group_of b (group_name g) ≡ some g) s.dialect (group_of_name g s.once)) s.once)
+  group_key_row q = rw s.group (found_group (file_found h e q) g (subst (λ (b : Dialect). T.group_of b (group_name g) ≡ Some g) s.dialect (group_of_name g s.once)) s.once)
 
   pub group_in_lem : a ≡ Good → (0 ≤ 8) × ValueInFile file y (base g 0) k
   group_in_lem q = (omega arith, row_in k (group_key_row q) (record { long = (file_found h e q).kept.long; row = base_few g 0 (omega arith) }))
@@ -92,5 +92,5 @@ module _ {file : List ℕ} {k : Lookup} {p : TextPlace} (h : ValuePlace file k p
       }
     where
       stretched : (o : Option Entry) → p ≡ lookup_place (record { answer = k.answer; setting = o }) → part p.start p.end file ≡ setting_value o → part p.start p.end file ≡ stretch file o
-      stretched none e v = v
-      stretched (some x) e v = ap (λ (q : TextPlace). part q.start q.end file) e
+      stretched None e v = v
+      stretched (Some x) e v = ap (λ (q : TextPlace). part q.start q.end file) e

@@ -1,6 +1,5 @@
 -- The string lookups: "For a string setting, its value is handed back as the stretch of the lent file where it stands, still escaped; an absent one is the empty stretch, line 0."
-use Rattle.std.specs.Prelude.{ℕ, ◌+◌, ◌≤◌, ◌≡◌, List, [], length}
-use Rattle.std.proofs.Math.Option.{Option, none, some}
+use Rattle.std.specs.Prelude.{ℕ, ◌+◌, ◌≤◌, ◌≡◌, List, [], length, Option, None, Some}
 use Rattle.text.specs.Parts.{part}
 use Rattle.text.specs.Words.{word}
 use Rattle.text.specs.declared.Dialect.{Dialect}
@@ -21,7 +20,7 @@ pub record Lookup : Type 0 where
 -- a refusal gives no setting
 abbrev pub lookup_of : Answer → Option Entry → Lookup
 lookup_of Good o = record { answer = Good; setting = o }
-lookup_of (Refused r l) o = record { answer = Refused r l; setting = none }
+lookup_of (Refused r l) o = record { answer = Refused r l; setting = None }
 
 -- ---- the lookups, by the name and the bytes of a file
 
@@ -49,13 +48,13 @@ lookup_line (Refused r l) o = l
 
 -- "the stretch of the lent file where it stands"; "an absent one is the empty stretch"
 abbrev pub stretch : List ℕ → Option Entry → List ℕ
-stretch file none = []
-stretch file (some e) = part e.start (e.start + length e.value) file
+stretch file None = []
+stretch file (Some e) = part e.start (e.start + length e.value) file
 
 -- "its value .., still escaped"
 abbrev pub setting_value : Option Entry → List ℕ
-setting_value none = []
-setting_value (some e) = e.value
+setting_value None = []
+setting_value (Some e) = e.value
 
 -- where the value stands, from its start to its end; 0 and 0 where it is absent
 abbrev pub lookup_place : Lookup → TextPlace

@@ -1,6 +1,5 @@
 -- A refused file is refused by every lookup, with the same number and line, and no setting is handed back.
-use Rattle.std.specs.Prelude.{ℕ, ◌≡◌, List}
-use Rattle.std.proofs.Math.Option.{none}
+use Rattle.std.specs.Prelude.{ℕ, ◌≡◌, List, None}
 use Rattle.text.specs.declared.Dialect.{Dialect}
 use Rattle.text.specs.declared.Dialect.TheVariants.{ConnMan}
 use Rattle.rules.specs.Reading.{reading}
@@ -10,7 +9,7 @@ use Rattle.rules.specs.declared.Refusal.{Refusal}
 use Rattle.lookups.specs.Lookups.{Lookup, group_lookup, service_lookup}
 
 abbrev pub no_lookup : Refusal → ℕ → Lookup
-no_lookup r l = record { answer = A.Refused r l; setting = none }
+no_lookup r l = record { answer = A.Refused r l; setting = None }
 
 pub refused_group_lookup : (d : Dialect) (name file : List ℕ) {r : Refusal} {l : ℕ} → reading d name file ≡ Refused r l
     → (group key : List ℕ) → group_lookup d group key name file ≡ no_lookup r l

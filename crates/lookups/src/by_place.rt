@@ -61,8 +61,7 @@ pub fn group_place(d: Dialect, name: &[u8], file: &[u8], g: Group, k: KeyName) -
     ensures { ValuePlace file.now (group_lookup d (group_name g) (key_word k) name.now file.now) result }
 {
     let mut places = [0; PLACES];
-    let read = pass::read(d, name, file, &mut places);
-    let answer = asking::asked(read);
+    let answer = asking::asked(pass::read(d, name, file, &mut places));
     answered_place(answer, file, &places, g, 0, k)
 }
 
@@ -72,8 +71,10 @@ pub fn service_place(name: &[u8], file: &[u8], service: usize, k: KeyName) -> Te
     ensures { ValuePlace file.now (service_lookup service (key_word k) name.now file.now) result }
 {
     let mut places = [0; PLACES];
-    let read = pass::read(Dialect::ConnMan, name, file, &mut places);
-    let answer = asking::asked_of(service, read);
+    let answer = asking::asked_of(
+        service,
+        pass::read(Dialect::ConnMan, name, file, &mut places),
+    );
     answered_place(answer, file, &places, Group::Service, service, k)
 }
 

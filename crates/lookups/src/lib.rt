@@ -1,8 +1,9 @@
 // The string lookups: the value of a string setting as the part of the lent file where it stands, still escaped.
 //
 // None of the public functions has a `requires`. `number` and `line` are result fields, set on every answer: document 01's
-// number, and the line of the refusal or of the setting, 0 where it is absent. A refusal and an absent setting hand back
-// the empty part. `by_place` has the same lookups by place, and these hand back the part that stands there.
+// number, and the line of the refusal or of the setting, 0 where it is absent. They stand beside the part and make no
+// Result, since document 01 gives every answer a number, good ones too. A refusal and an absent setting hand back the
+// empty part. `by_place` has the same lookups by place, and these hand back the part that stands there.
 #![tactic(auto)]
 
 pub mod by_place;
@@ -35,9 +36,7 @@ fn hand<'a>(file: &'a [u8], p: TextPlace, number: &mut u8, line: &mut usize) -> 
 {
     *number = p.number;
     *line = p.line;
-    let start = p.start;
-    let end = p.end;
-    &file[start..end]
+    &file[p.start..p.end]
 }
 
 // The value of a key of a group that stands once.

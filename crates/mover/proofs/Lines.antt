@@ -5,19 +5,17 @@ use borrow.Author.Tests.{le-leb, lt-leb}
 use mathlib.Core.Path.{◌≡◌, refl, ap, ap₂, sym, ◌∙◌}
 use mathlib.Core.Bool.{Bool, true, false, not}
 use mathlib.Core.List.{List, ◌++◌, append_assoc}
-use mathlib.Core.Option.{Option, none, some}
+use Rattle.std.specs.Prelude.{Option, None, Some}
 use Rattle.text.specs.Words.{word}
 use Rattle.text.specs.declared.Dialect.TheVariants.{ConnMan}
 use Rattle.named_words.specs.NamedWords.{word_of}
 use Rattle.connman_ipv4.specs.ConnmanIpv4.{ipv4}
 use Rattle.addressing.specs.Addressing.{Addressing, method_of, address_of, length_of, has_gateway_of, gateway_of, addressing_in, or_auto}
+use Rattle.addressing.specs.Numbers.{numbers_laid}
 use Rattle.addressing.specs.declared.Method.{Method}
+use Rattle.addressing.specs.declared.Numbers.{Numbers}
 use Rattle.ipv6_values.specs.Ipv6Values.{connman_ipv6}
-use Rattle.ipv6_values.specs.Answers.{connman_ipv6_answer}
-use Rattle.ipv6_values.specs.declared.Ipv6.{Ipv6}
 use Rattle.records.specs.PartLaws.{addressing_joined}
-use Rattle.connman_ipv4.specs.Answers.{ipv4_answer}
-use Rattle.connman_ipv4.specs.declared.Ipv4.{Ipv4}
 use Rattle.named_words.specs.declared.Word.TheVariants as W
 use Rattle.named_words.specs.declared.WordList.TheVariants as L
 use Rattle.rules.specs.Tables.{keys_of}
@@ -28,7 +26,7 @@ use Rattle.rules.specs.declared.Group.TheVariants as G
 use Rattle.places.specs.Store.{Slot}
 use Rattle.places.specs.Keys.{key_group, key_word as name_of, key_kind}
 use Rattle.places.specs.Holds.{SlotKeeps, RowKeeps}
-use Rattle.places.specs.KeySlots.{key_slot, bytes_of, slot_is}
+use Rattle.places.specs.KeySlots.{key_slot, slot_is}
 use Rattle.places.specs.declared.KeyName.{KeyName}
 use Rattle.places.specs.declared.KeyName.TheVariants as N
 use Rattle.places.proofs.RowKeys.{row_key}
@@ -36,18 +34,18 @@ use Rattle.values.proofs.KeptValues.{ipv4_none, connman_ipv6_none, row_read, row
 use Rattle.written.specs.Written.{ipv4_placed, ipv6_placed}
 use Rattle.written.specs.RecordParts.{PlacedBy}
 use Rattle.joins.specs.Joins.{wired, foreign_security, foreign, service_join}
-use Rattle.joins.specs.Places.{foreign_at}
+use Rattle.joins.specs.Places.{foreign_at, service_ipv4_at, service_ipv6_at}
 use Rattle.joins.proofs.Choosing.{row_foreign}
 use Rattle.mover.specs.Moves.{line_if, line_given, unplaced, earliest}
 use Rattle.mover.specs.Places.{line_said, earlier_of, Earlier, slot_line_if, slot_line, GivenLine, given_lines, ipv6_lines, ipv4_lines, RowLine}
 
 -- ---- lines by numbers
 
-pub line_some : (l : ℕ) → 0 < l → line_said l ≡ some l
+pub line_some : (l : ℕ) → 0 < l → line_said l ≡ Some l
 line_some zero h = absurd (omega (arith, h))
 line_some (suc n) h = refl
 
-pub line_none : (l : ℕ) → l ≤ 0 → line_said l ≡ none
+pub line_none : (l : ℕ) → l ≤ 0 → line_said l ≡ None
 line_none zero h = refl
 line_none (suc n) h = absurd (omega (arith, h))
 
@@ -77,8 +75,8 @@ front_line true e ls = refl
 front_line false e ls = refl
 
 given_front : (e : Option Entry) (ls : List ℕ) → earliest (line_given e ++ ls) ≡ earlier_of (earliest (line_given e)) (earliest ls)
-given_front none ls = refl
-given_front (some x) ls = refl
+given_front None ls = refl
+given_front (Some x) ls = refl
 
 -- ---- a setting by its key
 
@@ -86,20 +84,20 @@ module _ {file x : List ℕ} {b : ℕ} (k : KeyName) {es : List Entry} (h : RowK
   row_given : slot_line x b k ≡ earliest (line_given (entry_of (name_of k) es))
   row_given = go (entry_of (name_of k) es) (row_key k h)
     where
-      go : (o : Option Entry) → SlotKeeps ConnMan (some (key_kind k)) file (key_slot x b k) o → slot_line x b k ≡ earliest (line_given o)
-      go none q = ap (λ (t : Slot). line_said t.line) q
-      go (some e) q = line_some (key_slot x b k).line q.some ∙ ap some q.line
+      go : (o : Option Entry) → SlotKeeps ConnMan (Some (key_kind k)) file (key_slot x b k) o → slot_line x b k ≡ earliest (line_given o)
+      go None q = ap (λ (t : Slot). line_said t.line) q
+      go (Some e) q = line_some (key_slot x b k).line q.some ∙ ap Some q.line
 
   -- where a test of it holds, and where not
-  row_where : (test : Option Entry → Bool) → test none ≡ false → {t : Bool} → t ≡ test (entry_of (name_of k) es) → {r : ℕ} → r ≡ slot_line_if t x b k → line_said r ≡ earliest (line_if (test (entry_of (name_of k) es)) (entry_of (name_of k) es))
+  row_where : (test : Option Entry → Bool) → test None ≡ false → {t : Bool} → t ≡ test (entry_of (name_of k) es) → {r : ℕ} → r ≡ slot_line_if t x b k → line_said r ≡ earliest (line_if (test (entry_of (name_of k) es)) (entry_of (name_of k) es))
   row_where test z e p = ap line_said p ∙ ap (λ (u : Bool). line_said (slot_line_if u x b k)) e ∙ go (entry_of (name_of k) es) (row_key k h)
     where
-      go : (o : Option Entry) → SlotKeeps ConnMan (some (key_kind k)) file (key_slot x b k) o → line_said (slot_line_if (test o) x b k) ≡ earliest (line_if (test o) o)
-      go none q = rw z
-      go (some e) q = pick (test (some e))
+      go : (o : Option Entry) → SlotKeeps ConnMan (Some (key_kind k)) file (key_slot x b k) o → line_said (slot_line_if (test o) x b k) ≡ earliest (line_if (test o) o)
+      go None q = rw z
+      go (Some e) q = pick (test (Some e))
         where
-          pick : (u : Bool) → line_said (slot_line_if u x b k) ≡ earliest (line_if u (some e))
-          pick true = line_some (key_slot x b k).line q.some ∙ ap some q.line
+          pick : (u : Bool) → line_said (slot_line_if u x b k) ≡ earliest (line_if u (Some e))
+          pick true = line_some (key_slot x b k).line q.some ∙ ap Some q.line
           pick false = refl
 
 -- ---- the tests
@@ -121,17 +119,17 @@ placed_read place o e f b =
     ∙ ap place (addressing_joined 0 (or_auto o))
 
 module _ {file x : List ℕ} {b : ℕ} {es : List Entry} (h : RowKeeps ConnMan file x b G.Service es) where
-  ipv4_lost : {i : Ipv4} {p : Bool} → i ≡ ipv4_answer (ipv4 (bytes_of file x b N.Ipv4)) → PlacedBy ipv4_placed i.method i.has_gateway p → not p ≡ lost_by ipv4_placed ipv4 (entry_of (word "IPv4") es)
+  ipv4_lost : {i : Numbers 4} {p : Bool} → i ≡ service_ipv4_at file x b → PlacedBy ipv4_placed i.method i.has_gateway p → not p ≡ lost_by ipv4_placed ipv4 (entry_of (word "IPv4") es)
   unfolding keys_of
   ipv4_lost q t =
-      let o = q ∙ ap ipv4_answer (row_read N.Ipv4 h ipv4 ipv4_none) in
-      ap not (placed_read ipv4_placed (read_as ipv4 (entry_of (word "IPv4") es)) (ap (λ (v : Ipv4). v.method) o) (ap (λ (v : Ipv4). v.has_gateway) o) t)
+      let o = q ∙ ap (λ (o : Option Addressing). numbers_laid 4 (or_auto o)) (row_read N.Ipv4 h ipv4 ipv4_none) in
+      ap not (placed_read ipv4_placed (read_as ipv4 (entry_of (word "IPv4") es)) (ap (λ (v : Numbers 4). v.method) o) (ap (λ (v : Numbers 4). v.has_gateway) o) t)
 
-  ipv6_lost : {i : Ipv6} {p : Bool} → i ≡ connman_ipv6_answer (connman_ipv6 (bytes_of file x b N.Ipv6)) → PlacedBy ipv6_placed i.method i.has_gateway p → not p ≡ lost_by ipv6_placed connman_ipv6 (entry_of (word "IPv6") es)
+  ipv6_lost : {i : Numbers 16} {p : Bool} → i ≡ service_ipv6_at file x b → PlacedBy ipv6_placed i.method i.has_gateway p → not p ≡ lost_by ipv6_placed connman_ipv6 (entry_of (word "IPv6") es)
   unfolding keys_of
   ipv6_lost q t =
-      let o = q ∙ ap connman_ipv6_answer (row_read N.Ipv6 h connman_ipv6 connman_ipv6_none) in
-      ap not (placed_read ipv6_placed (read_as connman_ipv6 (entry_of (word "IPv6") es)) (ap (λ (v : Ipv6). v.method) o) (ap (λ (v : Ipv6). v.has_gateway) o) t)
+      let o = q ∙ ap (λ (o : Option Addressing). numbers_laid 16 (or_auto o)) (row_read N.Ipv6 h connman_ipv6 connman_ipv6_none) in
+      ap not (placed_read ipv6_placed (read_as connman_ipv6 (entry_of (word "IPv6") es)) (ap (λ (v : Numbers 16). v.method) o) (ap (λ (v : Numbers 16). v.has_gateway) o) t)
 
 -- ---- all lines
 
@@ -161,11 +159,11 @@ module _ {file x : List ℕ} {b : ℕ} {es : List Entry} (h : RowKeeps ConnMan f
       ∙ ap₂ earlier_of (row_given N.Mac h) (ap₂ earlier_of (row_given N.Privacy h) (ap₂ earlier_of (row_given N.SearchDomains h) (row_given N.Timeservers h) ∙ sym (given_front (entry_of (word "SearchDomains") es) (line_given (entry_of (word "Timeservers") es)))) ∙ sym (given_front (entry_of (word "IPv6.Privacy") es) late))
       ∙ sym (given_front (entry_of (word "MAC") es) (line_given (entry_of (word "IPv6.Privacy") es) ++ late))
 
-  row_ipv6 : {g p m : ℕ} {i : Ipv6} {u : Bool} → GivenLine x b g → i ≡ connman_ipv6_answer (connman_ipv6 (bytes_of file x b N.Ipv6)) → PlacedBy ipv6_placed i.method i.has_gateway u → p ≡ slot_line_if (not u) x b N.Ipv6 → Earlier p g m → line_said m ≡ earliest (ipv6_lines (λ k. entry_of k es))
+  row_ipv6 : {g p m : ℕ} {i : Numbers 16} {u : Bool} → GivenLine x b g → i ≡ service_ipv6_at file x b → PlacedBy ipv6_placed i.method i.has_gateway u → p ≡ slot_line_if (not u) x b N.Ipv6 → Earlier p g m → line_said m ≡ earliest (ipv6_lines (λ k. entry_of k es))
   unfolding keys_of
   row_ipv6 a q t l e = then_earlier e (row_where N.Ipv6 h (lost_by ipv6_placed connman_ipv6) refl (ipv6_lost h q t) l) (row_others a) ∙ sym (front_line (lost_by ipv6_placed connman_ipv6 (entry_of (word "IPv6") es)) (entry_of (word "IPv6") es) (given_lines (λ k. entry_of k es)))
 
-  row_ipv4 : {m p n : ℕ} {i : Ipv4} {u : Bool} → line_said m ≡ earliest (ipv6_lines (λ k. entry_of k es)) → i ≡ ipv4_answer (ipv4 (bytes_of file x b N.Ipv4)) → PlacedBy ipv4_placed i.method i.has_gateway u → p ≡ slot_line_if (not u) x b N.Ipv4 → Earlier p m n → line_said n ≡ earliest (ipv4_lines (λ k. entry_of k es))
+  row_ipv4 : {m p n : ℕ} {i : Numbers 4} {u : Bool} → line_said m ≡ earliest (ipv6_lines (λ k. entry_of k es)) → i ≡ service_ipv4_at file x b → PlacedBy ipv4_placed i.method i.has_gateway u → p ≡ slot_line_if (not u) x b N.Ipv4 → Earlier p m n → line_said n ≡ earliest (ipv4_lines (λ k. entry_of k es))
   unfolding keys_of
   row_ipv4 a q t l e = then_earlier e (row_where N.Ipv4 h (lost_by ipv4_placed ipv4) refl (ipv4_lost h q t) l) a ∙ sym (front_line (lost_by ipv4_placed ipv4 (entry_of (word "IPv4") es)) (entry_of (word "IPv4") es) (ipv6_lines (λ k. entry_of k es)))
 
@@ -177,7 +175,7 @@ module _ {file x : List ℕ} {b : ℕ} {es : List Entry} (h : RowKeeps ConnMan f
   unfolding keys_of
   row_unplaced a t l e = then_earlier e (row_where N.Type h wired_by refl (t ∙ row_word N.Type h L.ServiceType refl W.Ethernet) l) a ∙ sym (front_line (wired (λ k. entry_of k es)) (entry_of (word "Type") es) (security_lines (λ k. entry_of k es))) ∙ ap earliest (unplaced_nested (λ k. entry_of k es))
 
-pub number_lines_lem : {file x : List ℕ} {b g p m q r : ℕ} {i : Ipv6} {u : Bool} {j : Ipv4} {v : Bool} → GivenLine x b g → i ≡ connman_ipv6_answer (connman_ipv6 (bytes_of file x b N.Ipv6)) → PlacedBy ipv6_placed i.method i.has_gateway u → p ≡ slot_line_if (not u) x b N.Ipv6 → Earlier p g m → j ≡ ipv4_answer (ipv4 (bytes_of file x b N.Ipv4)) → PlacedBy ipv4_placed j.method j.has_gateway v → q ≡ slot_line_if (not v) x b N.Ipv4 → Earlier q m r → RowLine file x b (λ at. earliest (ipv4_lines at)) r
+pub number_lines_lem : {file x : List ℕ} {b g p m q r : ℕ} {i : Numbers 16} {u : Bool} {j : Numbers 4} {v : Bool} → GivenLine x b g → i ≡ service_ipv6_at file x b → PlacedBy ipv6_placed i.method i.has_gateway u → p ≡ slot_line_if (not u) x b N.Ipv6 → Earlier p g m → j ≡ service_ipv4_at file x b → PlacedBy ipv4_placed j.method j.has_gateway v → q ≡ slot_line_if (not v) x b N.Ipv4 → Earlier q m r → RowLine file x b (λ at. earliest (ipv4_lines at)) r
 number_lines_lem a i u p e j v q f = record { is = λ es h. row_ipv4 h (row_ipv6 h a i u p e) j v q f }
 
 pub all_lines : {file x : List ℕ} {b m s n t r : ℕ} {f w : Bool} → RowLine file x b (λ at. earliest (ipv4_lines at)) m → f ≡ foreign_at x b → s ≡ slot_line_if f x b N.Security → Earlier s m n → w ≡ slot_is x b N.Type W.Ethernet → t ≡ slot_line_if w x b N.Type → Earlier t n r → RowLine file x b (λ at. earliest (unplaced at)) r

@@ -1,8 +1,7 @@
 -- Which refusals a move gives: 16 exactly where a line of the service is on the list, 19 never, nor 17 into ample buffers;
 -- and a move that answers 0 is one that demand 3 speaks of.
-use Rattle.std.specs.Prelude.{ℕ, ◌≤◌, ◌≡◌, refl, Bool, true, false, cond, List, []}
+use Rattle.std.specs.Prelude.{ℕ, ◌≤◌, ◌≡◌, refl, Bool, true, false, cond, List, [], Option, None, Some}
 use Rattle.std.proofs.Common.{arith, ap, sym, ◌∙◌}
-use Rattle.std.proofs.Math.Option.{Option, none, some}
 use Rattle.text.specs.Bytes.{between}
 use Rattle.text.specs.Laws.{between_low, between_high}
 use Rattle.text.specs.declared.Dialect.TheVariants as D
@@ -31,7 +30,7 @@ pub data MoveIs (name file : List ℕ) (w : ℕ) (n f : List ℕ) : Writing → 
   file_refused : {r : Refusal} {l : ℕ} → reading D.ConnMan name file ≡ R.Refused r l →
       MoveIs name file w n f (refuses r l)
   no_service : MoveIs name file w n f (refuses NoService 0)
-  no_place : {l : ℕ} → Service name file w → earliest (unplaced (service_setting w file)) ≡ some l →
+  no_place : {l : ℕ} → Service name file w → earliest (unplaced (service_setting w file)) ≡ Some l →
       MoveIs name file w n f (refuses NoPlace l)
   placed : Service name file w → unplaced (service_setting w file) ≡ [] →
       MoveIs name file w n f (writing_of (service_join (service_setting w file)) n f)
@@ -42,8 +41,8 @@ move_is name file w n f = go (reading D.ConnMan name file) refl
   where
     listed : Service name file w → (o : Option ℕ) → earliest (unplaced (service_setting w file)) ≡ o →
         MoveIs name file w n f (or_unplaced o (writing_of (service_join (service_setting w file)) n f))
-    listed s none q = placed s (earliest_none (unplaced (service_setting w file)) q)
-    listed s (some l) q = no_place s q
+    listed s None q = placed s (earliest_none (unplaced (service_setting w file)) q)
+    listed s (Some l) q = no_place s q
 
     service : (k m : ℕ) → reading D.ConnMan name file ≡ R.Accepted k m → between 1 m w ≡ true → Service name file w
     service k m q b =
@@ -66,16 +65,16 @@ never_16 : (j : Join) (n f : List ℕ) → written_number (writing_of j n f) ≡
 never_16 j n f = placed_number j n f (λ k. k ≡ 16 → ⊥) (λ e. omega (arith, e)) (λ e. omega (arith, e))
 
 module _ {name file : List ℕ} {w : ℕ} (s : Service name file w) (n f : List ℕ) {l : ℕ} where
-  pub moving_16 : earliest (unplaced (service_setting w file)) ≡ some l → moving name file w n f ≡ refuses NoPlace l
+  pub moving_16 : earliest (unplaced (service_setting w file)) ≡ Some l → moving name file w n f ≡ refuses NoPlace l
   moving_16 e = moving_service s n f ∙ ap (λ (o : Option ℕ). or_unplaced o (writing_of (service_join (service_setting w file)) n f)) e
 
-  pub moving_16_only : moving name file w n f ≡ refuses NoPlace l → earliest (unplaced (service_setting w file)) ≡ some l
+  pub moving_16_only : moving name file w n f ≡ refuses NoPlace l → earliest (unplaced (service_setting w file)) ≡ Some l
   moving_16_only e = go (earliest (unplaced (service_setting w file))) (sym (moving_service s n f) ∙ e)
     where
       go : (o : Option ℕ) → or_unplaced o (writing_of (service_join (service_setting w file)) n f) ≡ refuses NoPlace l →
-          o ≡ some l
-      go none q = absurd (never_16 (service_join (service_setting w file)) n f (ap written_number q))
-      go (some k) q = let g : k ≡ l = cc in ap some g
+          o ≡ Some l
+      go None q = absurd (never_16 (service_join (service_setting w file)) n f (ap written_number q))
+      go (Some k) q = let g : k ≡ l = cc in ap Some g
 
 -- a move never answers 19, nor, into ample buffers, 17
 module _ (name file : List ℕ) (w : ℕ) (n f : List ℕ) where

@@ -3,7 +3,7 @@ use Prim.Native.Nat.{ℕ, ◌≤◌}
 use native.Mathlib.Omega.{arith}
 use mathlib.Core.Path.{◌≡◌, refl}
 use mathlib.Core.List.{List}
-use mathlib.Core.Option.{Option, none, some}
+use Rattle.std.specs.Prelude.{Option, None, Some}
 use lib.ListN.{length}
 use Rattle.text.specs.Options.{or_empty}
 use Rattle.text.specs.Words.{word}
@@ -27,25 +27,25 @@ use Rattle.joins.specs.Joins.{secret_from, name_from, service_join}
 
 -- what a kind reads has at most m elements
 read_short : {A : Type 0} (f : List ℕ → Option (List A)) (m : ℕ) →
-    ((v : List ℕ) (t : List A) → f v ≡ some t → length t ≤ m) → (o : Option Entry) → length (or_empty (read_as f o)) ≤ m
-read_short f m h none = omega arith
-read_short {A} f m h (some e) = go (f e.value) refl
+    ((v : List ℕ) (t : List A) → f v ≡ Some t → length t ≤ m) → (o : Option Entry) → length (or_empty (read_as f o)) ≤ m
+read_short f m h None = omega arith
+read_short {A} f m h (Some e) = go (f e.value) refl
   where
     go : (o : Option (List A)) → f e.value ≡ o → length (or_empty o) ≤ m
-    go none q = omega arith
-    go (some t) q = h e.value t q
+    go None q = omega arith
+    go (Some t) q = h e.value t q
 
 name_short : (s n : Option (List ℕ)) → length (or_empty s) ≤ 32 → length (or_empty n) ≤ 32 → length (name_from s n) ≤ 32
-name_short (some s) n h g = h
-name_short none n h g = g
+name_short (Some s) n h g = h
+name_short None n h g = g
 
-secret_plain : (o : Option (List ℕ)) → passphrase_of (secret_from o none) ≡ or_empty o
-secret_plain none = refl
-secret_plain (some p) = refl
+secret_plain : (o : Option (List ℕ)) → passphrase_of (secret_from o None) ≡ or_empty o
+secret_plain None = refl
+secret_plain (Some p) = refl
 
 numbers_short : (o : Option Entry) → length_of (or_auto (read_as ipv4 o)) ≤ 32
-numbers_short none = omega arith
-numbers_short (some e) = go (ipv4 e.value) refl
+numbers_short None = omega arith
+numbers_short (Some e) = go (ipv4 e.value) refl
   where
     good : (i : Addressing) → Good 4 32 i → length_of i ≤ 32
     good auto h = omega arith
@@ -53,8 +53,8 @@ numbers_short (some e) = go (ipv4 e.value) refl
     good (static a n g) h = h.high
 
     go : (o : Option Addressing) → ipv4 e.value ≡ o → length_of (or_auto o) ≤ 32
-    go none q = omega arith
-    go (some i) q = good i (ipv4_good e.value q)
+    go None q = omega arith
+    go (Some i) q = good i (ipv4_good e.value q)
 
 pub join_within : (at : List ℕ → Option Entry) → CountsWithin (laid (service_join at))
 unfolding keys_of

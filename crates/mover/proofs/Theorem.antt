@@ -1,8 +1,7 @@
 -- Demand 3: the move of a service that holds nothing on the list writes a file whose record is the service's.
-use Rattle.std.specs.Prelude.{ℕ, ◌≡◌, Bool, true, cond, List, [], length, take, drop}
+use Rattle.std.specs.Prelude.{ℕ, ◌≡◌, Bool, true, cond, List, [], length, take, drop, Option, None, Some}
 use Rattle.std.proofs.Math.Path.{ap, sym}
 use Rattle.std.proofs.Common.{ap₂, ◌∙◌}
-use Rattle.std.proofs.Math.Option.{Option, none, some}
 use Rattle.std.proofs.Math.Seq.{take-append_seam}
 use Rattle.text.specs.Laws.{inside}
 use Rattle.text.specs.Options.{only, or_else}
@@ -41,10 +40,10 @@ module _ {name file : List ℕ} {w : ℕ} (s : Service name file w) where
 
   -- that holds nothing on the list
   module _ (p : unplaced (service_setting w file) ≡ []) where
-    placed_record : no_record (service_setting w file) ≡ none
+    placed_record : no_record (service_setting w file) ≡ None
     placed_record =
         let h = unplaced_none (service_setting w file) p in
-        ap₂ (λ (a b : Bool). or_else (only a (some (entry_line (service_setting w file (word "Type"))))) (only b (some (entry_line (service_setting w file (word "Security")))))) h.wifi h.security
+        ap₂ (λ (a b : Bool). or_else (only a (Some (entry_line (service_setting w file (word "Type"))))) (only b (Some (entry_line (service_setting w file (word "Security")))))) h.wifi h.security
 
     -- it has a record
     pub move_joined : service_joined name file w ≡ joined (service_join (service_setting w file))

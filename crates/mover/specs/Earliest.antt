@@ -1,7 +1,7 @@
 -- What `earliest` and `unplaced` say: the earliest line is one of them and none is before it, and a service without such lines has nothing on the list.
-use Rattle.std.specs.Prelude.{ℕ, ◌≤◌, ◌≡◌, refl, Bool, true, false, cond, not, List, [], ◌∷◌, ◌++◌, leb}
+use Rattle.std.specs.Prelude.{ℕ, ◌≤◌, ◌≡◌, refl, Bool, true, false, cond, not, List, [], ◌∷◌, ◌++◌, leb, Option, None, Some}
 use Rattle.std.proofs.Common.{arith, leb-true, leb-false, ap, sym, ◌∙◌, subst}
-use Rattle.std.proofs.Math.Option.{Option, none, some, none-ne-some, some-injective}
+use Rattle.std.proofs.lemmas.Option.{none-some, same_Some}
 use Rattle.text.specs.Words.{word}
 use Rattle.rules.specs.Sections.{Entry}
 use Rattle.written.specs.Written.{ipv4_placed, ipv6_placed}
@@ -22,11 +22,11 @@ pub record Earliest (ls : List ℕ) (l : ℕ) : Type 0 where
   pub first : (m : ℕ) → Among m ls → l ≤ m
 
 -- there is none exactly where there are no lines
-pub earliest_none : (ls : List ℕ) → earliest ls ≡ none → ls ≡ []
+pub earliest_none : (ls : List ℕ) → earliest ls ≡ None → ls ≡ []
 earliest_none [] e = refl
-earliest_none (l ∷ ls) e = absurd (none-ne-some (least l (earliest ls)) (sym e))
+earliest_none (l ∷ ls) e = absurd (none-some (least l (earliest ls)) (sym e))
 
-pub none_earliest : (ls : List ℕ) → ls ≡ [] → earliest ls ≡ none
+pub none_earliest : (ls : List ℕ) → ls ≡ [] → earliest ls ≡ None
 none_earliest ls e = ap earliest e
 
 -- a line in front, and there are lines
@@ -49,10 +49,10 @@ among_each P l ls p f m a = go a.before a.is
     go [] q = let e : l ≡ m = cc in subst P e p
     go (x ∷ b) q = f m (record { before = b; behind = a.behind; is = cc })
 
-pub earliest_is : (ls : List ℕ) {l : ℕ} → earliest ls ≡ some l → Earliest ls l
-earliest_is [] {l} e = absurd (none-ne-some l e)
+pub earliest_is : (ls : List ℕ) {l : ℕ} → earliest ls ≡ Some l → Earliest ls l
+earliest_is [] {l} e = absurd (none-some l e)
 earliest_is (x ∷ xs) {l} e =
-    go (earliest xs) refl (λ (m : ℕ) q. earliest_is xs {l = m} q) (some-injective (least x (earliest xs)) l e)
+    go (earliest xs) refl (λ (m : ℕ) q. earliest_is xs {l = m} q) (same_Some (least x (earliest xs)) l e)
   where
     here : (y : ℕ) → y ≡ l → ((m : ℕ) → Among m xs → y ≤ m) → y ≡ x → Earliest (x ∷ xs) l
     here y q f p =
@@ -65,10 +65,10 @@ earliest_is (x ∷ xs) {l} e =
           first = among_each (λ m. l ≤ m) x xs (omega (arith, q, h)) (λ m a. omega (arith, i.first m a, q));
         }
 
-    go : (o : Option ℕ) → earliest xs ≡ o → ((m : ℕ) → earliest xs ≡ some m → Earliest xs m) → least x o ≡ l →
+    go : (o : Option ℕ) → earliest xs ≡ o → ((m : ℕ) → earliest xs ≡ Some m → Earliest xs m) → least x o ≡ l →
         Earliest (x ∷ xs) l
-    go none q f e = here x e (λ m a. not_among (earliest_none xs q) a) refl
-    go (some y) q f e = pick (leb x y) refl e
+    go None q f e = here x e (λ m a. not_among (earliest_none xs q) a) refl
+    go (Some y) q f e = pick (leb x y) refl e
       where
         pick : (b : Bool) → leb x y ≡ b → cond b x y ≡ l → Earliest (x ∷ xs) l
         pick true h e = here x e (λ m a. omega (arith, (f y q).first m a, leb-true x y h)) refl
@@ -81,10 +81,10 @@ pub record AllPlaced (at : List ℕ → Option Entry) : Type 0 where
   pub security : foreign at ≡ false
   pub ipv4 : ipv4_placed (service_join at).ipv4 ≡ true
   pub ipv6 : ipv6_placed (service_join at).ipv6 ≡ true
-  pub mac : at (word "MAC") ≡ none
-  pub privacy : at (word "IPv6.Privacy") ≡ none
-  pub domains : at (word "SearchDomains") ≡ none
-  pub clocks : at (word "Timeservers") ≡ none
+  pub mac : at (word "MAC") ≡ None
+  pub privacy : at (word "IPv6.Privacy") ≡ None
+  pub domains : at (word "SearchDomains") ≡ None
+  pub clocks : at (word "Timeservers") ≡ None
 
 not-false : (b : Bool) → not b ≡ false → b ≡ true
 not-false true e = refl
@@ -92,16 +92,16 @@ not-false false e = sym e
 
 no_lines : (a b c f : Bool) (t s i v m p d k : Option Entry) →
     line_if a t ++ line_if b s ++ line_if c i ++ line_if f v ++ line_given m ++ line_given p ++ line_given d ++ line_given k ≡ [] →
-    (a ≡ false) × (b ≡ false) × (c ≡ false) × (f ≡ false) × (m ≡ none) × (p ≡ none) × (d ≡ none) × (k ≡ none)
+    (a ≡ false) × (b ≡ false) × (c ≡ false) × (f ≡ false) × (m ≡ None) × (p ≡ None) × (d ≡ None) × (k ≡ None)
 no_lines true b c f t s i v m p d k e = some_line e
 no_lines false true c f t s i v m p d k e = some_line e
 no_lines false false true f t s i v m p d k e = some_line e
 no_lines false false false true t s i v m p d k e = some_line e
-no_lines false false false false t s i v (some x) p d k e = some_line e
-no_lines false false false false t s i v none (some x) d k e = some_line e
-no_lines false false false false t s i v none none (some x) k e = some_line e
-no_lines false false false false t s i v none none none (some x) e = some_line e
-no_lines false false false false t s i v none none none none e = (refl, refl, refl, refl, refl, refl, refl, refl)
+no_lines false false false false t s i v (Some x) p d k e = some_line e
+no_lines false false false false t s i v None (Some x) d k e = some_line e
+no_lines false false false false t s i v None None (Some x) k e = some_line e
+no_lines false false false false t s i v None None None (Some x) e = some_line e
+no_lines false false false false t s i v None None None None e = (refl, refl, refl, refl, refl, refl, refl, refl)
 
 pub unplaced_none : (at : List ℕ → Option Entry) → unplaced at ≡ [] → AllPlaced at
 unplaced_none at e =

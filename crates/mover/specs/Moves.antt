@@ -1,7 +1,6 @@
 -- What the move of a ConnMan service to iwd answers: the file's own refusals, "18 next, then 16, then 17", or the file
 -- name and the file of the service's record.
-use Rattle.std.specs.Prelude.{ℕ, Bool, true, false, cond, not, List, [], ◌∷◌, ◌++◌, leb}
-use Rattle.std.proofs.Math.Option.{Option, none, some}
+use Rattle.std.specs.Prelude.{ℕ, Bool, true, false, cond, not, List, [], ◌∷◌, ◌++◌, leb, Option, None, Some}
 use Rattle.text.specs.Words.{word}
 use Rattle.text.specs.Options.{is_some}
 use Rattle.text.specs.declared.Dialect.TheVariants as D
@@ -42,18 +41,18 @@ unplaced at =
 
 -- "earliest such line of the service"
 abbrev pub least : ℕ → Option ℕ → ℕ
-least l none = l
-least l (some m) = cond (leb l m) l m
+least l None = l
+least l (Some m) = cond (leb l m) l m
 
 abbrev pub earliest : List ℕ → Option ℕ
-earliest [] = none
-earliest (l ∷ ls) = some (least l (earliest ls))
+earliest [] = None
+earliest (l ∷ ls) = Some (least l (earliest ls))
 
 -- ---- the move
 
 abbrev pub or_unplaced : Option ℕ → Writing → Writing
-or_unplaced none m = m
-or_unplaced (some l) m = refuses NoPlace l
+or_unplaced None m = m
+or_unplaced (Some l) m = refuses NoPlace l
 
 abbrev pub moved_if_good : Answer → Writing → Writing
 moved_if_good Good m = m

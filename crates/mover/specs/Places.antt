@@ -1,6 +1,5 @@
 -- What the code says of a line that has no place in iwd, 0 standing for none, and of the buffers, by the row of a service.
-use Rattle.std.specs.Prelude.{ℕ, zero, suc, ◌≡◌, Bool, cond, not, List, ◌++◌}
-use Rattle.std.proofs.Math.Option.{Option, none, some}
+use Rattle.std.specs.Prelude.{ℕ, zero, suc, ◌≡◌, Bool, cond, not, List, ◌++◌, Option, None, Some}
 use Rattle.text.specs.Words.{word}
 use Rattle.text.specs.declared.Dialect.TheVariants.{ConnMan}
 use Rattle.rules.specs.Sections.{Entry, entry_of}
@@ -19,13 +18,13 @@ use Rattle.mover.specs.Moves.{line_if, line_given, least, moving_of}
 
 -- the line that a number says; lines count from 1
 abbrev pub line_said : ℕ → Option ℕ
-line_said zero = none
-line_said (suc n) = some (suc n)
+line_said zero = None
+line_said (suc n) = Some (suc n)
 
 -- the earlier of two lines that may be absent
 abbrev pub earlier_of : Option ℕ → Option ℕ → Option ℕ
-earlier_of none o = o
-earlier_of (some l) o = some (least l o)
+earlier_of None o = o
+earlier_of (Some l) o = Some (least l o)
 
 pub record Earlier (a b r : ℕ) : Type 0 where
   pub is : line_said r ≡ earlier_of (line_said a) (line_said b)

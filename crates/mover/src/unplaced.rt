@@ -6,7 +6,7 @@ ghost use Rattle.values.specs.Rows.{RowOf};
 ghost use Rattle.mover.specs.Moves.{unplaced, earliest};
 ghost use Rattle.mover.specs.Places.{Earlier, GivenLine, RowLine, slot_line_if, ipv4_lines};
 
-use joins::parts::is_foreign;
+use joins::parts::{is_foreign, service_ipv4, service_ipv6};
 use named_words::Word;
 use places::rows::{is_word, line_of};
 use places::{KeyName, Places};
@@ -58,14 +58,12 @@ fn numbers_line(file: &[u8], x: &Places, row: usize) -> usize
     ensures { RowLine file.now x.now row (λ at. earliest (ipv4_lines at)) result }
 {
     let given = given_line(x, row);
-    let six = values::ipv6_at(file, x, row, KeyName::Ipv6);
-    let six_method = six.method;
-    let six_placed = parts::ipv6_placed(six_method, six.has_gateway);
-    let behind = earlier(line_if(!six_placed, x, row, KeyName::Ipv6), given);
-    let four = values::ipv4_at(file, x, row, KeyName::Ipv4);
-    let four_method = four.method;
-    let four_placed = parts::ipv4_placed(four_method, four.has_gateway);
-    earlier(line_if(!four_placed, x, row, KeyName::Ipv4), behind)
+    let ipv6 = service_ipv6(file, x, row);
+    let ipv6_placed = parts::ipv6_placed(ipv6.method, ipv6.has_gateway);
+    let behind = earlier(line_if(!ipv6_placed, x, row, KeyName::Ipv6), given);
+    let ipv4 = service_ipv4(file, x, row);
+    let ipv4_placed = parts::ipv4_placed(ipv4.method, ipv4.has_gateway);
+    earlier(line_if(!ipv4_placed, x, row, KeyName::Ipv4), behind)
 }
 
 // The earliest of them all: those, Security wep or ieee8021x, and Type ethernet.

@@ -4,5 +4,3 @@ pub mod WordRules
 -- The laws
 pub mod WordRuleLaws
 pub mod Printable
--- For the proofs only: the definitions laid out in the code's types
-pub mod Answers

@@ -1,11 +1,10 @@
 -- Yes/no and the named words, as document 01 lists them under "Settings and their kinds": none where the value is no such word.
-use Rattle.std.specs.Prelude.{ℕ, Bool, true, false, List, [], ◌∷◌}
-use Rattle.std.proofs.Math.Option.{Option}
+use Rattle.std.specs.Prelude.{ℕ, Bool, true, false, List, [], ◌∷◌, Option}
 use Rattle.text.specs.Words.{word, named}
 use Rattle.text.specs.declared.Dialect.{Dialect}
 use Rattle.text.specs.declared.Dialect.TheVariants.{Iwd, ConnMan}
 use Rattle.named_words.specs.declared.Word.{Word}
-use Rattle.named_words.specs.declared.Word.TheVariants.{Wifi, Ethernet, Disabled, Enabled, Preferred, Psk, Ieee8021x, None, Wep}
+use Rattle.named_words.specs.declared.Word.TheVariants.{Wifi, Ethernet, Disabled, Enabled, Preferred, Psk, Ieee8021x, Wep}
 use Rattle.named_words.specs.declared.WordList.{WordList}
 use Rattle.named_words.specs.declared.WordList.TheVariants.{ServiceType, Privacy, Security}
 
@@ -25,7 +24,7 @@ abbrev pub words_of : WordList → List (List ℕ × Word)
 words_of ServiceType = (word "wifi", Wifi) ∷ (word "ethernet", Ethernet) ∷ []
 words_of Privacy =
     (word "disabled", Disabled) ∷ (word "enabled", Enabled) ∷ (word "preferred", Preferred) ∷ (word "prefered", Preferred) ∷ []
-words_of Security = (word "psk", Psk) ∷ (word "ieee8021x", Ieee8021x) ∷ (word "none", None) ∷ (word "wep", Wep) ∷ []
+words_of Security = (word "psk", Psk) ∷ (word "ieee8021x", Ieee8021x) ∷ (word "none", Word.None) ∷ (word "wep", Wep) ∷ []
 
 unfoldable pub word_of : WordList → List ℕ → Option Word
 word_of w s = named s (words_of w)

@@ -1,7 +1,7 @@
 -- Yes/no and the named words, said of the bytes: `WordRuleLaws` shows that `flag` and `word_of` keep to it.
 use Rattle.std.specs.Prelude.{ℕ, ◌≡◌, Bool, true, false, List, [], ◌∷◌}
 use Prim.Native.String.{String}
-use Rattle.text.specs.Relations.{Some}
+use Rattle.text.specs.Relations.{Any}
 use Rattle.text.specs.Words.{word}
 use Rattle.text.specs.declared.Dialect.{Dialect}
 use Rattle.text.specs.declared.Dialect.TheVariants.{Iwd, ConnMan}
@@ -12,7 +12,7 @@ use Rattle.named_words.specs.declared.WordList.TheVariants.{ServiceType, Privacy
 
 -- the text is the word of a row, and means what the row says
 abbrev pub Means : {A : Type 0} → List (String × A) → List ℕ → A → Type 0
-Means rows v x = Some (λ row. (v ≡ word row.0) × (x ≡ row.1)) rows
+Means rows v x = Any (λ row. (v ≡ word row.0) × (x ≡ row.1)) rows
 
 -- "bool": "true, false, 1, 0" in iwd, "true, false" in ConnMan
 abbrev pub flag_rows : Dialect → List (String × Bool)

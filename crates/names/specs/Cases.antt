@@ -1,6 +1,5 @@
 -- Worked cases: a file name, and what it gives.
-use Rattle.std.specs.Prelude.{◌≡◌, refl, Bool, true, false, List, [], ◌∷◌, map, ℕ, replicate}
-use Rattle.std.proofs.Math.Option.{Option, none}
+use Rattle.std.specs.Prelude.{◌≡◌, refl, Bool, true, false, List, [], ◌∷◌, map, ℕ, replicate, Option, None}
 use Prim.Native.String.{String}
 use Rattle.text.specs.Bytes.{is_plain}
 use Rattle.text.specs.Words.{word}
@@ -21,25 +20,25 @@ iwd_names =
     -- "the network name as it stands"; it may be only spaces
     ("Desk 4.psk", network Psk (word "Desk 4"))
     ∷ (" .open", network Open (word " "))
-    ∷ ("Caf%.psk", none)
+    ∷ ("Caf%.psk", None)
     -- "else `=` and lower-case hex of the name": upper case, an odd count
     ∷ ("=436166c3a9.psk", network Psk cafe)
-    ∷ ("=436166C3A9.psk", none)
-    ∷ ("=436166c3a.psk", none)
+    ∷ ("=436166C3A9.psk", None)
+    ∷ ("=436166c3a.psk", None)
     -- "Hex of a name that could stand plainly is refused": Desk
-    ∷ ("=4465736b.psk", none)
+    ∷ ("=4465736b.psk", None)
     -- "1 to 32 bytes", counted after decoding
-    ∷ (".psk", none)
-    ∷ ("=.psk", none)
+    ∷ (".psk", None)
+    ∷ ("=.psk", None)
     ∷ ("abcdefghijklmnopqrstuvwxyz012345.psk", network Psk (word "abcdefghijklmnopqrstuvwxyz012345"))
-    ∷ ("abcdefghijklmnopqrstuvwxyz0123456.psk", none)
+    ∷ ("abcdefghijklmnopqrstuvwxyz0123456.psk", None)
     ∷ ("=c3c3c3c3c3c3c3c3c3c3c3c3c3c3c3c3c3c3c3c3c3c3c3c3c3c3c3c3c3c3c3c3.open", network Open (replicate 32 0xc3))
-    ∷ ("=c3c3c3c3c3c3c3c3c3c3c3c3c3c3c3c3c3c3c3c3c3c3c3c3c3c3c3c3c3c3c3c3c3.open", none)
+    ∷ ("=c3c3c3c3c3c3c3c3c3c3c3c3c3c3c3c3c3c3c3c3c3c3c3c3c3c3c3c3c3c3c3c3c3.open", None)
     -- "a stem and `.open` or `.psk`": another suffix, two dots, no dot
-    ∷ ("Desk 4.PSK", none)
-    ∷ ("Desk 4.8021x", none)
-    ∷ ("Desk.4.psk", none)
-    ∷ ("Desk 4", none)
+    ∷ ("Desk 4.PSK", None)
+    ∷ ("Desk 4.8021x", None)
+    ∷ ("Desk.4.psk", None)
+    ∷ ("Desk 4", None)
     ∷ []
 
 -- "one or more letters or digits, then `.config`"

@@ -1,10 +1,10 @@
 -- File names: "iwd: a stem and `.open` or `.psk`"; "ConnMan: one or more letters or digits, then `.config`".
-use Rattle.std.specs.Prelude.{ℕ, ◌+◌, ◌*◌, ◌≤◌, ◌≡◌, Bool, true, false, cond, not, ◌&&◌, List, [], ◌∷◌, ◌++◌, eqb, length, replicate}
-use Rattle.std.proofs.Math.Option.{Option, none, some}
+use Rattle.std.specs.Prelude.{ℕ, ◌+◌, ◌*◌, ◌≤◌, ◌≡◌, Bool, true, cond, not, ◌&&◌, List, [], ◌∷◌, ◌++◌, eqb, length, Option, None, Some}
 use Rattle.text.specs.Bytes.{is_byte, other, is_alphanumeric, is_plain, is_lower_hex}
-use Rattle.text.specs.Parts.{all, front, after, empty, padded}
+use Rattle.text.specs.Parts.{all, front, after, empty}
 use Rattle.text.specs.Words.{word, same, named}
 use Rattle.text.specs.Options.{and_then, only, sized}
+use Rattle.put.specs.Texts.{bounded}
 use Rattle.hex_digits.specs.Hex.{unhex, hex}
 use Rattle.names.specs.declared.Suffix.{Suffix}
 use Rattle.names.specs.declared.Suffix.TheVariants.{Open, Psk}
@@ -22,15 +22,15 @@ stem n = cond (all is_plain n) n (61 ∷ hex n)
 
 -- "Hex of a name that could stand plainly is refused"
 abbrev pub unplain : List ℕ → Option (List ℕ)
-unplain n = only (not (all is_plain n)) (some n)
+unplain n = only (not (all is_plain n)) (Some n)
 
 abbrev pub hex_name : List ℕ → Option (List ℕ)
 hex_name h = only (all is_lower_hex h) (and_then (unhex h) unplain)
 
 -- the network name that a stem gives; the bytes are counted after decoding
 unfoldable pub name_of : List ℕ → Option (List ℕ)
-name_of [] = none
-name_of (c ∷ s) = sized 1 32 (cond (eqb c 61) (hex_name s) (only (all is_plain (c ∷ s)) (some (c ∷ s))))
+name_of [] = None
+name_of (c ∷ s) = sized 1 32 (cond (eqb c 61) (hex_name s) (only (all is_plain (c ∷ s)) (Some (c ∷ s))))
 
 -- "`.open` or `.psk`"
 abbrev pub suffix_of : Suffix → List ℕ
@@ -46,7 +46,7 @@ pub record Network : Type 0 where
   pub suffix : Suffix
 
 abbrev pub network : Suffix → List ℕ → Option Network
-network k n = some (record { name = n; suffix = k })
+network k n = Some (record { name = n; suffix = k })
 
 -- a stem has no dot, so a file name is split at its first
 unfoldable pub network_of : List ℕ → Option Network
@@ -64,11 +64,6 @@ name_max = length (word "=") + 2 * 32 + length (suffix_of Open)
 abbrev pub connman_name : List ℕ → Bool
 connman_name f = not (empty (front is_alphanumeric f)) && same (after is_alphanumeric f) (word ".config")
 
--- the answer of the code: "Places not in use are zero"
-abbrev pub iwd_name_answer : Option Network → IwdName
-iwd_name_answer none = record { ok = false; suffix = Open; length = 0; bytes = replicate 32 0 }
-iwd_name_answer (some x) = record { ok = true; suffix = x.suffix; length = length x.name; bytes = padded 32 x.name }
-
--- the same of a stem that gives a name, where the suffix is known
-abbrev pub name_answer : Suffix → Option (List ℕ) → IwdName
-name_answer k o = iwd_name_answer (and_then o (network k))
+-- a network in the code's type
+abbrev pub network_laid : Network → IwdName
+network_laid x = record { suffix = x.suffix; name = bounded 32 x.name }

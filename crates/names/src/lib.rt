@@ -7,104 +7,104 @@
 pub mod dialects;
 
 ghost use Rattle.std.specs.Prelude.{◌≡◌, ◌+◌, ◌≤◌, length};
-ghost use Rattle.std.proofs.Math.Option.{none};
-ghost use Rattle.text.specs.Options.{sized};
+ghost use Rattle.text.specs.Options.{mapped, sized};
+ghost use Rattle.text.specs.Words.{named};
 ghost use Rattle.put.specs.Put.{Wrote};
-ghost use Rattle.names.specs.Names.{stem, hex_name, name_of, name_answer, suffix_of, network_of, iwd_name_answer, file_name, connman_name};
+ghost use Rattle.put.specs.Texts.{bounded};
+ghost use Rattle.names.specs.Names.{stem, hex_name, name_of, suffix_of, suffixes, network_of, network_laid, file_name, connman_name};
 
+use put::Bounded;
 use text::Class;
 
 // The kinds of iwd file.
-#[derive(Clone, Copy)]
+#[derive(Clone, Copy, PartialEq, Eq)]
 pub enum Suffix {
     Open,
     Psk,
 }
 
-// The network of an iwd file name: its name is the first `length` of `bytes`, with zeros behind it. A refused one is not
-// ok, Open, and zeros.
+// The network of an iwd file name.
 #[derive(Clone, Copy)]
 pub struct IwdName {
-    pub ok: bool,
     pub suffix: Suffix,
-    pub length: usize,
-    pub bytes: [u8; 32],
+    pub name: Bounded<32>,
 }
 
-fn refused() -> IwdName
-    ensures { result ≡ iwd_name_answer none }
-{
-    IwdName {
-        ok: false,
-        suffix: Suffix::Open,
-        length: 0,
-        bytes: [0; 32],
+impl Suffix {
+    // The suffix itself, with its dot.
+    fn text(self) -> &'static [u8]
+        ensures { result.now ≡ suffix_of self }
+    {
+        match self {
+            Suffix::Open => b".open",
+            Suffix::Psk => b".psk",
+        }
     }
 }
 
 // The name that h gives, the hex behind `=`.
-fn hex_name(h: &[u8], suffix: Suffix) -> IwdName
-    ensures { result ≡ name_answer suffix (sized 1 32 (hex_name h.now)) }
+fn hex_name(h: &[u8]) -> Option<Bounded<32>>
+    ensures { result ≡ mapped (bounded 32) (sized 1 32 (hex_name h.now)) }
 {
     if 64 < h.len() {
-        return refused();
+        return None;
     }
     if !text::scan::all_of(h, Class::LowerHex) {
-        return refused();
+        return None;
     }
     if !hex_digits::is_hex(h) {
-        return refused();
+        return None;
     }
-    let bytes = hex_digits::unhexed_32(h);
-    let length = h.len() / 2;
-    if text::scan::all_of(&bytes[0..length], Class::Plain) {
-        return refused();
+    let name = Bounded {
+        len: h.len() / 2,
+        bytes: hex_digits::unhexed(h),
+    };
+    if text::scan::all_of(name.text(), Class::Plain) {
+        return None;
     }
-    IwdName {
-        ok: true,
-        suffix,
-        length,
-        bytes,
-    }
+    Some(name)
 }
 
 // The name that a stem gives.
-fn stem_name(s: &[u8], suffix: Suffix) -> IwdName
-    ensures { result ≡ name_answer suffix (name_of s.now) }
+fn stem_name(s: &[u8]) -> Option<Bounded<32>>
+    ensures { result ≡ mapped (bounded 32) (name_of s.now) }
 {
     if s.len() == 0 {
-        return refused();
+        return None;
     }
-    if s[0] == 61 {
-        return hex_name(&s[1..], suffix);
+    if s[0] == b'=' {
+        return hex_name(&s[1..]);
     }
     if 32 < s.len() {
-        return refused();
+        return None;
     }
     if !text::scan::all_of(s, Class::Plain) {
-        return refused();
+        return None;
     }
-    let bytes = put::padded_32(s);
-    IwdName {
-        ok: true,
-        suffix,
-        length: s.len(),
-        bytes,
-    }
+    Some(Bounded::of(s))
 }
 
-// The network that an iwd file name gives, or the refused answer.
-pub fn read_iwd_name(f: &[u8]) -> IwdName
-    ensures { result ≡ iwd_name_answer (network_of f.now) }
+// The suffix that s is.
+fn read_suffix(s: &[u8]) -> Option<Suffix>
+    ensures { result ≡ named s.now suffixes }
 {
-    let dot = text::scan::find_near(f, 0, 46);
-    if text::words::equal(&f[dot..], b".open") {
-        return stem_name(&f[0..dot], Suffix::Open);
+    if text::words::equal(s, b".open") {
+        return Some(Suffix::Open);
     }
-    if text::words::equal(&f[dot..], b".psk") {
-        return stem_name(&f[0..dot], Suffix::Psk);
+    if text::words::equal(s, b".psk") {
+        return Some(Suffix::Psk);
     }
-    refused()
+    None
+}
+
+// The network that an iwd file name gives, none where it is no such name.
+pub fn read_iwd_name(f: &[u8]) -> Option<IwdName>
+    ensures { result ≡ mapped network_laid (network_of f.now) }
+{
+    let dot = text::scan::find_near(f, 0, b'.');
+    let suffix = read_suffix(&f[dot..])?;
+    let name = stem_name(&f[0..dot])?;
+    Some(IwdName { suffix, name })
 }
 
 // Whether f is the name of a ConnMan file.
@@ -118,21 +118,12 @@ pub fn is_connman_name(f: &[u8]) -> bool
     text::words::equal(&f[end..], b".config")
 }
 
-fn suffix_len(suffix: Suffix) -> usize
-    ensures { result ≡ length (suffix_of suffix) }
-{
-    match suffix {
-        Suffix::Open => 5,
-        Suffix::Psk => 4,
-    }
-}
-
 // How many bytes the file name of a network has.
 pub fn iwd_name_len(name: &[u8], suffix: Suffix) -> usize
     requires { length name.now ≤ 32 }
     ensures { result ≡ length (file_name name.now suffix) }
 {
-    let behind = suffix_len(suffix);
+    let behind = suffix.text().len();
     if text::scan::all_of(name, Class::Plain) {
         return name.len() + behind;
     }
@@ -146,18 +137,8 @@ fn put_stem(out: &mut [u8], at: usize, name: &[u8]) -> usize
     if text::scan::all_of(name, Class::Plain) {
         return put::put_text(out, at, name);
     }
-    let behind = put::put_byte(out, at, 61);
+    let behind = put::put_byte(out, at, b'=');
     hex_digits::put_hex(out, behind, name)
-}
-
-fn put_suffix(out: &mut [u8], at: usize, suffix: Suffix) -> usize
-    requires { at + length (suffix_of suffix) ≤ length out.old }
-    ensures { Wrote (suffix_of suffix) at out.old out.new result }
-{
-    match suffix {
-        Suffix::Open => put::put_text(out, at, b".open"),
-        Suffix::Psk => put::put_text(out, at, b".psk"),
-    }
 }
 
 // Writes the file name of a network at a place of out, and returns the place behind it.
@@ -167,5 +148,5 @@ pub fn put_iwd_name(out: &mut [u8], at: usize, name: &[u8], suffix: Suffix) -> u
     ensures { Wrote (file_name name.now suffix) at out.old out.new result }
 {
     let behind = put_stem(out, at, name);
-    put_suffix(out, behind, suffix)
+    put::put_text(out, behind, suffix.text())
 }

@@ -4,7 +4,7 @@ use native.Mathlib.Omega.{arith}
 use mathlib.Core.Path.{◌≡◌, ap, sym, ◌∙◌, subst}
 use mathlib.Core.Bool.{false}
 use mathlib.Core.List.{List}
-use mathlib.Core.Option.{some}
+use Rattle.std.specs.Prelude.{Some}
 use Rattle.text.specs.declared.Dialect.{Dialect}
 use Rattle.text.specs.declared.Dialect.TheVariants.{ConnMan}
 use Rattle.rules.specs.Tables.{group_of}
@@ -26,7 +26,7 @@ use Rattle.pass.specs.Pass.{Found, ReadsFile}
 
 -- ---- the rows after a reading
 
-pub found_group : {d : Dialect} {file y : List ℕ} → Found d file y → (g : Group) → group_of d (group_name g) ≡ some g → serves g ≡ false → RowKeeps d file y (base g 0) g (entries_in (group_name g) (sections_of d file))
+pub found_group : {d : Dialect} {file y : List ℕ} → Found d file y → (g : Group) → group_of d (group_name g) ≡ Some g → serves g ≡ false → RowKeeps d file y (base g 0) g (entries_in (group_name g) (sections_of d file))
 found_group {d} {file} {y} f g q v = subst (λ (gs : List Section). RowKeeps d file y (base g 0) g (entries_in (group_name g) gs)) f.all (group_row f.kept g q v)
 
 pub found_service : {file y : List ℕ} → Found ConnMan file y → (w : ℕ) → (1 ≤ w) × (w ≤ 8) → RowKeeps ConnMan file y (base Service w) Service (service_at w (sections_of ConnMan file))

@@ -1,10 +1,10 @@
 -- The walk over the lines: the invariant, and one law for each turn and return.
-use Prim.Native.Nat.{ℕ, suc, ◌+◌, ◌-◌, ◌≤◌, ◌<◌}
+use Prim.Native.Nat.{ℕ, suc, ◌+◌, ◌≤◌, ◌<◌}
 use native.Mathlib.Omega.{arith}
 use native.Mathlib.Numerals.{add-one}
 use mathlib.Core.Path.{◌≡◌, refl, ap, sym, ◌∙◌, subst}
 use mathlib.Core.List.{List, [], ◌∷◌}
-use mathlib.Core.Option.{Option, none, some}
+use Rattle.std.specs.Prelude.{Option, None, Some, Result, Ok, Err}
 use lib.ListN.{length, drop, get_or, replicate, length-replicate, get_or-replicate, drop_of_length-le, length-append}
 use Rattle.text.specs.Bytes.{in_line}
 use Rattle.text.specs.Parts.{part, lines}
@@ -27,11 +27,8 @@ use Rattle.places.specs.Holds.{RowKeeps, HoldsGroups}
 use Rattle.reader.specs.Steps.{Known, StepIs, StepSays}
 use Rattle.places.specs.declared.State.{State}
 use Rattle.places.specs.declared.Current.TheVariants.{Outside}
-use Rattle.reader.specs.declared.Stepped.{Stepped}
-use Rattle.reader.specs.declared.Stepped.TheVariants.{Goes, Stops}
 use Rattle.places.proofs.RowLaws.{keys_few, lies}
 use Rattle.pass.specs.Pass.{Walks}
-use Rattle.pass.specs.declared.Walked.TheVariants.{Through, Stopped}
 
 -- the rest of the file from at on, after the groups of which state and table tell, is what the whole file is
 pub record Running (d : Dialect) (file : List ℕ) (x : List ℕ) (st : State) (at line : ℕ) : Type 0 where
@@ -85,8 +82,8 @@ entry_more e [] = omega arith
 entry_more e (s ∷ gs) = omega (arith, length-append s.entries (e ∷ []))
 
 group_more : (n : List ℕ) (o : Option Group) (l s : ℕ) (gs : List Section) → settings (with_group n o l s gs) ≤ settings gs + 1
-group_more n none l s gs = omega arith
-group_more n (some g) l s gs = omega arith
+group_more n None l s gs = omega arith
+group_more n (Some g) l s gs = omega arith
 
 settings_more : (d : Dialect) (n s v : ℕ) (p : Line) (gs : List Section) → settings (with_line d n s v p gs) ≤ settings gs + 1
 unfolding with_line
@@ -96,11 +93,11 @@ settings_more d n s v (broken b) gs = omega arith
 settings_more d n s v (header h) gs = group_more h (group_of d h) n s gs
 settings_more d n s v (setting k u) gs = entry_more (record { key = k; value = u; line = n; start = s + v }) gs
 
-line_good : (d : Dialect) (n s : ℕ) (gs : List Section) (l : List ℕ) (ls : List (List ℕ)) → fault d gs (line_of d l) ≡ none → line_fault d n s gs (l ∷ ls) ≡ line_fault d (suc n) (s + length l + 1) (after_line d n s l gs) ls
+line_good : (d : Dialect) (n s : ℕ) (gs : List Section) (l : List ℕ) (ls : List (List ℕ)) → fault d gs (line_of d l) ≡ None → line_fault d n s gs (l ∷ ls) ≡ line_fault d (suc n) (s + length l + 1) (after_line d n s l gs) ls
 unfolding line_fault
 line_good d n s gs l ls e = rw e
 
-line_bad : (d : Dialect) (n s : ℕ) (gs : List Section) (l : List ℕ) (ls : List (List ℕ)) {r : Refusal} → fault d gs (line_of d l) ≡ some r → line_fault d n s gs (l ∷ ls) ≡ some (record { refusal = r; line = n })
+line_bad : (d : Dialect) (n s : ℕ) (gs : List Section) (l : List ℕ) (ls : List (List ℕ)) {r : Refusal} → fault d gs (line_of d l) ≡ Some r → line_fault d n s gs (l ∷ ls) ≡ Some (record { refusal = r; line = n })
 unfolding line_fault
 line_bad d n s gs l ls e = rw e
 
@@ -109,7 +106,7 @@ unfolding grown
 line_next d n s gs l ls = refl
 
 module _ {d : Dialect} {file : List ℕ} {x : List ℕ} {st : State} {at line : ℕ} (h : Running d file x st at line) where
-  module _ (l : at < length file) {end : ℕ} (t : Stop in_line file at end) {y : List ℕ} {r : Stepped} (p : StepSays d file st x line at (value_start d (part at end file)) (line_of d (part at end file)) y r) where
+  module _ (l : at < length file) {end : ℕ} (t : Stop in_line file at end) {y : List ℕ} {r : Result State Refusal} (p : StepSays d file st x line at (value_start d (part at end file)) (line_of d (part at end file)) y r) where
     abbrev this : List ℕ
     this = part at end file
 
@@ -119,13 +116,13 @@ module _ {d : Dialect} {file : List ℕ} {x : List ℕ} {st : State} {at line : 
     next : at + length this + 1 ≡ end + 1
     next = omega (arith, part_long file at end (stop_low t) t.within, stop_low t)
 
-    stepped : {q : Stepped} → r ≡ q → StepIs d file h.known.groups line at (value_start d this) (line_of d this) y q
+    stepped : {q : Result State Refusal} → r ≡ q → StepIs d file h.known.groups line at (value_start d this) (line_of d this) y q
     stepped e = subst (StepIs d file h.known.groups line at (value_start d this) (line_of d this) y) e (p.says h.known.groups h.known.holds)
 
-    pub running_stop : {f : Refusal} → r ≡ Stops f → Walks d file y (Stopped f line)
+    pub running_stop : {f : Refusal} → r ≡ Err f → Walks d file y (Err (record { refusal = f; line = line }))
     running_stop e = record { is = sym h.rest ∙ ap (line_fault d line at h.known.groups) view ∙ line_bad d line at h.known.groups this (lines (drop (end + 1) file)) (stepped e) }
 
-    pub running_turn : {s : State} → r ≡ Goes s → Running d file y s (end + 1) (line + 1)
+    pub running_turn : {s : State} → r ≡ Ok s → Running d file y s (end + 1) (line + 1)
     running_turn e =
         let k = stepped e in
         record {
@@ -147,7 +144,7 @@ module _ {d : Dialect} {file : List ℕ} {x : List ℕ} {st : State} {at line : 
     unfolding line_of
     is_comment = ap (line_of d) (part_next file at end not_empty l ∙ ap (λ (c : ℕ). c ∷ part (at + 1) end file) b)
 
-    passed_over : StepSays d file st x line at (value_start d (part at end file)) (line_of d (part at end file)) x (Goes st)
+    passed_over : StepSays d file st x line at (value_start d (part at end file)) (line_of d (part at end file)) x (Ok st)
     unfolding fault with_line
     passed_over = record { says = λ gs k. rw is_comment (refl, k) }
 
@@ -158,7 +155,7 @@ module _ {d : Dialect} {file : List ℕ} {x : List ℕ} {st : State} {at line : 
     none_left : lines (drop at file) ≡ []
     none_left = ap lines (drop_of_length-le file l)
 
-    pub running_end : Walks d file x (Through st)
+    pub running_end : Walks d file x (Ok st)
     unfolding line_fault grown
     running_end =
         record {

@@ -12,40 +12,28 @@ ghost use Rattle.pass.specs.Pass.{Walks, ReadsKind, ReadsFile};
 ghost use Rattle.places.specs.Store.{file_limit, table_length};
 
 use places::{Current, FILE_LIMIT, PLACES, Places, State};
-use reader::Stepped;
-use rules::{Reading, Refusal};
+use rules::{Fault, Reading, Refusal};
 use text::Dialect;
 use verdicts::FileKind;
 
-// What is known after every line, or the first faulty line.
-#[derive(Clone, Copy)]
-pub enum Walked {
-    Through(State),
-    Stopped(Refusal, usize),
-}
-
-fn iwd_kind(name: &[u8]) -> FileKind
+fn iwd_kind(name: &[u8]) -> Option<FileKind>
     ensures { result ≡ kind_of_name (name_in Dialect.Iwd name.now) }
 {
-    let n = names::read_iwd_name(name);
-    let suffix = n.suffix;
-    if n.ok {
-        return FileKind::Iwd(suffix);
-    }
-    FileKind::Misnamed
+    let network = names::read_iwd_name(name)?;
+    Some(FileKind::Iwd(network.suffix))
 }
 
-fn connman_kind(name: &[u8]) -> FileKind
+fn connman_kind(name: &[u8]) -> Option<FileKind>
     ensures { result ≡ kind_of_name (name_in Dialect.ConnMan name.now) }
 {
     if names::is_connman_name(name) {
-        return FileKind::ConnMan;
+        return Some(FileKind::ConnMan);
     }
-    FileKind::Misnamed
+    None
 }
 
-// The kind that a name says, in a dialect.
-fn kind_of(d: Dialect, name: &[u8]) -> FileKind
+// The kind that a name says, in a dialect, if it is a file's name.
+fn kind_of(d: Dialect, name: &[u8]) -> Option<FileKind>
     ensures { result ≡ kind_of_name (name_in d name.now) }
 {
     match d {
@@ -54,9 +42,9 @@ fn kind_of(d: Dialect, name: &[u8]) -> FileKind
     }
 }
 
-// Walks over the lines of a file, and stops at the first faulty one. A line that starts with `#` is a comment: it is passed over at
+// What is known after every line of a file, or the first faulty line. A line that starts with `#` is a comment: it is passed over at
 // once, since it changes nothing of what is known.
-fn walk(d: Dialect, file: &[u8], x: &mut Places) -> Walked
+fn walk(d: Dialect, file: &[u8], x: &mut Places) -> Result<State, Fault>
     requires small { length file.now ≤ file_limit }
     requires empty { x.old ≡ replicate table_length 0 }
     ensures { Walks d file.now x.new result }
@@ -75,19 +63,18 @@ fn walk(d: Dialect, file: &[u8], x: &mut Places) -> Walked
             line += 1;
             continue;
         }
-        let stepped = reader::steps::step(d, file, x, st, at, end, line);
-        match stepped {
-            Stepped::Stops(refusal) => {
-                return Walked::Stopped(refusal, line);
-            }
-            Stepped::Goes(next) => {
+        match reader::steps::step(d, file, x, st, at, end, line) {
+            Ok(next) => {
                 st = next;
+            }
+            Err(refusal) => {
+                return Err(Fault { refusal, line });
             }
         }
         at = end + 1;
         line += 1;
     }
-    Walked::Through(st)
+    Ok(st)
 }
 
 // The reading of a file whose size is allowed and whose name says this kind.
@@ -96,13 +83,9 @@ fn read_kind(kind: FileKind, d: Dialect, file: &[u8], x: &mut Places) -> Reading
     requires empty { x.old ≡ replicate table_length 0 }
     ensures { ReadsKind kind d file.now x.new result }
 {
-    if let FileKind::Misnamed = kind {
-        return Reading::Refused(Refusal::FileName, 0);
-    }
-    let walked = walk(d, file, x);
-    match walked {
-        Walked::Through(st) => verdicts::ending::ending(kind, x, st),
-        Walked::Stopped(refusal, line) => Reading::Refused(refusal, line),
+    match walk(d, file, x) {
+        Ok(st) => verdicts::ending::ending(kind, x, st),
+        Err(fault) => Reading::Refused(fault.refusal, fault.line),
     }
 }
 
@@ -115,13 +98,15 @@ pub fn read(d: Dialect, name: &[u8], file: &[u8], x: &mut Places) -> Reading
     if FILE_LIMIT < file.len() {
         return Reading::Refused(Refusal::Size, 0);
     }
-    let kind = kind_of(d, name);
+    let Some(kind) = kind_of(d, name) else {
+        return Reading::Refused(Refusal::FileName, 0);
+    };
     let reading = read_kind(kind, d, file, x);
     match reading {
-        Reading::Accepted(settings, services) => Reading::Accepted(settings, services),
-        Reading::Refused(refusal, line) => {
+        Reading::Accepted(_, _) => reading,
+        Reading::Refused(_, _) => {
             *x = [0; PLACES];
-            Reading::Refused(refusal, line)
+            reading
         }
     }
 }

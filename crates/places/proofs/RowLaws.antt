@@ -4,7 +4,8 @@ use native.Mathlib.Omega.{arith}
 use mathlib.Core.Path.{◌≡◌, refl, ap, sym, ◌∙◌, subst}
 use mathlib.Core.Bool.{Bool, true, false, cond, not, ◌||◌, true≢false, false≢true}
 use mathlib.Core.List.{List, [], ◌∷◌, ◌++◌}
-use mathlib.Core.Option.{Option, none, some, none-ne-some, some-injective}
+use Rattle.std.specs.Prelude.{Option, None, Some}
+use Rattle.std.proofs.lemmas.Option.{none-some, same_Some}
 use borrow.Author.Tests.{eq-eqb, ne_eqb, le-leb, lt-leb}
 use lib.Dec.{eqb}
 use lib.ListN.{length}
@@ -74,30 +75,30 @@ pub given_entry : (k : List ℕ) (es : List Entry) → given k es ≡ is_some (e
 given_entry k [] = refl
 given_entry k (x ∷ es) = go (same k x.key) (given_entry k es)
   where
-    go : (b : Bool) → given k es ≡ is_some (entry_of k es) → (b || given k es) ≡ is_some (cond b (some x) (entry_of k es))
+    go : (b : Bool) → given k es ≡ is_some (entry_of k es) → (b || given k es) ≡ is_some (cond b (Some x) (entry_of k es))
     go true h = refl
     go false h = h
 
 entry_other : (k : List ℕ) (x : Entry) (es : List Entry) → same k x.key ≡ false → entry_of k (es ++ (x ∷ [])) ≡ entry_of k es
 entry_other k x [] h = rw h
-entry_other k x (y ∷ es) h = ap (cond (same k y.key) (some y)) (entry_other k x es h)
+entry_other k x (y ∷ es) h = ap (cond (same k y.key) (Some y)) (entry_other k x es h)
 
-entry_new : (k : List ℕ) (x : Entry) (es : List Entry) → same k x.key ≡ true → given k es ≡ false → entry_of k (es ++ (x ∷ [])) ≡ some x
+entry_new : (k : List ℕ) (x : Entry) (es : List Entry) → same k x.key ≡ true → given k es ≡ false → entry_of k (es ++ (x ∷ [])) ≡ Some x
 entry_new k x [] h g = rw h
 entry_new k x (y ∷ es) h g = go (same k y.key) refl (λ q. entry_new k x es h q)
   where
-    go : (b : Bool) → same k y.key ≡ b → (given k es ≡ false → entry_of k (es ++ (x ∷ [])) ≡ some x) → cond b (some y) (entry_of k (es ++ (x ∷ []))) ≡ some x
+    go : (b : Bool) → same k y.key ≡ b → (given k es ≡ false → entry_of k (es ++ (x ∷ [])) ≡ Some x) → cond b (Some y) (entry_of k (es ++ (x ∷ []))) ≡ Some x
     go true q f = absurd (true≢false (rw q at g))
     go false q f = f (rw q at g)
 
 -- whether a slot is taken says whether its key is given
 pub kept_given : (d : Dialect) (k : Option Kind) (file : List ℕ) (s : Slot) (o : Option Entry) → SlotKeeps d k file s o → {b : Bool} → eqb s.line 0 ≡ b → is_some o ≡ not b
-kept_given d k file s none h {b} e = go b (sym (ap (λ (t : Slot). eqb t.line 0) h) ∙ e)
+kept_given d k file s None h {b} e = go b (sym (ap (λ (t : Slot). eqb t.line 0) h) ∙ e)
   where
     go : (b : Bool) → true ≡ b → false ≡ not b
     go true q = refl
     go false q = absurd (true≢false q)
-kept_given d k file s (some x) h {b} e = go b (sym (ne_eqb s.line 0 (λ q. omega (arith, q, h.some))) ∙ e)
+kept_given d k file s (Some x) h {b} e = go b (sym (ne_eqb s.line 0 (λ q. omega (arith, q, h.some))) ∙ e)
   where
     go : (b : Bool) → false ≡ b → true ≡ not b
     go true q = absurd (false≢true q)
@@ -149,22 +150,22 @@ pub lies : (d : Dialect) (r : ℕ) → OwnRow d r → Lies d r
 lies Iwd r h = record { is = rw (lt-leb 4 r h) (omega arith); low = omega arith; high = omega (arith, h) }
 lies ConnMan r h = record { is = rw (le-leb 4 r h.0); low = h.0; high = omega (arith, h.1) }
 
-pub own_row : (d : Dialect) (n : List ℕ) {g : Group} → group_of d n ≡ some g → (m : ℕ) → m ≤ 8 → OwnRow d (row_number g m)
+pub own_row : (d : Dialect) (n : List ℕ) {g : Group} → group_of d n ≡ Some g → (m : ℕ) → m ≤ 8 → OwnRow d (row_number g m)
 unfolding group_of
 own_row Iwd n {g} e m l = go (same n (word "Settings")) (same n (word "Security")) (same n (word "IPv4")) (same n (word "IPv6")) e
   where
-    go : (a b c f : Bool) → cond a (some Settings) (cond b (some Security) (cond c (some Ipv4) (cond f (some Ipv6) none))) ≡ some g → row_number g m < 4
-    go true b c f k = subst (λ (h : Group). row_number h m < 4) (some-injective Settings g k) (omega arith)
-    go false true c f k = subst (λ (h : Group). row_number h m < 4) (some-injective Security g k) (omega arith)
-    go false false true f k = subst (λ (h : Group). row_number h m < 4) (some-injective Ipv4 g k) (omega arith)
-    go false false false true k = subst (λ (h : Group). row_number h m < 4) (some-injective Ipv6 g k) (omega arith)
-    go false false false false k = absurd (none-ne-some g k)
+    go : (a b c f : Bool) → cond a (Some Settings) (cond b (Some Security) (cond c (Some Ipv4) (cond f (Some Ipv6) None))) ≡ Some g → row_number g m < 4
+    go true b c f k = subst (λ (h : Group). row_number h m < 4) (same_Some Settings g k) (omega arith)
+    go false true c f k = subst (λ (h : Group). row_number h m < 4) (same_Some Security g k) (omega arith)
+    go false false true f k = subst (λ (h : Group). row_number h m < 4) (same_Some Ipv4 g k) (omega arith)
+    go false false false true k = subst (λ (h : Group). row_number h m < 4) (same_Some Ipv6 g k) (omega arith)
+    go false false false false k = absurd (none-some g k)
 own_row ConnMan n {g} e m l = go (same n (word "global")) (is_service n) e
   where
-    go : (a b : Bool) → cond a (some Global) (only b (some Service)) ≡ some g → (4 ≤ row_number g m) × (row_number g m < 13)
-    go true b k = subst (λ (h : Group). (4 ≤ row_number h m) × (row_number h m < 13)) (some-injective Global g k) (omega arith, omega arith)
-    go false true k = subst (λ (h : Group). (4 ≤ row_number h m) × (row_number h m < 13)) (some-injective Service g k) (omega arith, omega arith)
-    go false false k = absurd (none-ne-some g k)
+    go : (a b : Bool) → cond a (Some Global) (only b (Some Service)) ≡ Some g → (4 ≤ row_number g m) × (row_number g m < 13)
+    go true b k = subst (λ (h : Group). (4 ≤ row_number h m) × (row_number h m < 13)) (same_Some Global g k) (omega arith, omega arith)
+    go false true k = subst (λ (h : Group). (4 ≤ row_number h m) × (row_number h m < 13)) (same_Some Service g k) (omega arith, omega arith)
+    go false false k = absurd (none-some g k)
 
 module _ (s : Section) (gs : List Section) where
   pub group_after : group_at (row_after s gs) ≡ s.group

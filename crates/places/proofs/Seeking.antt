@@ -11,7 +11,6 @@ use Rattle.places.specs.Holds.{among}
 use Rattle.places.specs.History.{name_base}
 
 pub record SeekingName (file x : List ℕ) (n i : ℕ) (w : List ℕ) : Type 0 where
-  pub few : i ≤ n
   pub rest : among file x i w ≡ among file x n w
 
 module _ {file x : List ℕ} {n i : ℕ} {w : List ℕ} (h : SeekingName file x n i w) where
@@ -26,4 +25,4 @@ module _ {file x : List ℕ} {n i : ℕ} {w : List ℕ} (h : SeekingName file x 
     seeking_found e = sym (step ∙ rw e)
 
     pub seeking_turn : b ≡ false → SeekingName file x n (i - 1) w
-    seeking_turn e = record { few = omega (arith, h.few); rest = sym (step ∙ rw e) }
+    seeking_turn e = record { rest = sym (step ∙ rw e) }

@@ -4,7 +4,7 @@ use native.Mathlib.Omega.{arith}
 use mathlib.Core.Path.{◌≡◌, refl, ap, sym, ◌∙◌, subst}
 use mathlib.Core.Bool.{Bool, true, false, cond, ◌&&◌, true≢false}
 use mathlib.Core.List.{List, [], ◌∷◌, ◌++◌, reverse, reverse-cons}
-use mathlib.Core.Option.{Option, none, some}
+use Rattle.std.specs.Prelude.{Option, None, Some}
 use borrow.Author.Tests.{eq-eqb, ne_eqb, eqb-true, eqb-false, le-leb}
 use lib.Dec.{eqb}
 use Rattle.text.specs.Parts.{part}
@@ -25,17 +25,17 @@ use Rattle.places.proofs.Backwards.{services_reverse}
 
 module _ (d : Dialect) (k : Option Kind) (file : List ℕ) (s : Slot) where
   -- a kind that reads nothing from no bytes
-  pub kept_read : {A : Type 0} (f : List ℕ → Option A) → f [] ≡ none → OfText k → (o : Option Entry) → SlotKeeps d k file s o → f (part s.start s.end file) ≡ read_as f o
-  kept_read f e t none q = rw (ap (λ (u : Slot). u.start) q, ap (λ (u : Slot). u.end) q, part_none file 0) e
-  kept_read f e t (some x) h = ap f (h.value t)
+  pub kept_read : {A : Type 0} (f : List ℕ → Option A) → f [] ≡ None → OfText k → (o : Option Entry) → SlotKeeps d k file s o → f (part s.start s.end file) ≡ read_as f o
+  kept_read f e t None q = rw (ap (λ (u : Slot). u.start) q, ap (λ (u : Slot). u.end) q, part_none file 0) e
+  kept_read f e t (Some x) h = ap f (h.value t)
 
   pub kept_line : (o : Option Entry) → SlotKeeps d k file s o → s.line ≡ entry_line o
-  kept_line none q = ap (λ (t : Slot). t.line) q
-  kept_line (some x) h = h.line
+  kept_line None q = ap (λ (t : Slot). t.line) q
+  kept_line (Some x) h = h.line
 
   pub kept_start : OfText k → (o : Option Entry) → SlotKeeps d k file s o → s.start ≡ entry_start o
-  kept_start t none q = ap (λ (u : Slot). u.start) q
-  kept_start t (some x) h = h.start t
+  kept_start t None q = ap (λ (u : Slot). u.start) q
+  kept_start t (Some x) h = h.start t
 
 -- ---- a service by its number, the groups in file order and the latest first
 

@@ -1,6 +1,5 @@
 -- What the state and the table of places hold of the groups before a line.
-use Rattle.std.specs.Prelude.{ℕ, zero, suc, ◌+◌, ◌≤◌, ◌<◌, ◌≡◌, Bool, true, false, ◌||◌, List, [], ◌∷◌, length}
-use Rattle.std.proofs.Math.Option.{Option, none, some}
+use Rattle.std.specs.Prelude.{ℕ, zero, suc, ◌+◌, ◌≤◌, ◌<◌, ◌≡◌, Bool, true, false, ◌||◌, List, [], ◌∷◌, length, Option, None, Some}
 use Rattle.text.specs.Parts.{part}
 use Rattle.text.specs.Words.{same, place}
 use Rattle.text.specs.declared.Dialect.{Dialect}
@@ -38,7 +37,7 @@ code_of (T.bytes b) = 0
 -- bytes are good, by their kind, and this is their code
 pub record Coded (d : Dialect) (k : Option Kind) (v : List ℕ) (c : ℕ) : Type 0 where
   pub kind : Kind
-  pub of_kind : k ≡ some kind
+  pub of_kind : k ≡ Some kind
   pub typed : Typed
   pub good : judged d kind v ≡ good typed
   pub is : c ≡ code_of typed
@@ -62,8 +61,8 @@ is_text K.Passphrase = true
 is_text (K.Text low high) = true
 
 abbrev pub OfText : Option Kind → Type 0
-OfText none = ⊥
-OfText (some k) = is_text k ≡ true
+OfText None = ⊥
+OfText (Some k) = is_text k ≡ true
 
 -- a slot says where a setting's value stands, if it is a text, and what it is
 pub record SlotSays (d : Dialect) (k : Option Kind) (file : List ℕ) (s : Slot) (x : Entry) : Type 0 where
@@ -76,8 +75,8 @@ pub record SlotSays (d : Dialect) (k : Option Kind) (file : List ℕ) (s : Slot)
   pub code : Coded d k x.value s.code
 
 abbrev pub SlotKeeps : Dialect → Option Kind → List ℕ → Slot → Option Entry → Type 0
-SlotKeeps d k file s none = s ≡ empty_slot
-SlotKeeps d k file s (some x) = SlotSays d k file s x
+SlotKeeps d k file s None = s ≡ empty_slot
+SlotKeeps d k file s (Some x) = SlotSays d k file s x
 
 -- a row from b on: of each key of the group g, by its place there, the setting among es
 pub record RowKeeps (d : Dialect) (file x : List ℕ) (b : ℕ) (g : Group) (es : List Entry) : Type 0 where
@@ -88,7 +87,7 @@ pub record RowKeeps (d : Dialect) (file x : List ℕ) (b : ℕ) (g : Group) (es 
 abbrev pub WellNamed : Dialect → List Section → Type 0
 WellNamed d [] = Unit
 WellNamed d (s ∷ gs) =
-    (group_of d s.name ≡ some s.group) × (0 < s.line) × (name_given s.name gs ≡ false) × WellNamed d gs
+    (group_of d s.name ≡ Some s.group) × (0 < s.line) × (name_given s.name gs ≡ false) × WellNamed d gs
 
 -- all rows
 pub record RowsKeep (d : Dialect) (file x : List ℕ) (gs : List Section) : Type 0 where
@@ -119,4 +118,4 @@ pub record HoldsGroups (d : Dialect) (file : List ℕ) (st : State) (x : List �
   pub services : st.services ≡ services gs
   pub settings : st.settings ≡ settings gs
   pub spans : Spans file x st.services
-  pub names : (n : List ℕ) → group_of d n ≡ some Service → among file x st.services n ≡ name_given n gs
+  pub names : (n : List ℕ) → group_of d n ≡ Some Service → among file x st.services n ≡ name_given n gs

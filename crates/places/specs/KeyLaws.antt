@@ -1,7 +1,6 @@
 -- The keys by name stand where the tables of the groups have them, with the kinds that those tables say.
-use Rattle.std.specs.Prelude.{◌<◌, ◌≡◌, refl}
+use Rattle.std.specs.Prelude.{◌<◌, ◌≡◌, refl, Some}
 use Rattle.std.proofs.Common.{arith}
-use Rattle.std.proofs.Math.Option.{some}
 use Rattle.text.specs.Words.{place}
 use Rattle.rules.specs.Tables.{keys_of, kind_of}
 use Rattle.tables.specs.KeyPlaces.{key_names}
@@ -12,7 +11,7 @@ use Rattle.places.specs.declared.KeyName.TheVariants as N
 
 pub record Listed (k : NamedKey) : Type 0 where
   pub placed : place k.name (key_names k.group) ≡ k.slot
-  pub kind : kind_of k.group k.name ≡ some k.kind
+  pub kind : kind_of k.group k.name ≡ Some k.kind
   pub few : (0 < k.slot) × (k.slot < row_length)
 
 listed : (k : KeyName) → Listed (key_named k)
@@ -53,7 +52,7 @@ listed N.Hidden = record { placed = refl; kind = refl; few = (omega arith, omega
 pub listed_placed : (k : KeyName) → place (key_word k) (key_names (key_group k)) ≡ key_place k
 listed_placed k = (listed k).placed
 
-pub listed_kind : (k : KeyName) → kind_of (key_group k) (key_word k) ≡ some (key_kind k)
+pub listed_kind : (k : KeyName) → kind_of (key_group k) (key_word k) ≡ Some (key_kind k)
 listed_kind k = (listed k).kind
 
 pub listed_few : (k : KeyName) → (0 < key_place k) × (key_place k < row_length)

@@ -1,5 +1,7 @@
 // Rows of the table of places: where the row of a group starts, and what a row says of a key.
-ghost use Rattle.std.specs.Prelude.{◌≡◌, ◌||◌, ◌&&◌, ◌≤◌};
+#![tactic(auto, using(crate::specs::KeyLaws::listed_few, crate::specs::KeyLaws::listed_placed, crate::proofs::Values::service_base))]
+
+ghost use Rattle.std.specs.Prelude.{◌≡◌, ◌≤◌};
 ghost use Rattle.places.specs.History.{base};
 ghost use Rattle.places.specs.KeySlots.{RowInTable, ValueInFile, key_slot, bytes_of, is_taken, slot_is};
 
@@ -77,18 +79,4 @@ pub fn start_of(x: &Places, row: usize, k: KeyName) -> usize
 {
     let i = row + key_place(k);
     wide(x[i])
-}
-
-// Two answers of a row as one.
-
-pub fn either(a: bool, b: bool) -> bool
-    ensures { result ≡ (a || b) }
-{
-    a || b
-}
-
-pub fn both(a: bool, b: bool) -> bool
-    ensures { result ≡ (a && b) }
-{
-    a && b
 }

@@ -12,13 +12,10 @@ pub fn service_named(file: &[u8], x: &Places, n: usize, name: &[u8]) -> bool
     requires spans { Spans file.now x.now n }
     ensures { result ≡ among file.now x.now n name.now }
 {
-    let mut i = n;
-    while 0 < i {
-        let j = i - 1;
-        if text::words::equal(name, value_at(file, x, NAMES + j)) {
+    for i in (0..n).rev() {
+        if text::words::equal(name, value_at(file, x, NAMES + i)) {
             return true;
         }
-        i = j;
     }
     false
 }

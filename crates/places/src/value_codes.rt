@@ -35,7 +35,7 @@ pub fn value_code(v: Value) -> u16
         Value::Flag(b) => flag_code(b),
         Value::Mask(n) => n as u16,
         Value::Word(w) => word_number(w),
-        Value::Text(p) => 0,
+        Value::Text(_) => 0,
     }
 }
 
@@ -54,9 +54,7 @@ pub fn text_place(v: Value) -> Place
     ensures { result ≡ text_place v }
 {
     match v {
-        Value::Flag(b) => NOWHERE,
-        Value::Mask(n) => NOWHERE,
-        Value::Word(w) => NOWHERE,
         Value::Text(p) => p,
+        _ => NOWHERE,
     }
 }

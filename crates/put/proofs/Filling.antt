@@ -1,7 +1,7 @@
 -- A text that may be broken, read into the front of a buffer byte by byte; and an array filled from its front.
 use mathlib.Core.Path.{◌≡◌, refl, ap, sym, ◌∙◌, subst}
 use mathlib.Core.List.{List, [], ◌∷◌, ◌++◌, append-nil}
-use mathlib.Core.Option.{Option, none, some}
+use Rattle.std.specs.Prelude.{Option, None, Some}
 use Prim.Native.Nat.{ℕ, zero, suc, ◌+◌, ◌-◌, ◌≤◌, ◌<◌}
 use native.Mathlib.Nat.{zero-add, sub-zero, zero-sub, suc-sub-suc}
 use native.Mathlib.Numerals.{add-one}
@@ -25,21 +25,21 @@ pub filling_first : (t : Option (List ℕ)) (o : List ℕ) → ReadsUpTo (length
 filling_first t o f = record { read = glue_nil t; room = omega arith; long = refl; rest = refl; fits = f }
 
 fits_more : (t : List ℕ) (x m : ℕ) (o : Option (List ℕ)) → ReadsUpTo m (glue t (prepend x o)) → length t < m
-fits_more t x m none f = absurd f
-fits_more t x m (some u) f = omega (arith, simp length-append at f)
+fits_more t x m None f = absurd f
+fits_more t x m (Some u) f = omega (arith, simp length-append at f)
 
 abbrev tail : List ℕ → List ℕ
 tail [] = []
 tail (y ∷ ys) = ys
 
 module _ {t r : Option (List ℕ)} {n : ℕ} {o x : List ℕ} (h : Filling t r n o x) where
-  pub filling_none : r ≡ none → ⊥
+  pub filling_none : r ≡ None → ⊥
   filling_none e = subst (ReadsUpTo (length o)) (sym h.read ∙ ap (glue (take n x)) e) h.fits
 
-  pub filling_end : r ≡ some [] → Wrote (or_empty t) 0 o x n
+  pub filling_end : r ≡ Some [] → Wrote (or_empty t) 0 o x n
   filling_end e =
       let k : length (take n x) ≡ n = length-take-le n x h.room in
-      let w : t ≡ some (take n x) = sym h.read ∙ ap (glue (take n x)) e ∙ ap some (append-nil (take n x)) in
+      let w : t ≡ Some (take n x) = sym h.read ∙ ap (glue (take n x)) e ∙ ap Some (append-nil (take n x)) in
       rw w (record { next = omega arith; room = omega (arith, h.room, h.long); long = h.long; text = sym (rw (k, zero-add n, ← h.rest) (take-append-drop n x)) })
 
   module _ (y : ℕ) (q : Option (List ℕ)) (e : r ≡ prepend y q) where

@@ -4,21 +4,19 @@
 // (specs/Put). Writers in turn make one writer of the texts together (specs/Laws, `then`).
 #![tactic(auto)]
 
-ghost use Rattle.std.specs.Prelude.{◌≡◌, [], ◌∷◌, ◌+◌, ◌≤◌, ◌<◌, length};
+ghost use Rattle.std.specs.Prelude.{◌≡◌, [], ◌∷◌, ◌+◌, ◌≤◌, ◌<◌, length, take};
 ghost use Rattle.text.specs.Parts.{padded};
 ghost use Rattle.put.specs.Put.{Wrote};
+ghost use Rattle.put.specs.Texts.{bounded};
 
 // Writes s at a place of out, and returns the place behind it.
 pub fn put_text(out: &mut [u8], at: usize, s: &[u8]) -> usize
     requires { at + length s.now ≤ length out.old }
     ensures { Wrote s.now at out.old out.new result }
 {
-    let mut i = 0;
-    while i < s.len() {
-        out[at + i] = s[i];
-        i += 1;
-    }
-    at + i
+    let end = at + s.len();
+    out[at..end].copy_from_slice(s);
+    end
 }
 
 // Writes one byte at a place of out, and returns the place behind it.
@@ -30,12 +28,50 @@ pub fn put_byte(out: &mut [u8], at: usize, b: u8) -> usize
     at + 1
 }
 
-// s, and zeros up to 32 bytes.
-pub fn padded_32(s: &[u8]) -> [u8; 32]
-    requires { length s.now ≤ 32 }
-    ensures { result ≡ padded 32 s.now }
+// A text of at most N bytes, with zeros behind it.
+#[derive(Clone, Copy)]
+pub struct Bounded<const N: usize> {
+    pub len: usize,
+    pub bytes: [u8; N],
+}
+
+// s, and zeros up to N bytes.
+pub fn padded<const N: usize>(s: &[u8]) -> [u8; N]
+    requires { length s.now ≤ N }
+    ensures { result ≡ padded N s.now }
 {
-    let mut a = [0u8; 32];
+    let mut a = [0u8; N];
     put_text(&mut a, 0, s);
     a
+}
+
+impl<const N: usize> Bounded<N> {
+    // The text s.
+    pub fn of(s: &[u8]) -> Self
+        requires { length s.now ≤ N }
+        ensures { result ≡ bounded N s.now }
+    {
+        Bounded {
+            len: s.len(),
+            bytes: padded(s),
+        }
+    }
+
+    // No bytes.
+    pub fn none() -> Self
+        ensures { result ≡ bounded N [] }
+    {
+        Bounded {
+            len: 0,
+            bytes: [0; N],
+        }
+    }
+
+    // The text itself.
+    pub fn text(&self) -> &[u8]
+        requires { self.now.len ≤ N }
+        ensures { result.now ≡ take self.now.len self.now.bytes }
+    {
+        &self.bytes[..self.len]
+    }
 }

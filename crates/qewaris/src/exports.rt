@@ -105,12 +105,10 @@ pub fn qewaris_service_record(name: &[u8], file: &[u8], service: usize) -> CReco
 pub fn qewaris_write_iwd(brought: CRecord, name_out: &mut [u8], file_out: &mut [u8]) -> CWritten
     ensures { Leaves (write_iwd brought name_out.old file_out.old) name_out.new file_out.new result }
 {
-    if !record_layout::is_known(brought) {
+    let Some(record) = record_layout::known_record(brought) else {
         return answer_layout::written_at(writer::refused(Refusal::Malformed, 0));
-    }
-    let bytes = brought.servers;
-    let servers = record_layout::fours(bytes);
-    let record = record_layout::record_in(brought);
+    };
+    let servers = record_layout::fours(brought.servers);
     answer_layout::written_at(crate::files::write_iwd(record, servers, name_out, file_out))
 }
 

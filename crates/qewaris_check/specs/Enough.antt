@@ -1,7 +1,6 @@
 -- Why a long name line is answered by its form.
-use Rattle.std.specs.Prelude.{ℕ, ◌-◌, ◌<◌, ◌≡◌, refl, Bool, true, false, cond, not, List, [], length}
+use Rattle.std.specs.Prelude.{ℕ, ◌-◌, ◌<◌, ◌≡◌, refl, Bool, true, false, cond, not, List, [], length, Option, None, Some}
 use Rattle.std.proofs.Common.{ap, sym, ◌∙◌, arith, le-ltb, length-drop}
-use Rattle.std.proofs.Math.Option.{Option, none, some}
 use Rattle.text.specs.Bytes.{is_alphanumeric}
 use Rattle.text.specs.Parts.{front, after, lead, empty}
 use Rattle.text.specs.Words.{word, same}
@@ -19,18 +18,18 @@ use Rattle.intake.specs.Enough.{reading_name}
 use Rattle.qewaris_check.specs.Answers.{long_answer}
 
 -- a bad name is bad in either dialect
-reading_unnamed : (d g : Dialect) (a b file : List ℕ) → name_in d a ≡ none → name_in g b ≡ none →
+reading_unnamed : (d g : Dialect) (a b file : List ℕ) → name_in d a ≡ None → name_in g b ≡ None →
     reading d a file ≡ reading g b file
 unfolding reading
 reading_unnamed d g a b file e q = rw (e, q)
 
 -- no good iwd name is longer than `name_max`
-long_unnamed : (f : List ℕ) → name_max < length f → network_of f ≡ none
+long_unnamed : (f : List ℕ) → name_max < length f → network_of f ≡ None
 long_unnamed f l = go (network_of f) refl
   where
-    go : (o : Option Network) → network_of f ≡ o → o ≡ none
-    go none e = refl
-    go (some x) e = absurd (omega (arith, l, ap length (file_name_network f e), file_name_short x.name x.suffix (network_bytes f e).high))
+    go : (o : Option Network) → network_of f ≡ o → o ≡ None
+    go None e = refl
+    go (Some x) e = absurd (omega (arith, l, ap length (file_name_network f e), file_name_short x.name x.suffix (network_bytes f e).high))
 
 -- a ConnMan name ends in `.config`
 connman_ends : (f : List ℕ) → connman_name f ≡ true → dialect_of f ≡ ConnMan
@@ -40,7 +39,7 @@ connman_ends f e =
     let place : length f - 7 ≡ lead is_alphanumeric f = omega (arith, seven) in
     rw (le-ltb (length f) 7 (omega (arith, seven)), place, rest)
 
-no_name : name_in Iwd [] ≡ none
+no_name : name_in Iwd [] ≡ None
 unfolding network_of
 no_name = refl
 

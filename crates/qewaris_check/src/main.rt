@@ -18,11 +18,7 @@ use text::Dialect;
 
 fn say_reading<W: Write>(out: &mut W, r: Reading) -> io::Result<()> {
     match r {
-        Reading::Accepted(settings, _) => {
-            streams::say(out, b"accepted ")?;
-            streams::say_number(out, settings)?;
-            streams::say(out, b"\n")
-        }
+        Reading::Accepted(settings, _) => { write!(out, "accepted {settings}\n") }
         Reading::Refused(refusal, line) => streams::say_refused(out, refusal, line),
     }
 }
@@ -50,15 +46,11 @@ fn check_kept(k: NamedFile, name: &NameBuffer, file: &FileBuffer) -> Reading
     requires { (k.name ≤ length name.now) × (k.file ≤ length file.now) }
     ensures { (i : List ℕ) → KeepsFile i name.now file.now k → result ≡ checked_input i }
 {
-    let name = &name[..];
-    let file = &file[..];
-    let n = k.name;
-    let form = k.form;
-    let size = k.file;
-    if n == name.len() {
-        return check_long(form, &file[0..size]);
+    let file = &file[0..k.file];
+    if k.name == name.len() {
+        return check_long(k.form, file);
     }
-    check_name(&name[0..n], &file[0..size])
+    check_name(&name[0..k.name], file)
 }
 
 fn main(rt: HostRuntime) -> io::Result<()> {
@@ -67,9 +59,7 @@ fn main(rt: HostRuntime) -> io::Result<()> {
     let mut file = [0u8; 16385];
     let input = streams::read_input(&mut rt.stdin(), &mut number, &mut name, &mut file, false);
     if input.whole {
-        let kept = input.kept;
-        let rest = kept.rest;
-        say_reading(&mut rt.stdout(), check_kept(rest, &name, &file))?;
+        say_reading(&mut rt.stdout(), check_kept(input.kept.rest, &name, &file))?;
     }
     Ok(())
 }

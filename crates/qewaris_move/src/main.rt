@@ -25,13 +25,8 @@ use written::buffers::{NewFile, NewName};
 fn say_written<W: Write>(out: &mut W, w: Written, name: &NewName, file: &NewFile) -> io::Result<()>
     requires { Sayable name.now file.now w }
 {
-    let name = &name[..];
-    let file = &file[..];
-    let answer = w.answer;
-    let name_len = w.name_len;
-    let file_len = w.file_len;
-    match answer {
-        Answer::Good => streams::say_file(out, &name[0..name_len], &file[0..file_len]),
+    match w.answer {
+        Answer::Good => streams::say_file(out, &name[..w.name_len], &file[..w.file_len]),
         Answer::Refused(refusal, line) => streams::say_refused(out, refusal, line),
     }
 }
@@ -64,14 +59,9 @@ fn move_kept(
     requires { (k.number ≤ length number.now) × (k.rest.file ≤ length file.now) }
     ensures { (i : List ℕ) (name : List ℕ) → KeepsInput i number.now name file.now k → Writes (moved_input i name_out.old file_out.old) name_out.old file_out.old name_out.new file_out.new result }
 {
-    let number = &number[..];
-    let file = &file[..];
-    let digits = k.number;
+    let service = numbers::service_number(&number[0..k.number]);
     let rest = k.rest;
-    let form = rest.form;
-    let size = rest.file;
-    let service = numbers::service_number(&number[0..digits]);
-    move_named(form, &file[0..size], service, name_out, file_out)
+    move_named(rest.form, &file[0..rest.file], service, name_out, file_out)
 }
 
 fn main(rt: HostRuntime) -> io::Result<()> {
@@ -79,11 +69,10 @@ fn main(rt: HostRuntime) -> io::Result<()> {
     let mut name = [0u8; 129];
     let mut file = [0u8; 16385];
     let input = streams::read_input(&mut rt.stdin(), &mut number, &mut name, &mut file, true);
-    let kept = input.kept;
     if input.whole {
         let mut name_out = buffers::for_name();
         let mut file_out = buffers::for_file();
-        let written = move_kept(kept, &number, &file, &mut name_out, &mut file_out);
+        let written = move_kept(input.kept, &number, &file, &mut name_out, &mut file_out);
         say_written(&mut rt.stdout(), written, &name_out, &file_out)?;
     }
     Ok(())

@@ -11,7 +11,7 @@ use Rattle.text.specs.Parts.{part}
 use Rattle.text.specs.Words.{same, place}
 use Rattle.text.specs.declared.Dialect.{Dialect}
 use Rattle.rules.specs.Tables.{kind_of}
-use Rattle.rules.specs.Sections.{services, Entry, Section, given, with_entry, settings}
+use Rattle.rules.specs.Sections.{services, Entry, Section, given, with_entry}
 use Rattle.tables.specs.KeyPlaces.{key_names}
 use Rattle.rules.specs.declared.Group.{Group}
 use Rattle.places.specs.Store.{slot_count, Slot, slot, stored}

@@ -20,6 +20,7 @@ use Rattle.rules.specs.declared.Refusal.{Refusal}
 use Rattle.reader.specs.Says.{SettingIs, SettingSays}
 use Rattle.reader.specs.Steps.{LineIs, LineSays}
 use Rattle.places.specs.declared.Current.{Current}
+use Rattle.std.specs.Prelude.{Result, Ok, Err}
 use Rattle.reader.specs.declared.Line.{Line}
 use Rattle.reader.specs.declared.Line.TheVariants as L
 
@@ -41,31 +42,31 @@ module _ (d : Dialect) (file : List ℕ) (s e : ℕ) (low : s ≤ e) (within : e
   part_moved : {p : Place} → Inside (length line) p → part_at line p ≡ part_at file (moved p)
   part_moved {p} i = part_part file s e p.start p.end low within i.low i.high
 
-  module _ {f : Form} (at : f ≡ form_at d line) where
+  module _ {f : Result Form Break} (at : f ≡ form_at d line) where
     h : Forms d line f
     h = subst (Forms d line) (sym at) (form_says d line)
 
-    pub line_blank : {x : List ℕ} {c : Current} → f ≡ F.Blank → LineSays d file x c s line L.Blank
+    pub line_blank : {x : List ℕ} {c : Current} → f ≡ Ok F.Blank → LineSays d file x c s line (Ok L.Blank)
     line_blank q = record { says = λ gs e rows. sym h.is ∙ ap (line_of_form line) q }
 
-    pub line_comment : {x : List ℕ} {c : Current} → f ≡ F.Comment → LineSays d file x c s line L.Comment
+    pub line_comment : {x : List ℕ} {c : Current} → f ≡ Ok F.Comment → LineSays d file x c s line (Ok L.Comment)
     line_comment q = record { says = λ gs e rows. sym h.is ∙ ap (line_of_form line) q }
 
-    pub line_broken : {x : List ℕ} {c : Current} {b : Break} → f ≡ F.Broken b → {r : Refusal} → r ≡ break_of b → LineSays d file x c s line (L.Refused r)
+    pub line_broken : {x : List ℕ} {c : Current} {b : Break} → f ≡ Err b → {r : Refusal} → r ≡ break_of b → LineSays d file x c s line (Err r)
     unfolding fault
     line_broken q v = record { says = λ gs e rows. rw (sym h.is ∙ ap (line_of_form line) q, v) }
 
-    module _ {p : Place} (q : f ≡ F.Header p) where
+    module _ {p : Place} (q : f ≡ Ok (F.Header p)) where
       header_inside : Inside (length line) p
       header_inside = subst (PlacesInside (length line)) q h.placed
 
       pub header_fits : (p.start ≤ p.end) × (s + p.end ≤ length file)
       header_fits = fits header_inside
 
-      pub line_header : {x : List ℕ} {c : Current} {r : Place} → r ≡ moved p → LineSays d file x c s line (L.Header r)
+      pub line_header : {x : List ℕ} {c : Current} {r : Place} → r ≡ moved p → LineSays d file x c s line (Ok (L.Header r))
       line_header v = rw v (record { says = λ gs e rows. (sym h.is ∙ ap (line_of_form line) q ∙ ap header (part_moved header_inside), inside header_inside) })
 
-    module _ {k v : Place} (q : f ≡ F.Setting k v) where
+    module _ {k v : Place} (q : f ≡ Ok (F.Setting k v)) where
       setting_inside : Inside (length line) k × Inside (length line) v
       setting_inside = subst (PlacesInside (length line)) q h.placed
 
@@ -85,14 +86,14 @@ module _ (d : Dialect) (file : List ℕ) (s e : ℕ) (low : s ≤ e) (within : e
         starts : b.start ≡ s + value_start d line
         starts = ap (λ (p : Place). p.start) n ∙ ap (λ (i : ℕ). s + i) (subst (ValueStarts d line) q h.starts)
 
-        pub line_setting : {x : List ℕ} {c : Current} {r : Line} → SettingSays d file x c a b r → LineSays d file x c s line r
+        pub line_setting : {x : List ℕ} {c : Current} {r : Result Line Refusal} → SettingSays d file x c a b r → LineSays d file x c s line r
         line_setting {r = r} t = record { says = λ gs e rows. go r gs (t.says gs e rows) }
           where
-            go : (r : Line) (gs : List Section) → SettingIs d file gs a b r → LineIs d file gs s line r
-            go L.Blank gs w = absurd w
-            go L.Comment gs w = absurd w
-            go (L.Header p) gs w = absurd w
-            go (L.Setting i v) gs w =
+            go : (r : Result Line Refusal) (gs : List Section) → SettingIs d file gs a b r → LineIs d file gs s line r
+            go (Ok L.Blank) gs w = absurd w
+            go (Ok L.Comment) gs w = absurd w
+            go (Ok (L.Header p)) gs w = absurd w
+            go (Ok (L.Setting i v)) gs w =
                 record {
                   key = part_at file a;
                   place = b;
@@ -102,4 +103,4 @@ module _ (d : Dialect) (file : List ℕ) (s e : ℕ) (low : s ≤ e) (within : e
                   inside = setting_inside_file.1;
                   starts = starts;
                 }
-            go (L.Refused r) gs w = rw is_setting w
+            go (Err r) gs w = rw is_setting w

@@ -2,9 +2,11 @@
 use Prim.Native.Nat.{ℕ, ◌+◌, ◌≤◌, ◌<◌}
 use native.Mathlib.Omega.{arith}
 use mathlib.Core.Path.{◌≡◌, refl, ap, ap₂, sym, ◌∙◌, subst}
+use mathlib.Core.Logic.{◌⊎◌, inl, inr}
 use mathlib.Core.Bool.{Bool, true, false, cond, true≢false}
-use mathlib.Core.List.{List, [], ◌∷◌}
-use mathlib.Core.Option.{Option, none, some, none-ne-some, some-injective}
+use mathlib.Core.List.{List, ◌∷◌}
+use Rattle.std.specs.Prelude.{Option, None, Some, Result, Ok, Err}
+use Rattle.std.proofs.lemmas.Option.{none-some, same_Some}
 use lib.ListN.{length}
 use Rattle.text.specs.Parts.{part_at, Inside}
 use Rattle.text.specs.Words.{place}
@@ -23,7 +25,6 @@ use Rattle.entry_lists.specs.EntryLists as EntryLists
 use Rattle.kinds.specs.Kinds as Kinds
 use Rattle.addresses.specs.Addresses as A
 use Rattle.kinds.specs.Answers.{value_at, judgement_at}
-use Rattle.kinds.specs.declared.Judgement.TheVariants as J
 use Rattle.kinds.specs.declared.Kind.{Kind}
 use Rattle.kinds.specs.declared.Kind.TheVariants as K
 use Rattle.kinds.specs.declared.Value.{Value}
@@ -43,8 +44,6 @@ use Rattle.reader.specs.Steps.{GoodSetting, LineIs, LineSays, Known, StepIs, Ste
 use Rattle.places.specs.declared.State.{State}
 use Rattle.reader.specs.declared.Line.{Line}
 use Rattle.reader.specs.declared.Line.TheVariants as L
-use Rattle.reader.specs.declared.Stepped.{Stepped}
-use Rattle.reader.specs.declared.Stepped.TheVariants.{Goes, Stops}
 use Rattle.places.proofs.RowLaws.{keys_few, lies, own_row}
 use Rattle.reader.proofs.SettingLine.{Head, head}
 use Rattle.places.proofs.RowKeys.{good_typed}
@@ -66,12 +65,12 @@ current_row {d} {file} {st} {x} k =
     }
 
 -- a key that may stand is not given yet
-not_given : (d : Dialect) (k v : List ℕ) (o : Option Kind) (es : List Entry) {x : Kind} → o ≡ some x → key_fault d k v o es ≡ none → given k es ≡ false
-not_given d k v none es {x} e f = absurd (none-ne-some x e)
-not_given d k v (some y) es e f = go (given k es) (value_fault (judged d y v)) f
+not_given : (d : Dialect) (k v : List ℕ) (o : Option Kind) (es : List Entry) {x : Kind} → o ≡ Some x → key_fault d k v o es ≡ None → given k es ≡ false
+not_given d k v None es {x} e f = absurd (none-some x e)
+not_given d k v (Some y) es e f = go (given k es) (value_fault (judged d y v)) f
   where
-    go : (b : Bool) (o : Option Refusal) → cond b (some RepeatedKey) o ≡ none → b ≡ false
-    go true o f = absurd (none-ne-some RepeatedKey (sym f))
+    go : (b : Bool) (o : Option Refusal) → cond b (Some RepeatedKey) o ≡ None → b ≡ false
+    go true o f = absurd (none-some RepeatedKey (sym f))
     go false o f = refl
 
 -- a value that was judged good at a place: what its kind reads
@@ -80,7 +79,7 @@ record ReadsAs (d : Dialect) (kind : Kind) (b : List ℕ) (p : Place) (v : Value
   good : judged d kind b ≡ T.good typed
   is : value_at p typed ≡ v
 
-reads_typed : {d : Dialect} {b : List ℕ} {kind : Kind} (p : Place) {v : Value} (j : Judged) → judged d kind b ≡ j → judgement_at p (judged d kind b) ≡ J.Good v → ReadsAs d kind b p v
+reads_typed : {d : Dialect} {b : List ℕ} {kind : Kind} (p : Place) {v : Value} (j : Judged) → judged d kind b ≡ j → judgement_at p (judged d kind b) ≡ Ok v → ReadsAs d kind b p v
 reads_typed p (T.good t) e r = let w = sym (ap (judgement_at p) e) ∙ r in record { typed = t; good = e; is = cc }
 reads_typed p T.broken_text e r = let w = sym (ap (judgement_at p) e) ∙ r in let z : ◌≡◌ {A = ℕ} 0 1 = cc in absurd (omega arith)
 reads_typed p T.broken_kind e r = let w = sym (ap (judgement_at p) e) ∙ r in let z : ◌≡◌ {A = ℕ} 0 1 = cc in absurd (omega arith)
@@ -99,11 +98,11 @@ value_code_lem p (T.bytes b) = refl
 
 -- a text stands at its place
 module _ (p : Place) where
-  mapped_placed : {A : Type 0} (c : A → Typed) (o : Option A) {t : Typed} → mapped c o ≡ some t → ((a : A) → text_place (value_at p (c a)) ≡ p) → text_place (value_at p t) ≡ p
-  mapped_placed c none {t} e f = absurd (none-ne-some t e)
-  mapped_placed c (some a) {t} e f = subst (λ (u : Typed). text_place (value_at p u) ≡ p) (some-injective (c a) t e) (f a)
+  mapped_placed : {A : Type 0} (c : A → Typed) (o : Option A) {t : Typed} → mapped c o ≡ Some t → ((a : A) → text_place (value_at p (c a)) ≡ p) → text_place (value_at p t) ≡ p
+  mapped_placed c None {t} e f = absurd (none-some t e)
+  mapped_placed c (Some a) {t} e f = subst (λ (u : Typed). text_place (value_at p u) ≡ p) (same_Some (c a) t e) (f a)
 
-  typed_placed : (d : Dialect) (k : Kind) (b : List ℕ) {t : Typed} → is_text k ≡ true → typed d k b ≡ some t → text_place (value_at p t) ≡ p
+  typed_placed : (d : Dialect) (k : Kind) (b : List ℕ) {t : Typed} → is_text k ≡ true → typed d k b ≡ Some t → text_place (value_at p t) ≡ p
   unfolding typed
   typed_placed d K.Flag b w e = absurd (true≢false (sym w))
   typed_placed d (K.Named l) b w e = absurd (true≢false (sym w))
@@ -139,50 +138,39 @@ place_inside {d} {file} u = let t = reads_typed u.place (judged d u.new.kind (pa
     go (T.with_length w) = u.inside
     go (T.bytes b) = u.inside
 
--- a line that is no header, no setting and not refused
-abbrev Passed : Line → Type 0
-Passed f = ((p : Place) → f ≡ L.Header p → ⊥) × ((r : Refusal) → f ≡ L.Refused r → ⊥) × ((i : ℕ) (v : Value) → f ≡ L.Setting i v → ⊥)
-
-module _ {d : Dialect} {file : List ℕ} {st : State} {x : List ℕ} {s : ℕ} {l : List ℕ} {f : Line} (says : LineSays d file x st.current s l f) where
+module _ {d : Dialect} {file : List ℕ} {st : State} {x : List ℕ} {s : ℕ} {l : List ℕ} {f : Result Line Refusal} (says : LineSays d file x st.current s l f) where
   line_is : {gs : List Section} → HoldsGroups d file st x gs → LineIs d file gs s l f
   line_is {gs} h = says.says gs h.current h.table.rows
 
   -- ---- a header
 
-  module _ {p : Place} (q : f ≡ L.Header p) where
+  module _ {p : Place} (q : f ≡ Ok (L.Header p)) where
     pub header_place : Known d file st x → Inside (length file) p
     header_place k = (subst (LineIs d file k.groups s l) q (line_is k.holds)).1
 
-    pub step_header : {n : ℕ} {y : List ℕ} {r : Stepped} → StepSays d file st x n s 0 (Lines.header (part_at file p)) y r → StepSays d file st x n s (value_start d l) (line_of d l) y r
+    pub step_header : {n : ℕ} {y : List ℕ} {r : Result State Refusal} → StepSays d file st x n s 0 (Lines.header (part_at file p)) y r → StepSays d file st x n s (value_start d l) (line_of d l) y r
     unfolding with_line
     step_header {n} {y} {r} t = record { says = λ gs h. rw (subst (LineIs d file gs s l) q (line_is h)).0 (go gs r (t.says gs h)) }
       where
-        go : (gs : List Section) (r : Stepped) → StepIs d file gs n s 0 (Lines.header (part_at file p)) y r → StepIs d file gs n s (value_start d l) (Lines.header (part_at file p)) y r
-        go gs (Goes a) u = u
-        go gs (Stops a) u = u
+        go : (gs : List Section) (r : Result State Refusal) → StepIs d file gs n s 0 (Lines.header (part_at file p)) y r → StepIs d file gs n s (value_start d l) (Lines.header (part_at file p)) y r
+        go gs (Ok a) u = u
+        go gs (Err a) u = u
 
   -- ---- a refused line
 
-  pub step_refused : {n : ℕ} {r : Refusal} → f ≡ L.Refused r → {y : List ℕ} → StepSays d file st x n s (value_start d l) (line_of d l) y (Stops r)
+  pub step_refused : {n : ℕ} {r : Refusal} → f ≡ Err r → {y : List ℕ} → StepSays d file st x n s (value_start d l) (line_of d l) y (Err r)
   step_refused q = record { says = λ gs h. subst (LineIs d file gs s l) q (line_is h) }
 
-  -- ---- a line that is passed over: what `if let` and `let .. else` leave is none of the three
+  -- ---- a line that is passed over
 
-  pub step_passed : {n : ℕ} → ((p : Place) → f ≡ L.Header p → ⊥) → ((r : Refusal) → f ≡ L.Refused r → ⊥) → ((i : ℕ) (v : Value) → f ≡ L.Setting i v → ⊥) →
-      StepSays d file st x n s (value_start d l) (line_of d l) x (Goes st)
+  pub step_passed : {n : ℕ} {t : Line} → f ≡ Ok t → (t ≡ L.Blank) ⊎ (t ≡ L.Comment) → StepSays d file st x n s (value_start d l) (line_of d l) x (Ok st)
   unfolding fault with_line
-  step_passed {n} a b c = record { says = λ gs h. go f (a, b, c) gs h (line_is h) }
-    where
-      go : (f : Line) → Passed f → (gs : List Section) → HoldsGroups d file st x gs → LineIs d file gs s l f → StepIs d file gs n s (value_start d l) (line_of d l) x (Goes st)
-      go L.Blank h gs k u = rw u (refl, k)
-      go L.Comment h gs k u = rw u (refl, k)
-      go (L.Header p) h gs k u = absurd (h.0 p refl)
-      go (L.Setting i v) h gs k u = absurd (h.2 i v refl)
-      go (L.Refused r) h gs k u = absurd (h.1 r refl)
+  step_passed q (inl e) = record { says = λ gs h. rw (subst (LineIs d file gs s l) (q ∙ ap Ok e) (line_is h)) (refl, h) }
+  step_passed q (inr e) = record { says = λ gs h. rw (subst (LineIs d file gs s l) (q ∙ ap Ok e) (line_is h)) (refl, h) }
 
   -- ---- a setting
 
-  module _ {i : ℕ} {v : Value} (q : f ≡ L.Setting i v) where
+  module _ {i : ℕ} {v : Value} (q : f ≡ Ok (L.Setting i v)) where
     good : {gs : List Section} → HoldsGroups d file st x gs → GoodSetting d file gs s l i v
     good {gs} h = subst (LineIs d file gs s l) q (line_is h)
 
@@ -200,7 +188,7 @@ module _ {d : Dialect} {file : List ℕ} {st : State} {x : List ℕ} {s : ℕ} {
         abbrev here : Slot
         here = record { start = (text_place v).start; end = (text_place v).end; line = n; code = value_code v }
 
-        stands : (g : Group) → kind_of g u.key ≡ some u.new.kind → SlotSays d (kind_of g u.key) file here entry
+        stands : (g : Group) → kind_of g u.key ≡ Some u.new.kind → SlotSays d (kind_of g u.key) file here entry
         stands g q =
             let i = place_inside u in
             let t = reads_typed u.place (judged d u.new.kind (part_at file u.place)) refl u.new.reads in
@@ -219,13 +207,13 @@ module _ {d : Dialect} {file : List ℕ} {st : State} {x : List ℕ} {s : ℕ} {
         unfolding fault
         held t =
             let a = t.section in
-            let kind : kind_of a.group u.key ≡ some u.new.kind = ap (λ (g : Group). kind_of g u.key) t.group ∙ u.new.of_kind in
+            let kind : kind_of a.group u.key ≡ Some u.new.kind = ap (λ (g : Group). kind_of g u.key) t.group ∙ u.new.of_kind in
             let free : given u.key a.entries ≡ false = not_given d u.key (part_at file u.place) (kind_of a.group u.key) a.entries kind (sym (ap (λ (t : List Section). fault d t (setting u.key (part_at file u.place))) t.is) ∙ ap (fault d gs) (sym u.is) ∙ u.good) in
             let at : i ≡ base_at (row_after a t.rest) + place u.key (key_names a.group) = u.new.is ∙ ap₂ (λ (b : ℕ) (g : Group). b + place u.key (key_names g)) (sym t.row) (sym t.group) in
             subst (λ (t : List Section). HoldsGroups d file r (stored i here x) (with_entry entry t)) (sym t.is)
             (subst (λ (j : ℕ). HoldsGroups d file r (stored j here x) (with_entry entry (a ∷ t.rest))) (sym at)
             (holds_setting (subst (λ (t : List Section). HoldsGroups d file st x t) t.is h) u.key (λ z. u.new.listed (ap (λ (g : Group). place u.key (key_names g)) (sym t.group) ∙ z)) here refl (stands a.group kind) free e))
 
-      pub step_setting : {y : List ℕ} → y ≡ stored i (record { start = (text_place v).start; end = (text_place v).end; line = n; code = value_code v }) x → StepSays d file st x n s (value_start d l) (line_of d l) y (Goes r)
+      pub step_setting : {y : List ℕ} → y ≡ stored i (record { start = (text_place v).start; end = (text_place v).end; line = n; code = value_code v }) x → StepSays d file st x n s (value_start d l) (line_of d l) y (Ok r)
       unfolding with_line
       step_setting z = record { says = λ gs h. let u = good h in (u.good, rw (z, u.is) (held h u (head gs h.current (h.current ∙ u.new.in_force_lem)))) }

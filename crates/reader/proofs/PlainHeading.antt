@@ -4,7 +4,8 @@ use native.Mathlib.Omega.{arith}
 use mathlib.Core.Path.{◌≡◌, refl, ap, sym, ◌∙◌, subst}
 use mathlib.Core.Bool.{Bool, true, false, cond, ◌||◌, true≢false}
 use mathlib.Core.List.{List, [], ◌∷◌}
-use mathlib.Core.Option.{none, some, some-injective}
+use Rattle.std.specs.Prelude.{Some}
+use Rattle.std.proofs.lemmas.Option.{same_Some}
 use borrow.Author.Tests.{eqb-true, eqb-false, ne_eqb}
 use lib.Dec.{eqb}
 use Rattle.text.specs.Words.{same, place}
@@ -28,7 +29,7 @@ use Rattle.reader.proofs.Growing.{among_kept, spans_kept}
 
 -- ---- whether such a group was named, by its header's slot
 
-module _ (d : Dialect) (n : List ℕ) (g : Group) (q : group_of d n ≡ some g) (v : serves g ≡ false) where
+module _ (d : Dialect) (n : List ℕ) (g : Group) (q : group_of d n ≡ Some g) (v : serves g ≡ false) where
   -- a group that was not named has no settings, and a group that was named has a line
   pub record Unnamed (gs : List Section) : Type 0 where
     pub name : name_given n gs ≡ false
@@ -48,7 +49,7 @@ module _ (d : Dialect) (n : List ℕ) (g : Group) (q : group_of d n ≡ some g) 
     where
       go : (b : Bool) → eqb (row_number g 0) (row_after s gs) ≡ b → (((head_slot (row_number g 0) gs).line ≡ 0 → ⊥) → name_given n gs ≡ true) → ((cond b (record { start = s.start; end = s.start; line = s.line; code = 0 }) (head_slot (row_number g 0) gs)).line ≡ 0 → ⊥) → (same n s.name || name_given n gs) ≡ true
       go true p f k =
-          let t : group_of d s.name ≡ some g = w.0 ∙ ap some (same_row d n g q v s gs p) in
+          let t : group_of d s.name ≡ Some g = w.0 ∙ ap Some (same_row d n g q v s gs p) in
           let m : n ≡ s.name = one_name d n q v ∙ sym (one_name d s.name t v) in
           rw (← m, same_refl n)
       go false p f k = or_right (same n s.name) (f k)
@@ -95,7 +96,7 @@ module _ {d : Dialect} {file x : List ℕ} {gs : List Section} (t : TableKeeps d
     abbrev this : Section
     this = record { name = n; group = g; line = l; start = s; entries = [] }
 
-    module _ (q : group_of d n ≡ some g) (few : services (this ∷ gs) ≤ 8) where
+    module _ (q : group_of d n ≡ Some g) (few : services (this ∷ gs) ≤ 8) where
       low : Lies d (row_after this gs)
       low = lies d (row_after this gs) (own_row d n q (services (this ∷ gs)) few)
 
@@ -123,7 +124,7 @@ module _ {d : Dialect} {file x : List ℕ} {gs : List Section} (t : TableKeeps d
 
 -- ---- what is held after a header
 
-module _ {d : Dialect} {file : List ℕ} {st : State} {x : List ℕ} {gs : List Section} (h : HoldsGroups d file st x gs) (n : List ℕ) (g : Group) (q : group_of d n ≡ some g) (new : name_given n gs ≡ false) (s l : ℕ) (k : 0 < l) where
+module _ {d : Dialect} {file : List ℕ} {st : State} {x : List ℕ} {gs : List Section} (h : HoldsGroups d file st x gs) (n : List ℕ) (g : Group) (q : group_of d n ≡ Some g) (new : name_given n gs ≡ false) (s l : ℕ) (k : 0 < l) where
   abbrev header_section : Section
   header_section = record { name = n; group = g; line = l; start = s; entries = [] }
 
@@ -138,11 +139,11 @@ module _ {d : Dialect} {file : List ℕ} {st : State} {x : List ℕ} {gs : List 
     few : services (header_section ∷ gs) ≤ 8
     few = omega (arith, next, h.spans.few)
 
-    service_other : (m : List ℕ) → group_of d m ≡ some Service → same m n ≡ false
+    service_other : (m : List ℕ) → group_of d m ≡ Some Service → same m n ≡ false
     service_other m e = go (same m n) refl
       where
         go : (b : Bool) → same m n ≡ b → b ≡ false
-        go true p = absurd (true≢false (ap serves (some-injective Service g (sym e ∙ ap (group_of d) (same_eq m n p) ∙ q)) ∙ v))
+        go true p = absurd (true≢false (ap serves (same_Some Service g (sym e ∙ ap (group_of d) (same_eq m n p) ∙ q)) ∙ v))
         go false p = refl
 
     named : (i : ℕ) → i < st.services → slot (name_base + i) (stored (base_at (row_after header_section gs)) (header_slot s l) x) ≡ slot (name_base + i) x

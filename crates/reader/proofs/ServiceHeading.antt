@@ -4,7 +4,7 @@ use native.Mathlib.Omega.{arith}
 use mathlib.Core.Path.{◌≡◌, refl, ap, ap₂, sym, ◌∙◌, subst}
 use mathlib.Core.Bool.{Bool, true, false, ◌||◌}
 use mathlib.Core.List.{List, [], ◌∷◌}
-use mathlib.Core.Option.{some}
+use Rattle.std.specs.Prelude.{Some}
 use borrow.Author.Tests.{eqb-true, eqb-false}
 use lib.Dec.{eqb}
 use lib.ListN.{length}
@@ -26,7 +26,7 @@ use Rattle.places.proofs.RowLaws.{lies, own_row}
 use Rattle.reader.proofs.Growing.{among_kept}
 use Rattle.reader.proofs.PlainHeading.{latest_new, there, table_headed, table_named}
 
-module _ {d : Dialect} {file : List ℕ} {st : State} {x : List ℕ} {gs : List Section} (h : HoldsGroups d file st x gs) (p : Place) (q : group_of d (part_at file p) ≡ some Service) (new : name_given (part_at file p) gs ≡ false) (s l : ℕ) (k : 0 < l) (few : st.services < 8) (inside : Inside (length file) p) where
+module _ {d : Dialect} {file : List ℕ} {st : State} {x : List ℕ} {gs : List Section} (h : HoldsGroups d file st x gs) (p : Place) (q : group_of d (part_at file p) ≡ Some Service) (new : name_given (part_at file p) gs ≡ false) (s l : ℕ) (k : 0 < l) (few : st.services < 8) (inside : Inside (length file) p) where
   abbrev one : List ℕ
   one = stored (base_at (row_number Service (suc (services gs)))) (header_slot s l) x
 
@@ -57,7 +57,7 @@ module _ {d : Dialect} {file : List ℕ} {st : State} {x : List ℕ} {gs : List 
           let less : i < st.services = (let n = eqb-false i st.services v in omega (arith, n, j)) in
           subst (λ (t : Slot). (t.start ≤ t.end) × (t.end ≤ length file)) (sym (name_kept i less)) (h.spans.each i less)
 
-  names_of : (m : List ℕ) → group_of d m ≡ some Service → among file two (st.services + 1) m ≡ (same m (part_at file p) || name_given m gs)
+  names_of : (m : List ℕ) → group_of d m ≡ Some Service → among file two (st.services + 1) m ≡ (same m (part_at file p) || name_given m gs)
   names_of m v =
       let next : st.services + 1 ≡ suc st.services = omega arith in
       ap (λ (j : ℕ). among file two j m) next

@@ -1,6 +1,5 @@
 -- What the code's answers on a line say of it, after groups gs for which the table of places holds.
-use Rattle.std.specs.Prelude.{ℕ, ◌+◌, ◌≤◌, ◌≡◌, List, length}
-use Rattle.std.proofs.Math.Option.{none, some}
+use Rattle.std.specs.Prelude.{ℕ, ◌+◌, ◌≤◌, ◌≡◌, List, length, None, Some, Result, Ok, Err}
 use Rattle.text.specs.Parts.{part_at}
 use Rattle.text.specs.Words.{place}
 use Rattle.text.specs.declared.Dialect.{Dialect}
@@ -10,18 +9,18 @@ use Rattle.kinds.specs.Typed.{judged}
 use Rattle.kinds.specs.Answers.{judgement_at}
 use Rattle.kinds.specs.declared.Kind.{Kind}
 use Rattle.kinds.specs.declared.Value.{Value}
-use Rattle.kinds.specs.declared.Judgement.TheVariants as J
 use Rattle.rules.specs.Tables.{kind_of}
 use Rattle.rules.specs.Faults.{fault}
 use Rattle.rules.specs.Sections.{Section}
 use Rattle.tables.specs.KeyPlaces.{key_names}
 use Rattle.rules.specs.declared.Group.{Group}
+use Rattle.rules.specs.declared.Refusal.{Refusal}
 use Rattle.places.specs.History.{current_of}
 use Rattle.places.specs.Holds.{RowsKeep}
 use Rattle.places.specs.declared.Current.{Current}
 use Rattle.places.specs.declared.Current.TheVariants.{In}
 use Rattle.reader.specs.declared.Line.{Line}
-use Rattle.reader.specs.declared.Line.TheVariants.{Blank, Comment, Header, Setting, Refused}
+use Rattle.reader.specs.declared.Line.TheVariants.{Blank, Comment, Header, Setting}
 use Rattle.places.specs.Store.{table_length, last_row}
 
 -- a good setting: its slot is that of its key in the group in force, and v is what its kind reads at p from the bytes b
@@ -32,22 +31,22 @@ pub record NewSetting (d : Dialect) (gs : List Section) (k b : List ℕ) (i : �
   pub listed : place k (key_names group) ≡ 0 → ⊥
   pub is : i ≡ row + place k (key_names group)
   pub kind : Kind
-  pub of_kind : kind_of group k ≡ some kind
-  pub reads : judgement_at p (judged d kind b) ≡ J.Good v
+  pub of_kind : kind_of group k ≡ Some kind
+  pub reads : judgement_at p (judged d kind b) ≡ Ok v
 
-abbrev pub SettingIs : Dialect → List ℕ → List Section → Place → Place → Line → Type 0
-SettingIs d file gs key value Blank = ⊥
-SettingIs d file gs key value Comment = ⊥
-SettingIs d file gs key value (Header p) = ⊥
-SettingIs d file gs key value (Setting i v) =
-    (fault d gs (setting (part_at file key) (part_at file value)) ≡ none)
+abbrev pub SettingIs : Dialect → List ℕ → List Section → Place → Place → Result Line Refusal → Type 0
+SettingIs d file gs key value (Ok Blank) = ⊥
+SettingIs d file gs key value (Ok Comment) = ⊥
+SettingIs d file gs key value (Ok (Header p)) = ⊥
+SettingIs d file gs key value (Ok (Setting i v)) =
+    (fault d gs (setting (part_at file key) (part_at file value)) ≡ None)
     × NewSetting d gs (part_at file key) (part_at file value) i value v
-SettingIs d file gs key value (Refused r) = fault d gs (setting (part_at file key) (part_at file value)) ≡ some r
+SettingIs d file gs key value (Err r) = fault d gs (setting (part_at file key) (part_at file value)) ≡ Some r
 
 -- the row of the group in force lies in the table
 pub record CurrentRow (x : List ℕ) (c : Current) : Type 0 where
   pub long : length x ≡ table_length
   pub row : (g : Group) (b : ℕ) → c ≡ In g b → b ≤ last_row
 
-pub record SettingSays (d : Dialect) (file x : List ℕ) (c : Current) (key value : Place) (r : Line) : Type 0 where
+pub record SettingSays (d : Dialect) (file x : List ℕ) (c : Current) (key value : Place) (r : Result Line Refusal) : Type 0 where
   pub says : (gs : List Section) → c ≡ current_of gs → RowsKeep d file x gs → SettingIs d file gs key value r

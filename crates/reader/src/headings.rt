@@ -6,25 +6,17 @@ ghost use Rattle.places.specs.Holds.{Spans};
 ghost use Rattle.reader.specs.Headings.{slots_named, slots_open, slots_heading};
 ghost use Rattle.places.specs.Store.{table_length};
 
-use crate::Heading;
 use places::rows::base_of;
 use places::services::service_named;
 use places::{LINES, Places};
 use rules::{Group, Refusal};
-use tables::Named;
 use text::Dialect;
 
+// Whether a group is a service.
 pub fn is_service(g: Group) -> bool
     ensures { result ≡ serves g }
 {
-    match g {
-        Group::Settings => false,
-        Group::Security => false,
-        Group::Ipv4 => false,
-        Group::Ipv6 => false,
-        Group::Global => false,
-        Group::Service => true,
-    }
+    g == Group::Service
 }
 
 // Whether a group was named before.
@@ -40,31 +32,39 @@ fn was_named(file: &[u8], x: &Places, services: usize, name: &[u8], g: Group) ->
     x[LINES + row] != 0
 }
 
-// What a header of a listed group does.
-fn open_group(file: &[u8], x: &Places, services: usize, name: &[u8], g: Group) -> Heading
+// The listed group that a header opens, or why it may not stand here.
+fn open_group(
+    file: &[u8],
+    x: &Places,
+    services: usize,
+    name: &[u8],
+    g: Group,
+) -> Result<Group, Refusal>
     requires long { length x.now ≡ table_length }
     requires spans { Spans file.now x.now services }
     ensures { result ≡ slots_open file.now x.now services name.now g }
 {
     if was_named(file, x, services, name, g) {
-        return Heading::Refused(Refusal::RepeatedGroup);
+        return Err(Refusal::RepeatedGroup);
     }
-    if is_service(g) {
-        if 8 <= services {
-            return Heading::Refused(Refusal::ManyServices);
-        }
+    if is_service(g) && 8 <= services {
+        return Err(Refusal::ManyServices);
     }
-    Heading::Opens(g)
+    Ok(g)
 }
 
-// What a header does, by its name.
-pub fn heading(d: Dialect, file: &[u8], x: &Places, services: usize, name: &[u8]) -> Heading
+// The group that a header opens, by its name, or why it may not stand here.
+pub fn heading(
+    d: Dialect,
+    file: &[u8],
+    x: &Places,
+    services: usize,
+    name: &[u8],
+) -> Result<Group, Refusal>
     requires long { length x.now ≡ table_length }
     requires spans { Spans file.now x.now services }
     ensures { result ≡ slots_heading file.now x.now services name.now (group_of d name.now) }
 {
-    match tables::groups::group_of(d, name) {
-        Named::Is(g) => open_group(file, x, services, name, g),
-        Named::Unknown => Heading::Refused(Refusal::UnknownGroup),
-    }
+    let g = tables::groups::group_of(d, name).ok_or(Refusal::UnknownGroup)?;
+    open_group(file, x, services, name, g)
 }

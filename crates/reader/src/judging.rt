@@ -1,4 +1,4 @@
-// What a line is after the lines before it: passed over, a header, a setting with its value, or refused.
+// What a line is after the lines before it: passed over, a header, a setting with its value, or why it is refused.
 ghost use Rattle.std.specs.Prelude.{◌≡◌, ◌+◌, ◌≤◌, length};
 ghost use Rattle.text.specs.Parts.{Inside, part};
 ghost use Rattle.reader.specs.Says.{CurrentRow, SettingSays};
@@ -6,11 +6,10 @@ ghost use Rattle.reader.specs.Steps.{LineSays};
 ghost use Rattle.rules.specs.Faults.{break_of};
 
 use crate::Line;
-use kinds::Judgement;
+use kinds::Broken;
 use lines::{Break, Form};
 use places::{Current, LINES, Places};
 use rules::Refusal;
-use tables::Listed;
 use text::{Dialect, Place};
 
 // A setting whose key and value stand at these places of the file, in the group in force.
@@ -21,30 +20,26 @@ pub fn setting_line(
     current: Current,
     key: Place,
     value: Place,
-) -> Line
+) -> Result<Line, Refusal>
     requires key_in { Inside (length file.now) key }
     requires value_in { Inside (length file.now) value }
     requires rows { CurrentRow x.now current }
     ensures { SettingSays d file.now x.now current key value result }
 {
     let Current::In(g, row) = current else {
-        return Line::Refused(Refusal::NoGroup);
+        return Err(Refusal::NoGroup);
     };
     let start = key.start;
     let end = key.end;
-    let listed = tables::keys::key_of(g, &file[start..end]);
-    let Listed::Is(n, kind) = listed else {
-        return Line::Refused(Refusal::UnknownKey);
-    };
-    let i = row + n;
+    let listed = tables::keys::key_of(g, &file[start..end]).ok_or(Refusal::UnknownKey)?;
+    let i = row + listed.place;
     if x[LINES + i] != 0 {
-        return Line::Refused(Refusal::RepeatedKey);
+        return Err(Refusal::RepeatedKey);
     }
-    let judgement = kinds::judging::judge(d, kind, file, value);
-    match judgement {
-        Judgement::BrokenText => Line::Refused(Refusal::ValueText),
-        Judgement::BrokenKind => Line::Refused(Refusal::ValueKind),
-        Judgement::Good(v) => Line::Setting(i, v),
+    match kinds::judging::judge(d, listed.kind, file, value) {
+        Ok(v) => Ok(Line::Setting(i, v)),
+        Err(Broken::Text) => Err(Refusal::ValueText),
+        Err(Broken::Kind) => Err(Refusal::ValueKind),
     }
 }
 
@@ -78,22 +73,21 @@ pub fn line_at(
     current: Current,
     start: usize,
     end: usize,
-) -> Line
+) -> Result<Line, Refusal>
     requires low { start ≤ end }
     requires within { end ≤ length file.now }
     requires rows { CurrentRow x.now current }
     ensures { LineSays d file.now x.now current start (part start end file.now) result }
 {
-    let form = lines::form_of(d, &file[start..end]);
-    match form {
-        Form::Blank => Line::Blank,
-        Form::Comment => Line::Comment,
-        Form::Header(name) => Line::Header(moved(file, name, start)),
-        Form::Setting(key, value) => {
+    match lines::form_of(d, &file[start..end]) {
+        Ok(Form::Blank) => Ok(Line::Blank),
+        Ok(Form::Comment) => Ok(Line::Comment),
+        Ok(Form::Header(name)) => Ok(Line::Header(moved(file, name, start))),
+        Ok(Form::Setting(key, value)) => {
             let k = moved(file, key, start);
             let v = moved(file, value, start);
             setting_line(d, file, x, current, k, v)
         }
-        Form::Broken(b) => Line::Refused(refusal_of(b)),
+        Err(b) => Err(refusal_of(b)),
     }
 }

@@ -7,11 +7,10 @@ ghost use Rattle.places.specs.Store.{table_length, FitsSlot};
 ghost use Rattle.reader.specs.Steps.{Opened, Known, StepSays};
 
 use crate::headings::{heading, is_service};
-use crate::{Heading, Stepped};
 use places::rows::base_of;
 use places::store::put_slot;
 use places::{Current, NAMES, Places, State};
-use rules::Group;
+use rules::{Group, Refusal};
 use text::{Dialect, Place};
 
 // Stores a good header, and returns what is known after it. Of a service the place of its name is stored too.
@@ -31,15 +30,14 @@ fn opened(x: &mut Places, st: State, g: Group, start: usize, name: Place, line: 
         return State {
             current: Current::In(g, row),
             services: n + 1,
-            settings: st.settings,
+            ..st
         };
     }
     let row = base_of(g, n);
     put_slot(x, row, start, start, line, 0);
     State {
         current: Current::In(g, row),
-        services: n,
-        settings: st.settings,
+        ..st
     }
 }
 
@@ -52,7 +50,7 @@ pub fn header_step(
     start: usize,
     name: Place,
     line: usize,
-) -> Stepped
+) -> Result<State, Refusal>
     requires known { Known d file.now st x.old }
     requires inside { Inside (length file.now) name }
     requires counted { 0 < line }
@@ -62,9 +60,6 @@ pub fn header_step(
 {
     let a = name.start;
     let e = name.end;
-    let h = heading(d, file, x, st.services, &file[a..e]);
-    match h {
-        Heading::Opens(g) => Stepped::Goes(opened(x, st, g, start, name, line)),
-        Heading::Refused(r) => Stepped::Stops(r),
-    }
+    let g = heading(d, file, x, st.services, &file[a..e])?;
+    Ok(opened(x, st, g, start, name, line))
 }

@@ -4,7 +4,7 @@ use native.Mathlib.Omega.{arith}
 use mathlib.Core.Path.{◌≡◌, refl, ap, sym, ◌∙◌}
 use mathlib.Core.Bool.{Bool, true, false}
 use mathlib.Core.List.{List}
-use mathlib.Core.Option.{Option, none, some}
+use Rattle.std.specs.Prelude.{Option, None, Some}
 use Rattle.text.specs.Options.{only, or_else}
 use Rattle.text.specs.Words.{word}
 use Rattle.text.specs.declared.Dialect.TheVariants.{Iwd, ConnMan}
@@ -37,10 +37,8 @@ use Rattle.values.proofs.KeptValues.{addresses_none, row_read, row_line, row_wor
 use Rattle.records.specs.Record.{laid, laid_servers}
 use Rattle.records.specs.declared.JoinRecord.{JoinRecord}
 use Rattle.joins.specs.Joins.{foreign, no_record, service_join, zero_record, iwd_record, iwd_record_servers, service_record, service_record_servers}
-use Rattle.joins.specs.Answers.{hindrance_of, hindrance}
+use Rattle.joins.specs.Answers.{hindrance}
 use Rattle.joins.specs.Places.{IwdFileRows, iwd_file_join, hindrance_at}
-use Rattle.joins.specs.declared.Hindrance.{Hindrance}
-use Rattle.joins.specs.declared.Hindrance.TheVariants as H
 use Rattle.joins.specs.declared.RecordAnswer.{RecordAnswer}
 use Rattle.joins.proofs.Choosing.{row_foreign}
 use Rattle.record_answers.specs.Places.{RowAnswered}
@@ -67,30 +65,22 @@ module _ {name file y : List ℕ} {q : Reading} (h : ReadsFile Iwd name file y q
 
 -- ---- a service that there is
 
-hindered : (a : Bool) (l : ℕ) (b : Bool) (m : ℕ) → hindrance a l b m ≡ hindrance_of (or_else (only a (some l)) (only b (some m)))
+hindered : (a : Bool) (l : ℕ) (b : Bool) (m : ℕ) → hindrance a l b m ≡ or_else (only a (Some l)) (only b (Some m))
 hindered true l b m = refl
 hindered false l true m = refl
 hindered false l false m = refl
 
-abbrev hindrance_in : Hindrance → Option ℕ
-hindrance_in H.Nothing = none
-hindrance_in (H.At l) = some l
-
-hindrance_back : (o : Option ℕ) → hindrance_in (hindrance_of o) ≡ o
-hindrance_back none = refl
-hindrance_back (some l) = refl
-
-module _ {file x : List ℕ} {b : ℕ} {h : Hindrance} (e : h ≡ hindrance_at x b) where
-  no_record_lem : {g : Hindrance} → h ≡ g → (es : List Entry) → RowKeeps ConnMan file x b G.Service es → no_record (λ k. entry_of k es) ≡ hindrance_in g
+module _ {file x : List ℕ} {b : ℕ} {h : Option ℕ} (e : h ≡ hindrance_at x b) where
+  no_record_lem : {g : Option ℕ} → h ≡ g → (es : List Entry) → RowKeeps ConnMan file x b G.Service es → no_record (λ k. entry_of k es) ≡ g
   unfolding keys_of
   no_record_lem q es w =
       rw (← q, e, row_word N.Type w L.ServiceType refl W.Ethernet, row_foreign w, row_line N.Type w, row_line N.Security w)
-      (sym (ap hindrance_in (hindered (is_word W.Ethernet (read_as (word_of L.ServiceType) (entry_of (word "Type") es))) (entry_line (entry_of (word "Type") es)) (foreign (λ k. entry_of k es)) (entry_line (entry_of (word "Security") es))) ∙ hindrance_back (no_record (λ k. entry_of k es))))
+      (sym (hindered (is_word W.Ethernet (read_as (word_of L.ServiceType) (entry_of (word "Type") es))) (entry_line (entry_of (word "Type") es)) (foreign (λ k. entry_of k es)) (entry_line (entry_of (word "Security") es))))
 
-  pub found_hindered : (old : List (List ℕ)) {l : ℕ} → h ≡ H.At l → {r : RecordAnswer} → r ≡ record { answer = Refused NoPlace l; «record» = zero_record } → RowAnswered file x b old old r
+  pub found_hindered : (old : List (List ℕ)) {l : ℕ} → h ≡ Some l → {r : RecordAnswer} → r ≡ record { answer = Refused NoPlace l; «record» = zero_record } → RowAnswered file x b old old r
   found_hindered old q p = record { is = λ es w. rw (no_record_lem q es w) p; servers = λ es w. rw (no_record_lem q es w) }
 
-  pub found_joined : (old : List (List ℕ)) → h ≡ H.Nothing → {j : JoinRecord} → RowGives ConnMan file x b G.Service (λ at. laid (service_join at)) j → {s : List (List ℕ)} → s ≡ rows (addresses Comma (bytes_of file x b N.Nameservers)) → {r : RecordAnswer} → r ≡ record { answer = Good; «record» = j } → RowAnswered file x b old s r
+  pub found_joined : (old : List (List ℕ)) → h ≡ None → {j : JoinRecord} → RowGives ConnMan file x b G.Service (λ at. laid (service_join at)) j → {s : List (List ℕ)} → s ≡ rows (addresses Comma (bytes_of file x b N.Nameservers)) → {r : RecordAnswer} → r ≡ record { answer = Good; «record» = j } → RowAnswered file x b old s r
   unfolding keys_of
   found_joined old q t {s} p {r} a =
       record {

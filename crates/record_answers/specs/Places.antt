@@ -1,6 +1,5 @@
 -- What is answered of a service by the row that keeps its settings.
-use Rattle.std.specs.Prelude.{ℕ, ◌≡◌, List}
-use Rattle.std.proofs.Math.Option.{Option}
+use Rattle.std.specs.Prelude.{ℕ, ◌≡◌, List, Option}
 use Rattle.text.specs.declared.Dialect.TheVariants.{ConnMan}
 use Rattle.rules.specs.Sections.{Entry, entry_of}
 use Rattle.rules.specs.declared.Group.TheVariants as G

@@ -12,7 +12,7 @@ ghost use Rattle.record_answers.specs.Places.{RowAnswered};
 
 use addresses::Separator;
 use addressing::Method;
-use joins::{Hindrance, RecordAnswer, joining, parts};
+use joins::{RecordAnswer, joining, parts};
 use places::rows::base_of;
 use places::{KeyName, PLACES, Places};
 use records::{Credential, JoinRecord};
@@ -102,22 +102,18 @@ fn service_found(file: &[u8], x: &Places, row: usize, servers: &mut [[u8; 4]; 4]
     requires { RowOf Dialect.ConnMan file.now x.now row Group.Service }
     ensures { RowAnswered file.now x.now row servers.old servers.new result }
 {
-    let hindrance = parts::hindrance_at(x, row);
-    match hindrance {
-        Hindrance::At(line) => refused(Refusal::NoPlace, line),
-        Hindrance::Nothing => {
-            let count = values::list_at(
-                servers,
-                Separator::Comma,
-                file,
-                x,
-                row,
-                KeyName::Nameservers,
-            );
-            let record = joining::service_join(file, x, row, count);
-            answered(record)
-        }
+    if let Some(line) = parts::hindrance_at(x, row) {
+        return refused(Refusal::NoPlace, line);
     }
+    let count = values::list_at(
+        servers,
+        Separator::Comma,
+        file,
+        x,
+        row,
+        KeyName::Nameservers,
+    );
+    answered(joining::service_join(file, x, row, count))
 }
 
 // The join record of a service, counted from 1, of a ConnMan file under its name; the name servers go into the lent ones.

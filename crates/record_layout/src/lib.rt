@@ -4,7 +4,7 @@
 // specs/Records; that what is handed out comes back, and what is brought in goes out again, in specs/Laws.
 #![tactic(auto)]
 
-ghost use Rattle.std.specs.Prelude.{◌≡◌};
+ghost use Rattle.std.specs.Prelude.{◌≡◌, cond, Option, None, Some};
 ghost use Rattle.record_layout.specs.Records.{sixteen, fours, FitsBytes, record_at, known, record_in};
 
 use records::JoinRecord;
@@ -34,13 +34,6 @@ pub struct CRecord {
     pub ipv6_prefix_length: u8,
     pub has_ipv6_gateway: u8,
     pub ipv6_gateway: [u8; 16],
-}
-
-// A byte as a length.
-fn wide(n: u8) -> usize
-    ensures { result ≡ n }
-{
-    n as usize
 }
 
 // Four name servers as 16 bytes.
@@ -74,36 +67,36 @@ pub fn record_at(r: JoinRecord, servers: [[u8; 4]; 4]) -> CRecord
     requires { FitsBytes r }
     ensures { result ≡ record_at r servers }
 {
-    let name = r.name;
-    let credential = r.credential;
-    let passphrase = r.passphrase;
-    let key = r.key;
-    let ipv4 = r.ipv4;
-    let address = r.address;
-    let gateway = r.gateway;
-    let bytes = sixteen(servers);
-    let domain = r.domain;
-    let ipv6 = r.ipv6;
-    let ipv6_address = r.ipv6_address;
-    let ipv6_gateway = r.ipv6_gateway;
+    let JoinRecord {
+        name,
+        passphrase,
+        key,
+        address,
+        gateway,
+        domain,
+        ipv6_address,
+        ipv6_gateway,
+        ..
+    } = r;
+    let servers = sixteen(servers);
     CRecord {
         name_len: r.name_len as u8,
         name,
-        credential: codes::credential_code(credential),
+        credential: codes::credential_code(r.credential),
         passphrase_len: r.passphrase_len as u8,
         passphrase,
         key,
         hidden: codes::bit_of(r.hidden),
-        ipv4: codes::method_code(ipv4),
+        ipv4: codes::method_code(r.ipv4),
         address,
         prefix_length: r.length,
         has_gateway: codes::bit_of(r.has_gateway),
         gateway,
         server_count: r.server_count as u8,
-        servers: bytes,
+        servers,
         domain_len: r.domain_len as u8,
         domain,
-        ipv6: codes::method_code(ipv6),
+        ipv6: codes::method_code(r.ipv6),
         ipv6_address,
         ipv6_prefix_length: r.ipv6_length,
         has_ipv6_gateway: codes::bit_of(r.has_ipv6_gateway),
@@ -138,19 +131,22 @@ pub fn is_known(c: CRecord) -> bool
 pub fn record_in(c: CRecord) -> JoinRecord
     ensures { result ≡ record_in c }
 {
-    let name = c.name;
-    let passphrase = c.passphrase;
-    let key = c.key;
-    let address = c.address;
-    let gateway = c.gateway;
-    let domain = c.domain;
-    let ipv6_address = c.ipv6_address;
-    let ipv6_gateway = c.ipv6_gateway;
+    let CRecord {
+        name,
+        passphrase,
+        key,
+        address,
+        gateway,
+        domain,
+        ipv6_address,
+        ipv6_gateway,
+        ..
+    } = c;
     JoinRecord {
-        name_len: wide(c.name_len),
+        name_len: usize::from(c.name_len),
         name,
         credential: codes::credential_in(c.credential),
-        passphrase_len: wide(c.passphrase_len),
+        passphrase_len: usize::from(c.passphrase_len),
         passphrase,
         key,
         hidden: c.hidden == 1,
@@ -159,8 +155,8 @@ pub fn record_in(c: CRecord) -> JoinRecord
         length: c.prefix_length,
         has_gateway: c.has_gateway == 1,
         gateway,
-        server_count: wide(c.server_count),
-        domain_len: wide(c.domain_len),
+        server_count: usize::from(c.server_count),
+        domain_len: usize::from(c.domain_len),
         domain,
         ipv6: codes::method_in(c.ipv6),
         ipv6_address,
@@ -168,4 +164,14 @@ pub fn record_in(c: CRecord) -> JoinRecord
         has_ipv6_gateway: c.has_ipv6_gateway == 1,
         ipv6_gateway,
     }
+}
+
+// The record that is brought in, or none where a code is not that of a case.
+pub fn known_record(c: CRecord) -> Option<JoinRecord>
+    ensures { result ≡ cond (known c) (Some (record_in c)) None }
+{
+    if is_known(c) {
+        return Some(record_in(c));
+    }
+    None
 }

@@ -1,6 +1,5 @@
 -- Worked cases: structs that hold a well-formed record, and structs that hold none.
-use Rattle.std.specs.Prelude.{◌≡◌, refl, Bool, true, false, List, [], ◌∷◌, map, ℕ, replicate}
-use Rattle.std.proofs.Math.Option.{none, some}
+use Rattle.std.specs.Prelude.{◌≡◌, refl, Bool, true, false, List, [], ◌∷◌, map, ℕ, replicate, None, Some}
 use Rattle.text.specs.Parts.{padded}
 use Rattle.text.specs.Words.{word}
 use Rattle.utf8.specs.Utf8.{follow, utf8_from, text}
@@ -11,7 +10,7 @@ use Rattle.addressing.specs.declared.Method.TheVariants.{Auto, Off, Static}
 use Rattle.records.specs.Record.{passphrase, Join, laid, laid_servers}
 use Rattle.records.specs.Formed.{formed}
 use Rattle.records.specs.declared.Credential.{Credential}
-use Rattle.records.specs.declared.Credential.TheVariants.{None, Passphrase, Key}
+use Rattle.records.specs.declared.Credential.TheVariants.{Passphrase, Key}
 use Rattle.records.specs.declared.JoinRecord.{JoinRecord}
 
 -- a struct by its parts: a name, a credential, an IPv4, a count of servers, a domain, an IPv6
@@ -59,7 +58,7 @@ abbrev desk : Name
 desk = (4, padded 32 (word "Desk"))
 
 abbrev keyless : Login
-keyless = (None, 0, replicate 63 0, replicate 32 0)
+keyless = (Credential.None, 0, replicate 63 0, replicate 32 0)
 
 abbrev secret : ℕ → List ℕ → Login
 secret n p = (Passphrase, n, padded 63 p, replicate 32 0)
@@ -77,7 +76,7 @@ abbrev absent : Name
 absent = (0, replicate 253 0)
 
 abbrev no_servers : List (List ℕ)
-no_servers = rows none
+no_servers = rows None
 
 -- document 01's worked service, which is also the record of the iwd file that it becomes; by request 2026-02 its passphrase has a tab
 abbrev pub worked : Join
@@ -86,7 +85,7 @@ worked =
       name = word "Desk 4";
       credential = passphrase (word "low\tide 88");
       hidden = true;
-      ipv4 = static till 24 (some router);
+      ipv4 = static till 24 (Some router);
       servers = (10 ∷ 20 ∷ 0 ∷ 2 ∷ []) ∷ (10 ∷ 20 ∷ 0 ∷ 3 ∷ []) ∷ [];
       domain = [];
       ipv6 = off;
@@ -115,8 +114,8 @@ credentials =
     ∷ (struct desk (secret 9 (word "1234\n678\r")) dhcp 0 absent, no_servers, true)
     ∷ (struct desk (secret 63 (replicate 63 97)) dhcp 0 absent, no_servers, true)
     ∷ (struct desk (secret 64 (replicate 63 97)) dhcp 0 absent, no_servers, false)
-    ∷ (struct desk (None, 8, padded 63 (word "12345678"), replicate 32 0) dhcp 0 absent, no_servers, false)
-    ∷ (struct desk (None, 0, replicate 63 0, replicate 32 1) dhcp 0 absent, no_servers, false)
+    ∷ (struct desk (Credential.None, 8, padded 63 (word "12345678"), replicate 32 0) dhcp 0 absent, no_servers, false)
+    ∷ (struct desk (Credential.None, 0, replicate 63 0, replicate 32 1) dhcp 0 absent, no_servers, false)
     ∷ (struct desk (Key, 0, replicate 63 0, replicate 32 1) dhcp 0 absent, no_servers, true)
     ∷ (struct desk (Key, 0, replicate 63 0, replicate 32 0) dhcp 0 absent, no_servers, true)
     ∷ (struct desk (Key, 0, padded 63 (word "1"), replicate 32 1) dhcp 0 absent, no_servers, false)
@@ -138,8 +137,8 @@ numbers =
 
 abbrev others : List Case
 others =
-    (struct desk keyless dhcp 1 absent, rows (some (till ∷ [])), true)
-    ∷ (struct desk keyless dhcp 0 absent, rows (some (till ∷ [])), false)
+    (struct desk keyless dhcp 1 absent, rows (Some (till ∷ [])), true)
+    ∷ (struct desk keyless dhcp 0 absent, rows (Some (till ∷ [])), false)
     ∷ (struct desk keyless dhcp 4 absent, replicate 4 till, true)
     ∷ (struct desk keyless dhcp 5 absent, replicate 4 till, false)
     ∷ (struct desk keyless dhcp 0 (4, padded 253 (word "shop")), no_servers, true)

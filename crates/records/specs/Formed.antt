@@ -10,7 +10,7 @@ use Rattle.addressing.specs.declared.Method.{Method}
 use Rattle.addressing.specs.declared.Method.TheVariants.{Auto, Off, Static}
 use Rattle.records.specs.Record.{Secret, no_secret, passphrase, key, Join, laid, laid_servers}
 use Rattle.records.specs.declared.Credential.{Credential}
-use Rattle.records.specs.declared.Credential.TheVariants.{None, Passphrase, Key}
+use Rattle.records.specs.declared.Credential.TheVariants.{Passphrase, Key}
 use Rattle.records.specs.declared.JoinRecord.{JoinRecord}
 
 -- "Passphrase and domain are UTF-8 without byte 0.": a rule for each
@@ -90,7 +90,7 @@ abbrev pub passphrase_formed : ℕ → List ℕ → Bool
 passphrase_formed n p = held 8 63 n p && passphrase_text (take n p)
 
 abbrev pub credential_formed : Credential → ℕ → List ℕ → List ℕ → Bool
-credential_formed None n p k = held 0 0 n p && zeros k
+credential_formed Credential.None n p k = held 0 0 n p && zeros k
 credential_formed Passphrase n p k = passphrase_formed n p && zeros k
 credential_formed Key n p k = held 0 0 n p
 

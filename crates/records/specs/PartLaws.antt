@@ -1,7 +1,6 @@
 -- The parts of a join record and their places in a struct: laid out, each is formed; formed, each is the layout of a good one.
-use Rattle.std.specs.Prelude.{◌≡◌, refl, Bool, true, false, not, ◌&&◌, List, [], ◌∷◌, ◌++◌, ℕ, zero, suc, ◌-◌, ◌≤◌, eqb, length, take, drop, replicate}
+use Rattle.std.specs.Prelude.{◌≡◌, refl, Bool, true, false, not, ◌&&◌, List, [], ◌∷◌, ◌++◌, ℕ, zero, suc, ◌-◌, ◌≤◌, eqb, length, take, drop, replicate, None, Some}
 use Rattle.std.proofs.Common.{ap, ap₂, sym, ◌∙◌, arith, eqb-true, length-append, length-drop, take-append-drop, length-take-le}
-use Rattle.std.proofs.Math.Option.{none, some}
 use Rattle.std.proofs.lemmas.Bool.{not-true}
 use Rattle.std.proofs.lemmas.List.{length-replicate}
 use Rattle.std.proofs.Math.Seq.{take-append_seam, drop-append_seam}
@@ -16,7 +15,7 @@ use Rattle.addressing.specs.declared.Method.TheVariants.{Auto, Off, Static}
 use Rattle.records.specs.Record.{Secret, no_secret, passphrase, key, credential_of, passphrase_of, key_of, secret_of}
 use Rattle.records.specs.Formed.{passphrase_text, GoodKey, GoodSecret, GoodServers, zeros, zero_rows, held, passphrase_formed, credential_formed, unaddressed, addressing_formed, servers_formed}
 use Rattle.records.specs.declared.Credential.{Credential}
-use Rattle.records.specs.declared.Credential.TheVariants.{None, Passphrase, Key}
+use Rattle.records.specs.declared.Credential.TheVariants.{Passphrase, Key}
 
 -- ---- zeros
 
@@ -125,7 +124,7 @@ module _ (n : ℕ) (p k : List ℕ) (lp : length p ≡ 63) (lk : length k ≡ 32
   zero_key e = sym (zeros_eq k e ∙ ap (λ (m : ℕ). replicate m 0) lk)
 
   pub secret_back : (c : Credential) → all is_byte k ≡ true → credential_formed c n p k ≡ true → SecretBack c n p k
-  secret_back None b h =
+  secret_back Credential.None b h =
       let s = and_true (held 0 0 n p) (zeros k) h in
       record { kind = refl; long = (unused s.0).0; text = (unused s.0).1; bytes = zero_key s.1; good = tt }
   secret_back Passphrase b h =
@@ -153,16 +152,16 @@ pub addressing_joined : (width : ℕ) (x : Addressing) →
     addressing_in (method_of x) (address_of width x) (length_of x) (has_gateway_of x) (gateway_of width x) ≡ x
 addressing_joined width auto = refl
 addressing_joined width off = refl
-addressing_joined width (static a n none) = refl
-addressing_joined width (static a n (some y)) = refl
+addressing_joined width (static a n None) = refl
+addressing_joined width (static a n (Some y)) = refl
 
 module _ (width most : ℕ) where
   pub addressing_formed_lem : (x : Addressing) → Good width most x →
       addressing_formed most (method_of x) (address_of width x) (length_of x) (has_gateway_of x) (gateway_of width x) ≡ true
   addressing_formed_lem auto g = rw (zeros_replicate width)
   addressing_formed_lem off g = rw (zeros_replicate width)
-  addressing_formed_lem (static a n none) g = rw (inside {x = n} 1 most g.low g.high) (zeros_replicate width)
-  addressing_formed_lem (static a n (some y)) g = rw (inside {x = n} 1 most g.low g.high)
+  addressing_formed_lem (static a n None) g = rw (inside {x = n} 1 most g.low g.high) (zeros_replicate width)
+  addressing_formed_lem (static a n (Some y)) g = rw (inside {x = n} 1 most g.low g.high)
 
   -- what formed places hold, laid out again
   pub record AddressingBack (m : Method) (a : List ℕ) (n : ℕ) (h : Bool) (g : List ℕ) : Type 0 where
@@ -217,7 +216,7 @@ module _ (width most : ℕ) where
 
 -- ---- the servers
 
-pub servers_formed_lem : (l : List (List ℕ)) → length l ≤ 4 → servers_formed (length l) (rows (some l)) ≡ true
+pub servers_formed_lem : (l : List (List ℕ)) → length l ≤ 4 → servers_formed (length l) (rows (Some l)) ≡ true
 servers_formed_lem l h = rw (inside {x = length l} 0 4 (omega arith) h, drop-append_seam l (replicate (4 - length l) no_address)) (zero_rows_lem (4 - length l))
 
 module _ (n : ℕ) (s : List (List ℕ)) (l : length s ≡ 4) (b : are_addresses s ≡ true) (h : servers_formed n s ≡ true) where
@@ -230,7 +229,7 @@ module _ (n : ℕ) (s : List (List ℕ)) (l : length s ≡ 4) (b : are_addresses
   pub servers_long : length (take n s) ≡ n
   servers_long = length-take-le n s (omega (arith, servers_high))
 
-  pub servers_back : rows (some (take n s)) ≡ s
+  pub servers_back : rows (Some (take n s)) ≡ s
   servers_back =
       let k : 4 - length (take n s) ≡ length (drop n s) = simp length-drop (omega (arith, servers_long)) in
       ap (λ (j : ℕ). take n s ++ replicate j no_address) k
@@ -270,5 +269,5 @@ pub addressing_arrays : (width most : ℕ) (x : Addressing) → Good width most 
     (is_bytes width (address_of width x) ≡ true) × (is_bytes width (gateway_of width x) ≡ true)
 addressing_arrays width most auto g = (zero_is width, zero_is width)
 addressing_arrays width most off g = (zero_is width, zero_is width)
-addressing_arrays width most (static a n none) g = (g.address, zero_is width)
-addressing_arrays width most (static a n (some y)) g = (g.address, g.gateway)
+addressing_arrays width most (static a n None) g = (g.address, zero_is width)
+addressing_arrays width most (static a n (Some y)) g = (g.address, g.gateway)

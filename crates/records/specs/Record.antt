@@ -1,11 +1,10 @@
 -- The join record: what document 01 puts into it, and the one definition that lays it out in the code's types.
-use Rattle.std.specs.Prelude.{ℕ, Bool, List, [], length, take, replicate}
-use Rattle.std.proofs.Math.Option.{some}
+use Rattle.std.specs.Prelude.{ℕ, Bool, List, [], length, take, replicate, Some}
 use Rattle.text.specs.Parts.{padded}
 use Rattle.addresses.specs.Addresses.{rows}
 use Rattle.addressing.specs.Addressing.{Addressing, method_of, address_of, length_of, has_gateway_of, gateway_of, addressing_in}
 use Rattle.records.specs.declared.Credential.{Credential}
-use Rattle.records.specs.declared.Credential.TheVariants.{None, Passphrase, Key}
+use Rattle.records.specs.declared.Credential.TheVariants.{Passphrase, Key}
 use Rattle.records.specs.declared.JoinRecord.{JoinRecord}
 
 -- "credential (none, passphrase of 8 to 63 bytes, or 32-byte key)"
@@ -28,7 +27,7 @@ pub record Join : Type 0 where
 -- ---- its layout: "Places not in use are zero"
 
 abbrev pub credential_of : Secret → Credential
-credential_of no_secret = None
+credential_of no_secret = Credential.None
 credential_of (passphrase p) = Passphrase
 credential_of (key k) = Key
 
@@ -69,12 +68,12 @@ laid j =
 
 -- the name servers, which stand beside the record
 abbrev pub laid_servers : Join → List (List ℕ)
-laid_servers j = rows (some j.servers)
+laid_servers j = rows (Some j.servers)
 
 -- ---- the other way: the record that a struct and its servers hold
 
 abbrev pub secret_of : Credential → List ℕ → List ℕ → Secret
-secret_of None p k = no_secret
+secret_of Credential.None p k = no_secret
 secret_of Passphrase p k = passphrase p
 secret_of Key p k = key k
 

@@ -4,12 +4,13 @@
 // formed in specs/Formed, and that the two agree in specs/Laws.
 #![tactic(auto)]
 
-ghost use Rattle.std.specs.Prelude.{◌≡◌, ◌≤◌, length};
-ghost use Rattle.records.specs.Formed.{zeros, held, passphrase_formed, credential_formed, unaddressed, addressed, addressing_formed, ipv4_formed, ipv6_formed, servers_formed, domain_formed, formed};
+ghost use Rattle.std.specs.Prelude.{◌≡◌, ◌≤◌, ◌&&◌, length, take};
+ghost use Rattle.utf8.specs.Utf8.{record_text};
+ghost use Rattle.records.specs.Formed.{zeros, held, credential_formed, unaddressed, addressed, addressing_formed, servers_formed, formed};
 
 use addressing::Method;
 
-#[derive(Clone, Copy)]
+#[derive(Clone, Copy, PartialEq, Eq)]
 pub enum Credential {
     None,
     Passphrase,
@@ -18,7 +19,7 @@ pub enum Credential {
 
 // The name, the passphrase and the domain are the first `.._len` bytes of their arrays. What is not in use is zero. The
 // name servers, the first `server_count` of four, stand beside the record.
-#[derive(Clone, Copy)]
+#[derive(Clone, Copy, PartialEq, Eq)]
 pub struct JoinRecord {
     pub name_len: usize,
     pub name: [u8; 32],
@@ -54,80 +55,39 @@ fn is_held(s: &[u8], n: usize, low: usize, high: usize) -> bool
     requires { high ≤ length s.now }
     ensures { result ≡ held low high n s.now }
 {
-    if n < low {
-        return false;
-    }
-    if high < n {
-        return false;
-    }
-    is_zero(&s[n..])
+    low <= n && n <= high && is_zero(&s[n..])
 }
 
-// Whether the first n bytes of s are a passphrase.
-fn is_passphrase(s: [u8; 63], n: usize) -> bool
-    ensures { result ≡ passphrase_formed n s }
+// Whether the first n bytes of s are a text that a record may have, of at least low bytes.
+fn is_text<const N: usize>(s: &[u8; N], n: usize, low: usize) -> bool
+    ensures { result ≡ (held low N n s.now && record_text (take n s.now)) }
 {
-    if is_held(&s, n, 8, 63) {
-        return utf8::is_record_text(&s[0..n]);
-    }
-    false
-}
-
-// Whether the first n bytes of s are a domain, or none.
-fn is_domain(s: [u8; 253], n: usize) -> bool
-    ensures { result ≡ domain_formed n s }
-{
-    if is_held(&s, n, 0, 253) {
-        return utf8::is_record_text(&s[0..n]);
-    }
-    false
+    is_held(s, n, low, N) && utf8::is_record_text(&s[..n])
 }
 
 // Whether the places of a credential, a passphrase p of n bytes and a key k, hold what it uses and zeros.
-fn is_credential(c: Credential, n: usize, p: [u8; 63], k: [u8; 32]) -> bool
-    ensures { result ≡ credential_formed c n p k }
+fn is_credential(c: Credential, n: usize, p: &[u8; 63], k: &[u8; 32]) -> bool
+    ensures { result ≡ credential_formed c n p.now k.now }
 {
     match c {
-        Credential::None => is_held(&p, n, 0, 0) && is_zero(&k),
-        Credential::Passphrase => is_passphrase(p, n) && is_zero(&k),
-        Credential::Key => is_held(&p, n, 0, 0),
+        Credential::None => is_held(p, n, 0, 0) && is_zero(k),
+        Credential::Passphrase => is_text(p, n, 8) && is_zero(k),
+        Credential::Key => is_held(p, n, 0, 0),
     }
-}
-
-// Whether an address is 0.0.0.0.
-fn is_no_address(a: [u8; 4]) -> bool
-    ensures { result ≡ zeros a }
-{
-    is_zero(&a)
 }
 
 // Whether the places of an address a, its length n and a gateway g, which h says is given, are not in use.
 fn is_unaddressed(a: &[u8], n: u8, h: bool, g: &[u8]) -> bool
     ensures { result ≡ unaddressed a.now n h g.now }
 {
-    if !is_zero(a) {
-        return false;
-    }
-    if n != 0 {
-        return false;
-    }
-    if h {
-        return false;
-    }
-    is_zero(g)
+    is_zero(a) && n == 0 && !h && is_zero(g)
 }
 
 // Whether a length n, at most most, and a gateway g, which h says is given, are good beside an address.
 fn is_addressed(most: u8, n: u8, h: bool, g: &[u8]) -> bool
     ensures { result ≡ addressed most n h g.now }
 {
-    if n < 1 {
-        return false;
-    }
-    if most < n {
-        return false;
-    }
-    h || is_zero(g)
+    1 <= n && n <= most && (h || is_zero(g))
 }
 
 // Whether the places of a method hold what it uses and zeros.
@@ -141,71 +101,37 @@ fn is_addressing(most: u8, m: Method, a: &[u8], n: u8, h: bool, g: &[u8]) -> boo
     }
 }
 
-fn is_ipv4(r: JoinRecord) -> bool
-    ensures { result ≡ ipv4_formed r }
-{
-    let method = r.ipv4;
-    let address = r.address;
-    let gateway = r.gateway;
-    is_addressing(32, method, &address, r.length, r.has_gateway, &gateway)
-}
-
-fn is_ipv6(r: JoinRecord) -> bool
-    ensures { result ≡ ipv6_formed r }
-{
-    let method = r.ipv6;
-    let address = r.ipv6_address;
-    let gateway = r.ipv6_gateway;
-    is_addressing(
-        128,
-        method,
-        &address,
-        r.ipv6_length,
-        r.has_ipv6_gateway,
-        &gateway,
-    )
-}
-
 // Whether there are at most four servers, and those behind the first n are zero.
-fn are_servers(n: usize, servers: [[u8; 4]; 4]) -> bool
-    ensures { result ≡ servers_formed n servers }
+fn are_servers(n: usize, servers: &[[u8; 4]; 4]) -> bool
+    ensures { result ≡ servers_formed n servers.now }
 {
     if 4 < n {
         return false;
     }
-    let mut i = n;
-    while i < 4 {
-        if !is_no_address(servers[i]) {
+    for server in &servers[n..] {
+        if !is_zero(server) {
             return false;
         }
-        i += 1;
     }
     true
 }
 
 // Whether a record and its servers are well formed; a record that is not is refused with 19.
+#[tactic(auto, unfolding(crate::specs::Formed::formed))]
 pub fn is_well_formed(r: JoinRecord, servers: [[u8; 4]; 4]) -> bool
     ensures { result ≡ formed r servers }
 {
-    let name = r.name;
-    if !is_held(&name, r.name_len, 1, 32) {
-        return false;
-    }
-    let credential = r.credential;
-    let passphrase = r.passphrase;
-    let key = r.key;
-    if !is_credential(credential, r.passphrase_len, passphrase, key) {
-        return false;
-    }
-    if !is_ipv4(r) {
-        return false;
-    }
-    if !is_ipv6(r) {
-        return false;
-    }
-    let domain = r.domain;
-    if !is_domain(domain, r.domain_len) {
-        return false;
-    }
-    are_servers(r.server_count, servers)
+    is_held(&r.name, r.name_len, 1, 32)
+        && is_credential(r.credential, r.passphrase_len, &r.passphrase, &r.key)
+        && is_addressing(32, r.ipv4, &r.address, r.length, r.has_gateway, &r.gateway)
+        && is_addressing(
+            128,
+            r.ipv6,
+            &r.ipv6_address,
+            r.ipv6_length,
+            r.has_ipv6_gateway,
+            &r.ipv6_gateway,
+        )
+        && is_text(&r.domain, r.domain_len, 0)
+        && are_servers(r.server_count, &servers)
 }

@@ -2,19 +2,17 @@
 use Prim.Native.Nat.{ℕ, zero, suc, ◌+◌}
 use native.Mathlib.Omega.{arith}
 use mathlib.Core.Path.{◌≡◌, refl, ap, ◌∙◌}
-use mathlib.Core.Bool.{Bool, true, false}
+use mathlib.Core.Bool.{Bool, true}
 use mathlib.Core.List.{List, [], ◌∷◌, ◌++◌}
 use lib.ListN.{length, take, length-append}
 use Rattle.text.specs.Words.{word}
-use Rattle.escapes.specs.Escapes.{escape}
 use Rattle.addresses.specs.Addresses.{dotted, mask_bytes, listed}
 use Rattle.addresses.specs.declared.Separator.TheVariants.{Spaces}
-use Rattle.connman_ipv4.specs.declared.Ipv4.{Ipv4}
-use Rattle.addressing.specs.declared.Method.TheVariants.{Auto, Off, Static}
+use Rattle.addressing.specs.declared.Numbers.{Numbers}
 use Rattle.addressing.specs.Addressing.{gateway_if}
 use Rattle.rendering.proofs.Three.{Three}
-use Rattle.written.specs.Written.{WrittenRow, gateway_rows, number_rows, server_rows, domain_rows}
-use Rattle.written.specs.RecordParts.{numbers_in, static_rows}
+use Rattle.written.specs.Written.{WrittenRow, gateway_rows, server_rows}
+use Rattle.written.specs.RecordParts.{static_rows}
 use Rattle.written.specs.Texts.{rows_text}
 use Rattle.written.proofs.TextLaws.{rows_append}
 use Rattle.rendering.proofs.ExactSizes.{line_size}
@@ -25,16 +23,12 @@ module _ (text : List ℕ → List ℕ) (a : List ℕ) where
   unfolding rows_text
   gateway_text e = rw e
 
-  pub gateway_none : {h : Bool} → h ≡ false → rows_text (gateway_rows text (gateway_if h a)) ≡ []
-  unfolding rows_text
-  gateway_none e = rw e
-
 -- an address as a line with its key in front
 abbrev pub address_line : List ℕ → List ℕ → List ℕ
 address_line k a = k ++ dotted a ++ 10 ∷ []
 
 -- the lines of a static IPv4, m being its mask
-pub static_text : (i : Ipv4) {m : List ℕ} → m ≡ mask_bytes i.length → Three (rows_text (static_rows i)) (address_line (word "Address=") i.address) (address_line (word "Netmask=") m) (rows_text (gateway_rows dotted (gateway_if i.has_gateway i.gateway)))
+pub static_text : (i : Numbers 4) {m : List ℕ} → m ≡ mask_bytes i.length → Three (rows_text (static_rows i)) (address_line (word "Address=") i.address) (address_line (word "Netmask=") m) (rows_text (gateway_rows dotted (gateway_if i.has_gateway i.gateway)))
 unfolding rows_text
 static_text i {m} e =
     let own : WrittenRow = (word "Address", dotted i.address) in
@@ -42,25 +36,12 @@ static_text i {m} e =
     let last : List WrittenRow = gateway_rows dotted (gateway_if i.has_gateway i.gateway) in
     rw e (record { is = rows_append (own ∷ mask ∷ []) last ∙ ap (λ (t : List ℕ). t ++ rows_text last) (rows_append (own ∷ []) (mask ∷ [])) })
 
-pub static_size : (i : Ipv4) {m : List ℕ} → m ≡ mask_bytes i.length → length (rows_text (static_rows i)) ≡ 18 + length (dotted i.address) + length (dotted m) + length (rows_text (gateway_rows dotted (gateway_if i.has_gateway i.gateway)))
+pub static_size : (i : Numbers 4) {m : List ℕ} → m ≡ mask_bytes i.length → length (rows_text (static_rows i)) ≡ 18 + length (dotted i.address) + length (dotted m) + length (rows_text (gateway_rows dotted (gateway_if i.has_gateway i.gateway)))
 static_size i {m} e =
     let own = address_line (word "Address=") i.address in
     let mask = address_line (word "Netmask=") m in
     let last = rows_text (gateway_rows dotted (gateway_if i.has_gateway i.gateway)) in
     ap length (static_text i e).is ∙ length-append (own ++ mask) last ∙ omega (arith, length-append own mask, line_size (word "Address=") (dotted i.address), line_size (word "Netmask=") (dotted m))
-
--- an IPv4 has the settings of its method
-module _ (i : Ipv4) where
-  pub numbers_dhcp : i.method ≡ Auto → rows_text (number_rows (numbers_in i)) ≡ []
-  unfolding rows_text
-  numbers_dhcp e = rw e
-
-  pub numbers_off : i.method ≡ Off → rows_text (number_rows (numbers_in i)) ≡ []
-  unfolding rows_text
-  numbers_off e = rw e
-
-  pub numbers_static : i.method ≡ Static → rows_text (number_rows (numbers_in i)) ≡ rows_text (static_rows i)
-  numbers_static e = rw e
 
 module _ (l : List (List ℕ)) where
   pub servers_text : (n : ℕ) → (n ≡ 0 → ⊥) → length l ≡ 4 → rows_text (server_rows (take n l)) ≡ word "DNS=" ++ listed Spaces (take n l) ++ 10 ∷ []
@@ -71,17 +52,3 @@ module _ (l : List (List ℕ)) where
       go : (m : List (List ℕ)) → length m ≡ 4 → rows_text (server_rows (take (suc n) m)) ≡ word "DNS=" ++ listed Spaces (take (suc n) m) ++ 10 ∷ []
       go [] k = absurd (omega (arith, k))
       go (x ∷ m) k = refl
-
-  pub servers_none : {n : ℕ} → n ≡ 0 → rows_text (server_rows (take n l)) ≡ []
-  unfolding rows_text
-  servers_none e = rw e
-
-pub domain_text_lem : (d : List ℕ) → (length d ≡ 0 → ⊥) → rows_text (domain_rows d) ≡ word "DomainName=" ++ escape d ++ 10 ∷ []
-unfolding rows_text
-domain_text_lem [] h = absurd (h refl)
-domain_text_lem (c ∷ d) h = refl
-
-pub domain_none : (d : List ℕ) → length d ≡ 0 → rows_text (domain_rows d) ≡ []
-unfolding rows_text
-domain_none [] e = refl
-domain_none (c ∷ d) e = absurd (omega (arith, e))

@@ -1,4 +1,6 @@
 // The groups of the file. Each writer is given the unwritten rest of the output, and returns how much of it it used.
+#![tactic(auto, unfolding(written::specs::Texts::rows_text, written::specs::Texts::group_text))]
+
 ghost use Rattle.std.specs.Prelude.{◌+◌, ◌≤◌, length, take};
 ghost use Rattle.text.specs.Words.{word};
 ghost use Rattle.put.specs.Put.{Wrote};
@@ -9,8 +11,7 @@ ghost use Rattle.written.specs.Texts.{rows_text, group_text};
 ghost use Rattle.written.specs.RecordParts.{numbers_in, CountsWithin};
 
 use crate::rows;
-use addressing::Method;
-use connman_ipv4::Ipv4;
+use addressing::{Method, Numbers};
 use records::{Credential, JoinRecord};
 use written::parts;
 
@@ -38,7 +39,7 @@ fn put_security(out: &mut [u8], c: Credential, passphrase: &[u8], key: &[u8]) ->
 fn put_ipv4_rows(
     out: &mut [u8],
     at: usize,
-    i: Ipv4,
+    i: Numbers<4>,
     servers: [[u8; 4]; 4],
     count: usize,
     domain: &[u8],
@@ -53,7 +54,13 @@ fn put_ipv4_rows(
     rows::put_domain(out, q, domain)
 }
 
-fn put_ipv4(out: &mut [u8], i: Ipv4, servers: [[u8; 4]; 4], count: usize, domain: &[u8]) -> usize
+fn put_ipv4(
+    out: &mut [u8],
+    i: Numbers<4>,
+    servers: [[u8; 4]; 4],
+    count: usize,
+    domain: &[u8],
+) -> usize
     requires size { i.length ≤ 32 }
     requires most { count ≤ 4 }
     requires room { length (group_text (word "IPv4") (ipv4_rows (numbers_in i) (take count servers) domain.now)) ≤ length out.old }
@@ -92,32 +99,28 @@ pub fn put_file(out: &mut [u8], r: JoinRecord, servers: [[u8; 4]; 4]) -> usize
     requires room { length (file_text (joined r servers)) ≤ length out.old }
     ensures { Wrote (file_text (joined r servers)) 0 out.old out.new result }
 {
-    let credential = r.credential;
-    let passphrase = r.passphrase;
-    let phrase_used = r.passphrase_len;
-    let key = r.key;
-    let domain = r.domain;
-    let domain_used = r.domain_len;
-    let method = r.ipv6;
-    let address = r.ipv6_address;
-    let gateway = r.ipv6_gateway;
     let numbers = parts::numbers(r);
     let mut at = put_settings(out, r.hidden);
-    at += put_security(&mut out[at..], credential, &passphrase[..phrase_used], &key);
+    at += put_security(
+        &mut out[at..],
+        r.credential,
+        &r.passphrase[..r.passphrase_len],
+        &r.key,
+    );
     at += put_ipv4(
         &mut out[at..],
         numbers,
         servers,
         r.server_count,
-        &domain[..domain_used],
+        &r.domain[..r.domain_len],
     );
     at += put_ipv6(
         &mut out[at..],
-        method,
-        address,
+        r.ipv6,
+        r.ipv6_address,
         r.ipv6_length,
         r.has_ipv6_gateway,
-        gateway,
+        r.ipv6_gateway,
     );
     at
 }

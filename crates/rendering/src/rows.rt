@@ -1,4 +1,6 @@
 // Settings, written at a place of the output; each writer returns the place behind what it wrote.
+#![tactic(auto, unfolding(written::specs::Texts::rows_text, written::specs::Texts::group_text))]
+
 ghost use Rattle.std.specs.Prelude.{◌≡◌, [], ◌∷◌, ◌++◌, ◌+◌, ◌≤◌, length, take};
 ghost use Rattle.text.specs.Words.{word};
 ghost use Rattle.escapes.specs.Escapes.{escape};
@@ -12,10 +14,10 @@ ghost use Rattle.addressing.specs.Addressing.{gateway_if};
 ghost use Rattle.written.specs.RecordParts.{numbers_in, static_rows};
 
 use addresses::{Separator, masks, writing};
-use addressing::Method;
-use connman_ipv4::Ipv4;
+use addressing::{Method, Numbers};
 
-// What stands in front of a string, the string, escaped, and the end of the line.
+// What stands in front of a string, the string, escaped, and the end of the line. Each form of a value has a function of three
+// lines: a trait over the forms would be longer than they are.
 pub fn put_string(out: &mut [u8], at: usize, front: &[u8], s: &[u8]) -> usize
     requires { at + length (front.now ++ escape s.now ++ 10 ∷ []) ≤ length out.old }
     ensures { Wrote (front.now ++ escape s.now ++ 10 ∷ []) at out.old out.new result }
@@ -57,26 +59,23 @@ fn put_gateway(out: &mut [u8], at: usize, given: bool, a: [u8; 4]) -> usize
 }
 
 // The lines of an address, of its mask and of its gateway.
-fn put_static(out: &mut [u8], at: usize, i: Ipv4) -> usize
+fn put_static(out: &mut [u8], at: usize, i: Numbers<4>) -> usize
     requires size { i.length ≤ 32 }
     requires room { at + length (rows_text (static_rows i)) ≤ length out.old }
     ensures { Wrote (rows_text (static_rows i)) at out.old out.new result }
 {
-    let address = i.address;
-    let gateway = i.gateway;
-    let p = put_address(out, at, b"Address=", address);
+    let p = put_address(out, at, b"Address=", i.address);
     let q = put_address(out, p, b"Netmask=", masks::mask_bytes(i.length));
-    put_gateway(out, q, i.has_gateway, gateway)
+    put_gateway(out, q, i.has_gateway, i.gateway)
 }
 
 // The lines of an IPv4 that is static, and none of any other.
-pub fn put_numbers(out: &mut [u8], at: usize, i: Ipv4) -> usize
+pub fn put_numbers(out: &mut [u8], at: usize, i: Numbers<4>) -> usize
     requires size { i.length ≤ 32 }
     requires room { at + length (rows_text (number_rows (numbers_in i))) ≤ length out.old }
     ensures { Wrote (rows_text (number_rows (numbers_in i))) at out.old out.new result }
 {
-    let method = i.method;
-    match method {
+    match i.method {
         Method::Auto => at,
         Method::Off => at,
         Method::Static => put_static(out, at, i),
@@ -102,7 +101,7 @@ pub fn put_domain(out: &mut [u8], at: usize, d: &[u8]) -> usize
     requires { at + length (rows_text (domain_rows d.now)) ≤ length out.old }
     ensures { Wrote (rows_text (domain_rows d.now)) at out.old out.new result }
 {
-    if d.len() == 0 {
+    if d.is_empty() {
         return at;
     }
     put_string(out, at, b"DomainName=", d)
@@ -120,7 +119,7 @@ pub fn put_ipv6_address(out: &mut [u8], a: [u8; 16], n: u8) -> usize
     put::put_byte(out, s, 10)
 }
 
-// The line of a gateway, where there is one.
+// The line of an IPv6's gateway, where there is one.
 pub fn put_ipv6_gateway(out: &mut [u8], at: usize, given: bool, a: [u8; 16]) -> usize
     requires { at + length (rows_text (gateway_rows canonical (gateway_if given a))) ≤ length out.old }
     ensures { Wrote (rows_text (gateway_rows canonical (gateway_if given a))) at out.old out.new result }

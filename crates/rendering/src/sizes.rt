@@ -1,4 +1,6 @@
 // How long each part of the file is.
+#![tactic(auto, unfolding(written::specs::Texts::rows_text, written::specs::Texts::group_text))]
+
 ghost use Rattle.std.specs.Prelude.{◌≡◌, ◌≤◌, length, take};
 ghost use Rattle.text.specs.Words.{word};
 ghost use Rattle.records.specs.Record.{secret_of, joined};
@@ -10,8 +12,7 @@ ghost use Rattle.written.specs.Texts.{rows_text, group_text};
 ghost use Rattle.written.specs.RecordParts.{numbers_in, static_rows, CountsWithin};
 
 use addresses::{Separator, masks, writing};
-use addressing::Method;
-use connman_ipv4::Ipv4;
+use addressing::{Method, Numbers};
 use records::{Credential, JoinRecord};
 use written::parts;
 
@@ -41,23 +42,20 @@ fn gateway_len(given: bool, a: [u8; 4]) -> usize
     0
 }
 
-fn static_len(i: Ipv4) -> usize
+fn static_len(i: Numbers<4>) -> usize
     requires { i.length ≤ 32 }
     ensures { result ≡ length (rows_text (static_rows i)) }
 {
-    let address = i.address;
-    let gateway = i.gateway;
-    let own = writing::address_len(address);
+    let own = writing::address_len(i.address);
     let mask = writing::address_len(masks::mask_bytes(i.length));
-    18 + own + mask + gateway_len(i.has_gateway, gateway)
+    18 + own + mask + gateway_len(i.has_gateway, i.gateway)
 }
 
-fn numbers_len(i: Ipv4) -> usize
+fn numbers_len(i: Numbers<4>) -> usize
     requires { i.length ≤ 32 }
     ensures { result ≡ length (rows_text (number_rows (numbers_in i))) }
 {
-    let method = i.method;
-    match method {
+    match i.method {
         Method::Auto => 0,
         Method::Off => 0,
         Method::Static => static_len(i),
@@ -84,7 +82,7 @@ fn domain_len(d: &[u8]) -> usize
     12 + escapes::escaped_len(d)
 }
 
-fn ipv4_len(i: Ipv4, servers: [[u8; 4]; 4], count: usize, domain: &[u8]) -> usize
+fn ipv4_len(i: Numbers<4>, servers: [[u8; 4]; 4], count: usize, domain: &[u8]) -> usize
     requires size { i.length ≤ 32 }
     requires most { count ≤ 4 }
     requires short { length domain.now ≤ 253 }
@@ -130,19 +128,16 @@ pub fn file_len(r: JoinRecord, servers: [[u8; 4]; 4]) -> usize
     requires { CountsWithin r }
     ensures { result ≡ length (file_text (joined r servers)) }
 {
-    let credential = r.credential;
-    let passphrase = r.passphrase;
-    let phrase_used = r.passphrase_len;
-    let key = r.key;
-    let domain = r.domain;
-    let domain_used = r.domain_len;
-    let method = r.ipv6;
-    let address = r.ipv6_address;
-    let gateway = r.ipv6_gateway;
     let numbers = parts::numbers(r);
     let settings = settings_len(r.hidden);
-    let security = security_len(credential, &passphrase[..phrase_used], &key);
-    let ipv4 = ipv4_len(numbers, servers, r.server_count, &domain[..domain_used]);
-    let ipv6 = ipv6_len(method, address, r.ipv6_length, r.has_ipv6_gateway, gateway);
+    let security = security_len(r.credential, &r.passphrase[..r.passphrase_len], &r.key);
+    let ipv4 = ipv4_len(numbers, servers, r.server_count, &r.domain[..r.domain_len]);
+    let ipv6 = ipv6_len(
+        r.ipv6,
+        r.ipv6_address,
+        r.ipv6_length,
+        r.has_ipv6_gateway,
+        r.ipv6_gateway,
+    );
     settings + security + ipv4 + ipv6
 }

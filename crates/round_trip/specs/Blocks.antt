@@ -1,6 +1,5 @@
 -- Groups of settings by names, keys and values alone: what is left of a reading, what is asked of it, and which are good to write.
-use Rattle.std.specs.Prelude.{ℕ, ◌+◌, ◌≡◌, Bool, true, false, cond, not, ◌&&◌, List, [], ◌∷◌, ◌++◌, length}
-use Rattle.std.proofs.Math.Option.{Option, none, some}
+use Rattle.std.specs.Prelude.{ℕ, ◌+◌, ◌≡◌, Bool, true, false, cond, not, ◌&&◌, List, [], ◌∷◌, ◌++◌, length, Option, None, Some}
 use Rattle.text.specs.Words.{same}
 use Rattle.text.specs.Options.{is_some}
 use Rattle.text.specs.declared.Dialect.{Dialect}
@@ -36,8 +35,8 @@ kept (b ∷ bs) = or_skipped b.name b.rows (kept bs)
 
 -- the value of the setting with a key
 abbrev pub row_value : List ℕ → List WrittenRow → Option (List ℕ)
-row_value k [] = none
-row_value k (r ∷ rs) = cond (same k r.0) (some r.1) (row_value k rs)
+row_value k [] = None
+row_value k (r ∷ rs) = cond (same k r.0) (Some r.1) (row_value k rs)
 
 -- the settings of the group with a name
 abbrev pub rows_in : List ℕ → List Block → List WrittenRow
@@ -54,8 +53,8 @@ row_count (b ∷ bs) = length b.rows + row_count bs
 -- a setting of group g
 pub record GoodRow (d : Dialect) (g : Group) (r : WrittenRow) : Type 0 where
   pub kind : Kind
-  pub listed : kind_of g r.0 ≡ some kind
-  pub good : value_fault (judged d kind r.1) ≡ none
+  pub listed : kind_of g r.0 ≡ Some kind
+  pub good : value_fault (judged d kind r.1) ≡ None
   pub text : SettingText d r.0 r.1
 
 abbrev pub GoodRows : Dialect → Group → List WrittenRow → Type 0
@@ -69,7 +68,7 @@ keys_apart done (r ∷ rs) = not (is_some (row_value r.0 done)) && keys_apart (d
 
 pub record GoodBlock (d : Dialect) (b : Block) : Type 0 where
   pub group : Group
-  pub named : group_of d b.name ≡ some group
+  pub named : group_of d b.name ≡ Some group
   pub plain : serves group ≡ false
   pub header : HeaderText d b.name
   pub rows : GoodRows d group b.rows

@@ -1,7 +1,6 @@
 -- The groups that are written of a well-formed record are good, and each key has in them the value that was written for it.
-use Rattle.std.specs.Prelude.{ℕ, ◌≡◌, refl, Bool, true, false, List, [], ◌∷◌, ◌++◌}
+use Rattle.std.specs.Prelude.{ℕ, ◌≡◌, refl, Bool, true, false, List, [], ◌∷◌, ◌++◌, Option, None, Some}
 use Rattle.std.proofs.Common.{◌∙◌}
-use Rattle.std.proofs.Math.Option.{Option, none, some}
 use Rattle.text.specs.Words.{word, same}
 use Rattle.text.specs.OptionLaws.{IfSome}
 use Rattle.text.specs.declared.Dialect.{Dialect}
@@ -39,8 +38,8 @@ secret_good (key k) w = (key_row k w, tt)
 gateway_good : (d : Group) (width : ℕ) (text : List ℕ → List ℕ) →
     ((x : List ℕ) → is_bytes width x ≡ true → GoodRow Iwd d (word "Gateway", text x)) → (g : Option (List ℕ)) →
     IfSome (λ x. is_bytes width x ≡ true) g → GoodRows Iwd d (gateway_rows text g)
-gateway_good d width text f none w = tt
-gateway_good d width text f (some g) w = (f g w, tt)
+gateway_good d width text f None w = tt
+gateway_good d width text f (Some g) w = (f g w, tt)
 
 number_good : (i : Addressing) → GoodIpv4 i → GoodRows Iwd G.Ipv4 (number_rows i)
 number_good auto w = tt
@@ -76,8 +75,8 @@ secret_apart (passphrase p) = refl
 secret_apart (key k) = refl
 
 -- behind settings with neither key
-behind_apart : (done : List WrittenRow) → row_value (word "DNS") done ≡ none →
-    row_value (word "DomainName") done ≡ none → (l : List (List ℕ)) (d : List ℕ) →
+behind_apart : (done : List WrittenRow) → row_value (word "DNS") done ≡ None →
+    row_value (word "DomainName") done ≡ None → (l : List (List ℕ)) (d : List ℕ) →
     keys_apart done (server_rows l ++ domain_rows d) ≡ true
 behind_apart done p q [] [] = refl
 behind_apart done p q [] (c ∷ d) = rw q
@@ -87,14 +86,14 @@ behind_apart done p q (a ∷ l) (c ∷ d) = rw (p, value_before (word "DomainNam
 ipv4_apart : (i : Addressing) (l : List (List ℕ)) (d : List ℕ) → keys_apart [] (ipv4_rows i l d) ≡ true
 ipv4_apart auto l d = behind_apart [] refl refl l d
 ipv4_apart off l d = behind_apart [] refl refl l d
-ipv4_apart (static a n none) l d = behind_apart (number_rows (static a n none)) refl refl l d
-ipv4_apart (static a n (some g)) l d = behind_apart (number_rows (static a n (some g))) refl refl l d
+ipv4_apart (static a n None) l d = behind_apart (number_rows (static a n None)) refl refl l d
+ipv4_apart (static a n (Some g)) l d = behind_apart (number_rows (static a n (Some g))) refl refl l d
 
 ipv6_apart : (i : Addressing) → keys_apart [] (ipv6_rows i) ≡ true
 ipv6_apart auto = refl
 ipv6_apart off = refl
-ipv6_apart (static a n none) = refl
-ipv6_apart (static a n (some g)) = refl
+ipv6_apart (static a n None) = refl
+ipv6_apart (static a n (Some g)) = refl
 
 -- ---- good groups
 
@@ -120,17 +119,17 @@ names_apart_lem j = refl
 -- ---- what each key of the group IPv4 has: the values of one of its parts
 
 no_number : (k : List ℕ) → same k (word "Address") ≡ false → same k (word "Netmask") ≡ false →
-    same k (word "Gateway") ≡ false → (i : Addressing) → row_value k (number_rows i) ≡ none
+    same k (word "Gateway") ≡ false → (i : Addressing) → row_value k (number_rows i) ≡ None
 no_number k p q r auto = refl
 no_number k p q r off = refl
-no_number k p q r (static a n none) = rw (p, q)
-no_number k p q r (static a n (some g)) = rw (p, q, r)
+no_number k p q r (static a n None) = rw (p, q)
+no_number k p q r (static a n (Some g)) = rw (p, q, r)
 
-no_server : (k : List ℕ) → same k (word "DNS") ≡ false → (l : List (List ℕ)) → row_value k (server_rows l) ≡ none
+no_server : (k : List ℕ) → same k (word "DNS") ≡ false → (l : List (List ℕ)) → row_value k (server_rows l) ≡ None
 no_server k p [] = refl
 no_server k p (a ∷ l) = rw p
 
-no_domain : (k : List ℕ) → same k (word "DomainName") ≡ false → (d : List ℕ) → row_value k (domain_rows d) ≡ none
+no_domain : (k : List ℕ) → same k (word "DomainName") ≡ false → (d : List ℕ) → row_value k (domain_rows d) ≡ None
 no_domain k p [] = refl
 no_domain k p (c ∷ d) = rw p
 

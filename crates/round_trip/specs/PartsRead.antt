@@ -1,9 +1,8 @@
 -- What is read from the written settings of each part of a record is that part, and they obey the rules over a file.
-use Rattle.std.specs.Prelude.{ℕ, ◌≡◌, Bool, true, not, ◌&&◌, ◌||◌, List, [], ◌∷◌}
+use Rattle.std.specs.Prelude.{ℕ, ◌≡◌, Bool, true, not, ◌&&◌, ◌||◌, List, [], ◌∷◌, None, Some}
 use Rattle.std.proofs.Common.{arith, sym, true≢false}
 use Rattle.std.proofs.Math.Path.{refl}
 use Rattle.std.proofs.Math.Bool.{false}
-use Rattle.std.proofs.Math.Option.{none, some}
 use Rattle.text.specs.Words.{word, same}
 use Rattle.text.specs.Options.{is_some, and_then, or_empty}
 use Rattle.text.specs.declared.Dialect.TheVariants.{Iwd}
@@ -52,8 +51,8 @@ pub number_rows_read : (i : Addressing) → GoodIpv4 i → ipv4_placed i ≡ tru
     ≡ i
 number_rows_read auto w p = refl
 number_rows_read off w p = absurd (true≢false (sym p))
-number_rows_read (static a n none) w p = absurd (true≢false (sym p))
-number_rows_read (static a n (some g)) w p = rw (address_dotted a w.address, netmask_dotted n w.low w.high, address_dotted g w.gateway)
+number_rows_read (static a n None) w p = absurd (true≢false (sym p))
+number_rows_read (static a n (Some g)) w p = rw (address_dotted a w.address, netmask_dotted n w.low w.high, address_dotted g w.gateway)
 
 pub server_rows_read : (l : List (List ℕ)) → GoodServers l →
     or_empty (and_then (row_value (word "DNS") (server_rows l)) (addresses Spaces)) ≡ l
@@ -72,8 +71,8 @@ pub ipv6_rows_read : (i : Addressing) → GoodIpv6 i →
 unfolding flag
 ipv6_rows_read auto w = refl
 ipv6_rows_read off w = refl
-ipv6_rows_read (static a n none) w = rw (with_length_written a n w.address w.low w.high)
-ipv6_rows_read (static a n (some g)) w = rw (with_length_written a n w.address w.low w.high, ipv6_canonical g w.gateway)
+ipv6_rows_read (static a n None) w = rw (with_length_written a n w.address w.low w.high)
+ipv6_rows_read (static a n (Some g)) w = rw (with_length_written a n w.address w.low w.high, ipv6_canonical g w.gateway)
 
 -- ---- the rules over a file, of groups gs that have the keys that are written
 
@@ -88,8 +87,8 @@ pub numbers_obey : (gs : List Section) (i : Addressing) → ipv4_placed i ≡ tr
     numbers_lack gs ≡ false
 numbers_obey gs auto p f = rw (f (word "Address") refl refl, f (word "Gateway") refl refl, f (word "Netmask") refl refl, f (word "Broadcast") refl refl)
 numbers_obey gs off p f = absurd (true≢false (sym p))
-numbers_obey gs (static a n none) p f = absurd (true≢false (sym p))
-numbers_obey gs (static a n (some g)) p f = rw (f (word "Address") refl refl, f (word "Gateway") refl refl)
+numbers_obey gs (static a n None) p f = absurd (true≢false (sym p))
+numbers_obey gs (static a n (Some g)) p f = rw (f (word "Address") refl refl, f (word "Gateway") refl refl)
 
 -- of IPv6 "Gateway without Address or the reverse", and "Enabled false beside Address" (2026-03)
 module _ (gs : List Section) (i : Addressing) (f : (k : List ℕ) → has (word "IPv6") k gs ≡ is_some (row_value k (ipv6_rows i))) where
@@ -99,8 +98,8 @@ module _ (gs : List Section) (i : Addressing) (f : (k : List ℕ) → has (word 
       go : (i : Addressing) → ipv6_placed i ≡ true → unpaired_by (λ k. is_some (row_value k (ipv6_rows i))) ≡ false
       go auto p = refl
       go off p = refl
-      go (static a n none) p = absurd (true≢false (sym p))
-      go (static a n (some g)) p = refl
+      go (static a n None) p = absurd (true≢false (sym p))
+      go (static a n (Some g)) p = refl
 
   pub ipv6_agrees : flag_given (word "Enabled") (entries_in (word "IPv6") gs) ≡ and_then (row_value (word "Enabled") (ipv6_rows i)) (flag Iwd) →
       (ipv6_disabled gs && has (word "IPv6") (word "Address") gs) ≡ false
@@ -111,14 +110,14 @@ module _ (gs : List Section) (i : Addressing) (f : (k : List ℕ) → has (word 
           (is_no (and_then (row_value (word "Enabled") (ipv6_rows i)) (flag Iwd)) && is_some (row_value (word "Address") (ipv6_rows i))) ≡ false
       go auto = refl
       go off = refl
-      go (static a n none) = refl
-      go (static a n (some g)) = refl
+      go (static a n None) = refl
+      go (static a n (Some g)) = refl
 
 -- ".psk with neither key", ".open with either key", and those
 pub rules_obey : (gs : List Section) (c : Secret) → numbers_lack gs ≡ false →
     unpaired_by (λ k. has (word "IPv6") k gs) ≡ false → (ipv6_disabled gs && has (word "IPv6") (word "Address") gs) ≡ false →
     ((k : List ℕ) → has (word "Security") k gs ≡ is_some (row_value k (secret_rows c))) →
-    file_fault (suffix_for c) gs ≡ none
+    file_fault (suffix_for c) gs ≡ None
 unfolding file_fault
 rules_obey gs no_secret p q r f = rw (p, q, r, f (word "Passphrase"), f (word "PreSharedKey"))
 rules_obey gs (passphrase k) p q r f = rw (f (word "Passphrase"), p, q, r)

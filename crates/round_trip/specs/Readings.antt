@@ -1,8 +1,7 @@
 -- Good groups that are written read back: each line obeys the rules, and what is left are the groups that have a setting.
-use Rattle.std.specs.Prelude.{ℕ, suc, ◌+◌, ◌≡◌, refl, Bool, true, false, cond, not, ◌||◌, length}
+use Rattle.std.specs.Prelude.{ℕ, suc, ◌+◌, ◌≡◌, refl, Bool, true, false, cond, not, ◌||◌, length, None, Some}
 use Rattle.std.proofs.Common.{ap, ap₂, sym, ◌∙◌, subst}
 use mathlib.Core.List.{List, [], ◌∷◌, ◌++◌, map, reverse, reverse-cons, append-nil, append_assoc}
-use Rattle.std.proofs.Math.Option.{none, some}
 use Rattle.std.proofs.lemmas.Bool.{not-true}
 use Rattle.text.specs.Parts.{lines}
 use Rattle.text.specs.Words.{same}
@@ -27,7 +26,7 @@ given_bare k [] = refl
 given_bare k (x ∷ es) = go (same k x.key) (given_bare k es)
   where
     go : (b : Bool) → given k es ≡ is_some (row_value k (bare es)) →
-        (b || given k es) ≡ is_some (cond b (some x.value) (row_value k (bare es)))
+        (b || given k es) ≡ is_some (cond b (Some x.value) (row_value k (bare es)))
     go true e = refl
     go false e = e
 
@@ -51,7 +50,7 @@ unfolding grown
 reads_none d gs = record { obey = λ n s. tt; leaves = λ n s. refl }
 
 reads_line : (d : Dialect) (gs : List Section) (l : Line) (ls : List Line) (bs : List Block) → WritableLine d l →
-    fault d gs l ≡ none → ((n s at : ℕ) → LeavesBlocks d (with_line d n s at l gs) ls bs) →
+    fault d gs l ≡ None → ((n s at : ℕ) → LeavesBlocks d (with_line d n s at l gs) ls bs) →
     LeavesBlocks d gs (l ∷ ls) bs
 unfolding grown
 reads_line d gs l ls bs w f h =
@@ -66,7 +65,7 @@ reads_line d gs l ls bs w f h =
 -- ---- the settings of a group
 
 row_fault_lem : (d : Dialect) (g : Section) (gs : List Section) (r : WrittenRow) → GoodRow d g.group r →
-    is_some (row_value r.0 (bare g.entries)) ≡ false → fault d (g ∷ gs) (setting r.0 r.1) ≡ none
+    is_some (row_value r.0 (bare g.entries)) ≡ false → fault d (g ∷ gs) (setting r.0 r.1) ≡ None
 unfolding fault
 row_fault_lem d g gs r w e = rw (w.listed, given_bare r.0 g.entries, e) w.good
 
@@ -96,7 +95,7 @@ unnamed_more (b ∷ bs) h gs e u =
     (rw (not-true (same b.name h.name) k.0) u.0, unnamed_more bs h gs k.1 u.1)
 
 header_fault_lem : (d : Dialect) (b : Block) (gs : List Section) → GoodBlock d b → name_given b.name gs ≡ false →
-    fault d gs (header b.name) ≡ none
+    fault d gs (header b.name) ≡ None
 unfolding fault
 header_fault_lem d b gs w u = rw (w.named, u, w.plain)
 

@@ -1,8 +1,7 @@
 -- The round trip: what is written of a well-formed record that has a place in iwd is accepted, and its record is the one that was written.
-use Rattle.std.specs.Prelude.{ℕ, ◌≡◌, true, false, List}
+use Rattle.std.specs.Prelude.{ℕ, ◌≡◌, true, false, List, Option, None, Some}
 use Rattle.std.proofs.Common.{arith, ap, ◌∙◌}
 use Rattle.std.proofs.Math.Path.{refl, ap₂}
-use Rattle.std.proofs.Math.Option.{Option, none, some}
 use Rattle.text.specs.Words.{word, same}
 use Rattle.text.specs.Options.{is_some, and_then, mapped, or_empty}
 use Rattle.text.specs.Laws.{and_true}
@@ -45,7 +44,7 @@ groups_of j = sections_of Iwd (file_text j)
 -- ---- what the file and its name give
 
 module _ (j : Join) (w : WellFormed j) where
-  name_network : network_of (name_text j) ≡ some (record { name = j.name; suffix = suffix_for j.credential })
+  name_network : network_of (name_text j) ≡ Some (record { name = j.name; suffix = suffix_for j.credential })
   unfolding name_text
   name_network = network_file_name j.name (suffix_for j.credential) w.name
 
@@ -117,8 +116,8 @@ module _ (j : Join) (w : WellFormed j) where
 
 -- the yes/no of a setting, as the rules over a file ask for it and as it is read
 flag_given_lem : (o : Option Entry) → and_then o (λ x. flag Iwd x.value) ≡ read_as (flag Iwd) o
-flag_given_lem none = refl
-flag_given_lem (some e) = refl
+flag_given_lem None = refl
+flag_given_lem (Some e) = refl
 
 -- ---- the theorem
 

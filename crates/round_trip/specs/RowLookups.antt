@@ -1,7 +1,6 @@
 -- A setting that is asked of a file is the one that its groups have: by their names, keys and values alone.
-use Rattle.std.specs.Prelude.{ℕ, suc, ◌+◌, ◌≡◌, refl, Bool, true, false, cond, not, List, [], ◌∷◌, ◌++◌, length}
+use Rattle.std.specs.Prelude.{ℕ, suc, ◌+◌, ◌≡◌, refl, Bool, true, false, cond, not, List, [], ◌∷◌, ◌++◌, length, Option, None, Some}
 use Rattle.std.proofs.Common.{arith, ap, ap₂, sym, ◌∙◌, true≢false}
-use Rattle.std.proofs.Math.Option.{Option, none, some}
 use Rattle.std.proofs.lemmas.Bool.{not-true}
 use Rattle.text.specs.Words.{same}
 use Rattle.text.specs.Options.{is_some, and_then, or_else}
@@ -30,7 +29,7 @@ read_bare f k [] = refl
 read_bare f k (x ∷ es) = go (same k x.key) (read_bare f k es)
   where
     go : (b : Bool) → read_as f (entry_of k es) ≡ and_then (row_value k (bare es)) f →
-        read_as f (cond b (some x) (entry_of k es)) ≡ and_then (cond b (some x.value) (row_value k (bare es))) f
+        read_as f (cond b (Some x) (entry_of k es)) ≡ and_then (cond b (Some x.value) (row_value k (bare es))) f
     go true e = refl
     go false e = e
 
@@ -105,18 +104,18 @@ value_append k [] b = refl
 value_append k (r ∷ a) b = go (same k r.0) (value_append k a b)
   where
     go : (t : Bool) → row_value k (a ++ b) ≡ or_else (row_value k a) (row_value k b) →
-        cond t (some r.1) (row_value k (a ++ b)) ≡ or_else (cond t (some r.1) (row_value k a)) (row_value k b)
+        cond t (Some r.1) (row_value k (a ++ b)) ≡ or_else (cond t (Some r.1) (row_value k a)) (row_value k b)
     go true e = refl
     go false e = e
 
 -- a key that one of the two has not
 module _ (k : List ℕ) (a b : List WrittenRow) where
-  pub value_behind : row_value k a ≡ none → row_value k (a ++ b) ≡ row_value k b
+  pub value_behind : row_value k a ≡ None → row_value k (a ++ b) ≡ row_value k b
   value_behind e = value_append k a b ∙ rw e
 
-  pub value_before : row_value k b ≡ none → row_value k (a ++ b) ≡ row_value k a
+  pub value_before : row_value k b ≡ None → row_value k (a ++ b) ≡ row_value k a
   value_before e = value_append k a b ∙ rw e (go (row_value k a))
     where
-      go : (o : Option (List ℕ)) → or_else o none ≡ o
-      go none = refl
-      go (some v) = refl
+      go : (o : Option (List ℕ)) → or_else o None ≡ o
+      go None = refl
+      go (Some v) = refl

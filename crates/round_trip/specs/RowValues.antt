@@ -1,7 +1,6 @@
 -- Each setting that is written of a well-formed record is good: its key is listed, and its value is of that key's kind.
-use Rattle.std.specs.Prelude.{ℕ, ◌≤◌, ◌≡◌, refl, true, false, not, List, ◌∷◌, length}
+use Rattle.std.specs.Prelude.{ℕ, ◌≤◌, ◌≡◌, refl, true, false, not, List, ◌∷◌, length, Some}
 use Rattle.std.proofs.Common.{arith, ap}
-use Rattle.std.proofs.Math.Option.{some}
 use Rattle.text.specs.Bytes.{is_key_byte}
 use Rattle.text.specs.Parts.{all, empty}
 use Rattle.text.specs.Words.{word}
@@ -35,10 +34,10 @@ use Rattle.round_trip.specs.Blocks.{GoodRow}
 record WritableKey (g : Group) (k : List ℕ) (x : Kind) : Type 0 where
   long : empty k ≡ false
   bytes : all (is_key_byte Iwd) k ≡ true
-  listed : kind_of g k ≡ some x
+  listed : kind_of g k ≡ Some x
 
 row_good : {g : Group} {k : List ℕ} {x : Kind} {v : List ℕ} {t : Typed} → WritableKey g k x → StandsOnLine v →
-    string_broken x v ≡ false → typed Iwd x v ≡ some t → GoodRow Iwd g (k, v)
+    string_broken x v ≡ false → typed Iwd x v ≡ Some t → GoodRow Iwd g (k, v)
 row_good {x = x} {v = v} w s b e =
     record {
       kind = x;
@@ -111,7 +110,7 @@ ipv6_gateway_row a h =
 -- ---- lists of addresses
 
 pub servers_listed : (a : List ℕ) (l : List (List ℕ)) → GoodServers (a ∷ l) →
-    addresses Spaces (listed Spaces (a ∷ l)) ≡ some (a ∷ l)
+    addresses Spaces (listed Spaces (a ∷ l)) ≡ Some (a ∷ l)
 servers_listed a l w =
     addresses_listed Spaces (a ∷ l) (inside {x = length (a ∷ l)} 1 4 (omega arith) w.high) w.addresses
 

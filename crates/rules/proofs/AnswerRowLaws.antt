@@ -1,9 +1,9 @@
 -- A file that is refused is refused with a number and a line of its dialect's rows of document 01's table.
-use Rattle.std.specs.Prelude.{ℕ, ◌+◌, ◌≡◌, Bool, cond, ◌&&◌, ◌||◌, List, [], ◌∷◌, ◌++◌, eqb, leb, length}
+use Rattle.std.specs.Prelude.{ℕ, ◌+◌, ◌≡◌, Bool, cond, ◌&&◌, ◌||◌, List, [], ◌∷◌, ◌++◌, eqb, leb, length, Option, None, Some}
 use Rattle.std.proofs.Common.{arith, ap, sym, ◌∙◌, subst, true≢false, length-append}
 use Rattle.std.proofs.Math.Path.{refl}
 use Rattle.std.proofs.Math.Bool.{true, false}
-use Rattle.std.proofs.Math.Option.{Option, none, some, none-ne-some, some-injective}
+use Rattle.std.proofs.lemmas.Option.{none-some, same_Some}
 use Rattle.text.specs.Bytes.{between}
 use Rattle.text.specs.Parts.{lines}
 use Rattle.text.specs.Laws.{and_true, inside}
@@ -22,7 +22,8 @@ use Rattle.names.specs.Names.{Network, network_of, connman_name}
 use Rattle.names.specs.declared.Suffix.{Suffix}
 use Rattle.rules.specs.Tables.{group_of, kind_of}
 use Rattle.rules.specs.Sections.{Entry, Section, given, name_given, serves, services}
-use Rattle.rules.specs.Faults.{header_fault, value_fault, key_fault, setting_fault, fault, Fault, fault_at}
+use Rattle.rules.specs.Faults.{header_fault, value_fault, key_fault, setting_fault, fault, fault_at}
+use Rattle.rules.specs.declared.Fault.{Fault}
 use Rattle.rules.specs.Groups.{lack_or_clash, lacks, clashes, service_fault, section_fault, services_fault, file_lacks, file_clashes, file_fault}
 use Rattle.rules.specs.Reading.{Name, iwd_name, connman_file, name_in, grown, sections_of, groups_fault, reading}
 use Rattle.rules.specs.Numbers.{number_of}
@@ -95,18 +96,18 @@ module _ (k l : ℕ) (here : between 1 k l ≡ true) where
   -- only ConnMan has services to count, and only iwd has extensions
   header_has_row : (d : Dialect) (n : List ℕ) (o : Option Group) (gs : List Section) → group_of d n ≡ o →
       IfSome (Own d) (header_fault n o gs)
-  header_has_row d n none gs q = either d N.UnknownGroup refl
-  header_has_row d n (some g) gs q = go d q (name_given n gs)
+  header_has_row d n None gs q = either d N.UnknownGroup refl
+  header_has_row d n (Some g) gs q = go d q (name_given n gs)
     where
-      many : (d : Dialect) → group_of d n ≡ some g → (a b : Bool) → serves g ≡ a →
-          IfSome (Own d) (cond (a && b) (some ManyServices) none)
+      many : (d : Dialect) → group_of d n ≡ Some g → (a b : Bool) → serves g ≡ a →
+          IfSome (Own d) (cond (a && b) (Some ManyServices) None)
       many d q false b p = tt
       many d q true false p = tt
       many Iwd q true true p = absurd (true≢false (sym p ∙ iwd_plain n g q))
       many ConnMan q true true p = line_has_row k (own_rows ConnMan) 13 l here refl
 
-      go : (d : Dialect) → group_of d n ≡ some g → (a : Bool) →
-          IfSome (Own d) (cond a (some RepeatedGroup) (cond (serves g && leb 8 (services gs)) (some ManyServices) none))
+      go : (d : Dialect) → group_of d n ≡ Some g → (a : Bool) →
+          IfSome (Own d) (cond a (Some RepeatedGroup) (cond (serves g && leb 8 (services gs)) (Some ManyServices) None))
       go d q true = either d RepeatedGroup refl
       go d q false = many d q (serves g) (leb 8 (services gs)) refl
 
@@ -117,10 +118,10 @@ module _ (k l : ℕ) (here : between 1 k l ≡ true) where
 
   key_has_row : (d : Dialect) (key v : List ℕ) (o : Option Kind) (es : List Entry) →
       IfSome (Own d) (key_fault d key v o es)
-  key_has_row d key v none es = either d N.UnknownKey refl
-  key_has_row d key v (some x) es = go (given key es)
+  key_has_row d key v None es = either d N.UnknownKey refl
+  key_has_row d key v (Some x) es = go (given key es)
     where
-      go : (b : Bool) → IfSome (Own d) (cond b (some RepeatedKey) (value_fault (judged d x v)))
+      go : (b : Bool) → IfSome (Own d) (cond b (Some RepeatedKey) (value_fault (judged d x v)))
       go true = either d RepeatedKey refl
       go false = value_has_row d (judged d x v)
 
@@ -172,7 +173,7 @@ module _ (file : List ℕ) where
   section_has_row g h = go (serves g.group)
     where
       go : (b : Bool) →
-          IfSome (OwnFault ConnMan) (cond b (fault_at g.line (lack_or_clash (lacks g.entries) (clashes g.entries))) none)
+          IfSome (OwnFault ConnMan) (cond b (fault_at g.line (lack_or_clash (lacks g.entries) (clashes g.entries))) None)
       go true = service_rule (length (lines file)) g.line h.line (lacks g.entries) (clashes g.entries)
       go false = tt
 
@@ -183,25 +184,25 @@ module _ (file : List ℕ) where
     where
       go : (a : Option Fault) → IfSome (OwnFault ConnMan) a → (b : Option Fault) → IfSome (OwnFault ConnMan) b →
           IfSome (OwnFault ConnMan) (or_else a b)
-      go none p b q = q
-      go (some f) p b q = p
+      go None p b q = q
+      go (Some f) p b q = p
 
-  groups_has_row : (d : Dialect) (name : List ℕ) {n : Name} → name_in d name ≡ some n →
+  groups_has_row : (d : Dialect) (name : List ℕ) {n : Name} → name_in d name ≡ Some n →
       IfSome (OwnFault d) (groups_fault n (sections_of d file))
   groups_has_row Iwd name {n} e = go (network_of name) e
     where
-      go : (o : Option Network) → mapped (λ x. iwd_name x.suffix) o ≡ some n →
+      go : (o : Option Network) → mapped (λ x. iwd_name x.suffix) o ≡ Some n →
           IfSome (OwnFault Iwd) (groups_fault n (sections_of Iwd file))
-      go none q = absurd (none-ne-some n q)
-      go (some x) q =
-          rw (← some-injective (iwd_name x.suffix) n q) (file_has_row x.suffix (sections_of Iwd file))
+      go None q = absurd (none-some n q)
+      go (Some x) q =
+          rw (← same_Some (iwd_name x.suffix) n q) (file_has_row x.suffix (sections_of Iwd file))
   groups_has_row ConnMan name {n} e = go (connman_name name) e
     where
-      go : (b : Bool) → only b (some connman_file) ≡ some n →
+      go : (b : Bool) → only b (Some connman_file) ≡ Some n →
           IfSome (OwnFault ConnMan) (groups_fault n (sections_of ConnMan file))
       go true q =
-          rw (← some-injective connman_file n q) (services_has_row (sections_of ConnMan file) (sections_stand ConnMan file))
-      go false q = absurd (none-ne-some n q)
+          rw (← same_Some connman_file n q) (services_has_row (sections_of ConnMan file) (sections_stand ConnMan file))
+      go false q = absurd (none-some n q)
 
 -- ---- the file
 

@@ -1,8 +1,7 @@
 -- "Lines count from 1": so does the line of every setting of a file, and 0 can stand for a setting that is absent.
-use Rattle.std.specs.Prelude.{ℕ, zero, suc, ◌+◌, ◌≤◌, Bool, true, false, cond, length}
+use Rattle.std.specs.Prelude.{ℕ, zero, suc, ◌+◌, ◌≤◌, Bool, true, false, cond, length, Option, None, Some}
 use Rattle.std.proofs.Common.{arith}
 use mathlib.Core.List.{List, [], ◌∷◌, ◌++◌, reverse, reverse-cons}
-use Rattle.std.proofs.Math.Option.{Option, none, some}
 use Rattle.text.specs.Parts.{lines}
 use Rattle.text.specs.Words.{same}
 use Rattle.text.specs.OptionLaws.{IfSome}
@@ -30,8 +29,8 @@ counted_last (x ∷ es) e h k = (h.0, counted_last es e h.1 k)
 
 group_counted : (n : List ℕ) (o : Option Group) (l s : ℕ) (gs : List Section) → AllCounted gs →
     AllCounted (with_group n o l s gs)
-group_counted n none l s gs h = h
-group_counted n (some g) l s gs h = (tt, h)
+group_counted n None l s gs h = h
+group_counted n (Some g) l s gs h = (tt, h)
 
 after_counted : (d : Dialect) (n s v : ℕ) (p : Line) (gs : List Section) → 1 ≤ n → AllCounted gs →
     AllCounted (with_line d n s v p gs)
@@ -71,7 +70,7 @@ entry_counted k [] h = tt
 entry_counted k (x ∷ es) h = go (same k x.key) (entry_counted k es h.1)
   where
     go : (b : Bool) → IfSome (λ e. 1 ≤ e.line) (entry_of k es) →
-        IfSome (λ e. 1 ≤ e.line) (cond b (some x) (entry_of k es))
+        IfSome (λ e. 1 ≤ e.line) (cond b (Some x) (entry_of k es))
     go true i = h.0
     go false i = i
 

@@ -2,11 +2,10 @@
 -- of the file that starts where the setting says.
 use Prim.Native.Nat.{ℕ, zero, suc, ◌+◌, ◌-◌, ◌≤◌, ◌<◌}
 use native.Mathlib.Omega.{arith}
-use Rattle.std.specs.Prelude.{◌≡◌, Bool, true, false, cond, not, ◌&&◌, eqb, take, drop}
+use Rattle.std.specs.Prelude.{◌≡◌, Bool, true, false, cond, not, ◌&&◌, eqb, take, drop, Option, None, Some}
 use Rattle.std.proofs.Math.Path.{refl, sym}
 use Rattle.std.proofs.Common.{ap, ◌∙◌, length-drop, drop-drop, length-take-le}
 use mathlib.Core.List.{List, [], ◌∷◌, reverse, reverse-cons}
-use Rattle.std.proofs.Math.Option.{Option, none, some}
 use Rattle.std.proofs.Math.ListN.{length}
 use Rattle.std.proofs.Math.Seq.{take-length}
 use Rattle.text.specs.Bytes.{between, is_blank, in_line, is_header_byte, is_key_byte}
@@ -189,8 +188,8 @@ module _ (d : Dialect) (file : List ℕ) where
 
   group_after : (n s : ℕ) (gs : List Section) (m : List ℕ) (o : Option Group) → is_line file n ≡ true →
       Each (SectionStands file) gs → Each (SectionStands file) (with_group m o n s gs)
-  group_after n s gs m none h k = k
-  group_after n s gs m (some g) h k = (record { line = h; entries = tt }, k)
+  group_after n s gs m None h k = k
+  group_after n s gs m (Some g) h k = (record { line = h; entries = tt }, k)
 
   entry_after : (e : Entry) (gs : List Section) → EntryStands file e → Each (SectionStands file) gs →
       Each (SectionStands file) (with_entry e gs)
@@ -235,7 +234,7 @@ module _ (d : Dialect) (file : List ℕ) where
   entry_stands key (x ∷ es) h = go (same key x.key) (entry_stands key es h.1)
     where
       go : (b : Bool) → IfSome (EntryStands file) (entry_of key es) →
-          IfSome (EntryStands file) (cond b (some x) (entry_of key es))
+          IfSome (EntryStands file) (cond b (Some x) (entry_of key es))
       go true k = h.0
       go false k = k
 

@@ -1,9 +1,8 @@
 -- What the reading computes of a file, its first faulty line and the first fault of its groups, is what the rules say;
 -- and what the rules say is one thing.
-use Rattle.std.specs.Prelude.{ℕ, suc, ◌+◌, ◌≡◌, refl, Bool, true, false, cond, length}
+use Rattle.std.specs.Prelude.{ℕ, suc, ◌+◌, ◌≡◌, refl, Bool, true, false, cond, length, Option, None, Some}
 use Rattle.std.proofs.Common.{arith, ap₂, sym, ◌∙◌, length-append}
 use mathlib.Core.List.{List, [], ◌∷◌, ◌++◌, map, append_assoc, append-nil, reverse, reverse-cons}
-use Rattle.std.proofs.Math.Option.{Option, none, some}
 use Rattle.text.specs.Options.{or_else}
 use Rattle.text.specs.RunLaws.{cons_nil}
 use Rattle.text.specs.Occurrences.{Count}
@@ -11,7 +10,8 @@ use Rattle.text.specs.OccurrenceLaws.{first_unique, Compared, alike, later, soon
 use Rattle.text.specs.declared.Dialect.{Dialect}
 use Rattle.lines.specs.Lines.{Line, line_of, value_start}
 use Rattle.rules.specs.Sections.{Section, serves, services, settings}
-use Rattle.rules.specs.Faults.{fault, Fault, fault_at}
+use Rattle.rules.specs.Faults.{fault, fault_at}
+use Rattle.rules.specs.declared.Fault.{Fault}
 use Rattle.rules.specs.Reading.{Name, iwd_name, connman_file, after_line, line_fault, grown}
 use Rattle.rules.specs.LineOrder.{IsSetting, ServiceHeader, Allowed, RowApplies, line_rows, FirstRow, LinesAllowed, FaultyLine}
 use Rattle.rules.specs.GroupRules.{SoundService, FaultyService}
@@ -24,13 +24,13 @@ use Rattle.rules.specs.declared.Refusal.{Refusal}
 -- ---- line by line
 
 abbrev pub LinesVerdict : Dialect → List Line → Option Fault → Type 0
-LinesVerdict d ls none = LinesAllowed d ls
-LinesVerdict d ls (some f) = FaultyLine d ls f.refusal f.line
+LinesVerdict d ls None = LinesAllowed d ls
+LinesVerdict d ls (Some f) = FaultyLine d ls f.refusal f.line
 
 -- the verdict, and where no line is faulty the groups as they stand in the lines
 abbrev Walked : Dialect → List Line → List Section → Option Fault → Type 0
-Walked d ls gs none = LinesAllowed d ls × SectionsRead d gs ls
-Walked d ls gs (some f) = FaultyLine d ls f.refusal f.line
+Walked d ls gs None = LinesAllowed d ls × SectionsRead d gs ls
+Walked d ls gs (Some f) = FaultyLine d ls f.refusal f.line
 
 allowed_more : (d : Dialect) (before : List Line) (l : Line) → LinesAllowed d before → Allowed d before l →
     LinesAllowed d (before ++ (l ∷ []))
@@ -63,11 +63,11 @@ walk d n s gs before (l ∷ ls) e h k =
     one_more = let q = length-append before (line_of d l ∷ []) in omega arith
 
     go : (o : Option Refusal) → fault d gs (line_of d l) ≡ o → LineVerdict d before (line_of d l) o →
-        (Allowed d before (line_of d l) → fault d gs (line_of d l) ≡ none →
+        (Allowed d before (line_of d l) → fault d gs (line_of d l) ≡ None →
         Walked d ((before ++ (line_of d l ∷ [])) ++ map (line_of d) ls) (groups_behind d n s gs l ls) (fault_behind d n s gs l ls)) →
         Walked d (before ++ line_of d l ∷ map (line_of d) ls) (groups_behind d n s gs l ls) (or_else (fault_at n o) (fault_behind d n s gs l ls))
-    go none q v f = rw (append_assoc before (line_of d l ∷ []) (map (line_of d) ls)) at (f v q)
-    go (some r) q v f = record {
+    go None q v f = rw (append_assoc before (line_of d l ∷ []) (map (line_of d) ls)) at (f v q)
+    go (Some r) q v f = record {
       before = before;
       at = line_of d l;
       rest = map (line_of d) ls;
@@ -90,21 +90,21 @@ module _ (d : Dialect) (ls : List (List ℕ)) where
     where
       go : (o : Option Fault) → Walked d (map (line_of d) ls) (grown d 1 0 [] ls) o →
           LinesVerdict d (map (line_of d) ls) o
-      go none w = w.0
-      go (some f) w = w
+      go None w = w.0
+      go (Some f) w = w
 
-  pub lines_stand : line_fault d 1 0 [] ls ≡ none → SectionsRead d (grown d 1 0 [] ls) (map (line_of d) ls)
+  pub lines_stand : line_fault d 1 0 [] ls ≡ None → SectionsRead d (grown d 1 0 [] ls) (map (line_of d) ls)
   lines_stand e = go (line_fault d 1 0 [] ls) walked e
     where
-      go : (o : Option Fault) → Walked d (map (line_of d) ls) (grown d 1 0 [] ls) o → o ≡ none →
+      go : (o : Option Fault) → Walked d (map (line_of d) ls) (grown d 1 0 [] ls) o → o ≡ None →
           SectionsRead d (grown d 1 0 [] ls) (map (line_of d) ls)
-      go none w e = w.1
-      go (some f) w e = let z : ◌≡◌ {A = ℕ} 0 1 = cc in absurd (omega arith)
+      go None w e = w.1
+      go (Some f) w e = let z : ◌≡◌ {A = ℕ} 0 1 = cc in absurd (omega arith)
 
 -- ---- one verdict
 
-fault_is : {f g : Fault} → (f.refusal ≡ g.refusal) × (f.line ≡ g.line) → some f ≡ some g
-fault_is h = ap₂ (λ (r : Refusal) (n : ℕ). some (record { refusal = r; line = n })) h.0 h.1
+fault_is : {f g : Fault} → (f.refusal ≡ g.refusal) × (f.line ≡ g.line) → Some f ≡ Some g
+fault_is h = ap₂ (λ (r : Refusal) (n : ℕ). Some (record { refusal = r; line = n })) h.0 h.1
 
 lines_apart : (d : Dialect) (a : List Line) (x : Line) (c : List Line) (r : Refusal) → Allowed d a x →
     FirstRow d a x r → ⊥
@@ -112,10 +112,10 @@ lines_apart d a x c r h f = allowed_faultless d a x r h f
 
 pub lines_unique : (d : Dialect) (ls : List Line) (o p : Option Fault) → LinesVerdict d ls o → LinesVerdict d ls p →
     o ≡ p
-lines_unique d ls none none v w = refl
-lines_unique d ls none (some g) v w = absurd (everywhere_none (lines_apart d) v w)
-lines_unique d ls (some f) none v w = absurd (everywhere_none (lines_apart d) w v)
-lines_unique d ls (some f) (some g) v w =
+lines_unique d ls None None v w = refl
+lines_unique d ls None (Some g) v w = absurd (everywhere_none (lines_apart d) v w)
+lines_unique d ls (Some f) None v w = absurd (everywhere_none (lines_apart d) w v)
+lines_unique d ls (Some f) (Some g) v w =
     fault_is (first_bad_unique (lines_apart d) (λ a x c r q h k. first_unique (RowApplies d a x) (line_rows x) h k) v w)
 
 services_apart : (d : Dialect) (a : List Line) (x : Line) (c : List Line) (r : Refusal) → SoundService d a x c →
@@ -124,13 +124,13 @@ services_apart d a x c r h f = faulty_sound f.1 (h f.0)
 
 pub groups_unique : (d : Dialect) (k : Name) (ls : List Line) (o p : Option Fault) → GroupsVerdict d k ls o →
     GroupsVerdict d k ls p → o ≡ p
-groups_unique d k ls none none v w = refl
-groups_unique d (iwd_name x) ls none (some g) v w = absurd (faulty_sound w.0 v)
-groups_unique d (iwd_name x) ls (some f) none v w = absurd (faulty_sound v.0 w)
-groups_unique d (iwd_name x) ls (some f) (some g) v w = fault_is (faulty_unique v.0 w.0, v.1 ∙ sym w.1)
-groups_unique d connman_file ls none (some g) v w = absurd (everywhere_none (services_apart d) v w)
-groups_unique d connman_file ls (some f) none v w = absurd (everywhere_none (services_apart d) w v)
-groups_unique d connman_file ls (some f) (some g) v w =
+groups_unique d k ls None None v w = refl
+groups_unique d (iwd_name x) ls None (Some g) v w = absurd (faulty_sound w.0 v)
+groups_unique d (iwd_name x) ls (Some f) None v w = absurd (faulty_sound v.0 w)
+groups_unique d (iwd_name x) ls (Some f) (Some g) v w = fault_is (faulty_unique v.0 w.0, v.1 ∙ sym w.1)
+groups_unique d connman_file ls None (Some g) v w = absurd (everywhere_none (services_apart d) v w)
+groups_unique d connman_file ls (Some f) None v w = absurd (everywhere_none (services_apart d) w v)
+groups_unique d connman_file ls (Some f) (Some g) v w =
     fault_is (first_bad_unique (services_apart d) (λ a x c r q h k. faulty_unique h.1 k.1) v w)
 
 -- ---- counts, in file order

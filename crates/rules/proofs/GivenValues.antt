@@ -1,8 +1,8 @@
 -- Demand 2's values, of every key of every group at once: in an accepted file a key's value is absent exactly when the
 -- key is not given, and is otherwise what the kind that is listed for the key gives.
-use Rattle.std.specs.Prelude.{ℕ, ◌≡◌, refl, Bool, true, false, cond, ◌||◌, List, [], ◌∷◌}
+use Rattle.std.specs.Prelude.{ℕ, ◌≡◌, refl, Bool, true, false, cond, ◌||◌, List, [], ◌∷◌, Option, None, Some}
 use Rattle.std.proofs.Common.{ap, sym, ◌∙◌, subst, true≢false}
-use Rattle.std.proofs.Math.Option.{Option, none, some, none-ne-some, some-injective}
+use Rattle.std.proofs.lemmas.Option.{none-some, same_Some}
 use Rattle.text.specs.Options.{is_some, mapped, only}
 use Rattle.text.specs.OptionLaws.{IfSome}
 use Rattle.text.specs.Words.{word, same}
@@ -48,13 +48,13 @@ typed_as (Kind.Text low high) = T.bytes
 
 -- a setting and the value of its key, whose kind is k, in a file of dialect d
 pub data KindGives (d : Dialect) (k : Kind) : Option Entry → Option (KindValue k) → Type 0 where
-  absent : KindGives d k none none
-  present : {e : Entry} {x : KindValue k} → ValueIs d k e.value (typed_as k x) → KindGives d k (some e) (some x)
+  absent : KindGives d k None None
+  present : {e : Entry} {x : KindValue k} → ValueIs d k e.value (typed_as k x) → KindGives d k (Some e) (Some x)
 
 -- the same where a key may be listed or not; one that is not listed has neither a setting nor a value
 abbrev pub Gives : Dialect → (o : Option Kind) → Option Entry → Option (ValueOf o) → Type 0
-Gives d none e x = (e ≡ none) × (x ≡ none)
-Gives d (some k) e x = KindGives d k e x
+Gives d None e x = (e ≡ None) × (x ≡ None)
+Gives d (Some k) e x = KindGives d k e x
 
 -- ---- the kinds, and the groups of a dialect
 
@@ -76,28 +76,28 @@ typed_valued d Kind.Ssid v = refl
 typed_valued d Kind.Passphrase v = refl
 typed_valued d (Kind.Text low high) v = refl
 
-pub group_dialect_lem : (d : Dialect) (n : List ℕ) {g : Group} → group_of d n ≡ some g → group_dialect g ≡ d
+pub group_dialect_lem : (d : Dialect) (n : List ℕ) {g : Group} → group_of d n ≡ Some g → group_dialect g ≡ d
 unfolding group_of
 group_dialect_lem Iwd n {g} e =
     go (same n (word "Settings")) (same n (word "Security")) (same n (word "IPv4")) (same n (word "IPv6")) e
   where
     go : (a b c d : Bool) →
-        cond a (some Settings) (cond b (some Security) (cond c (some Ipv4) (cond d (some Ipv6) none))) ≡ some g →
+        cond a (Some Settings) (cond b (Some Security) (cond c (Some Ipv4) (cond d (Some Ipv6) None))) ≡ Some g →
         group_dialect g ≡ Iwd
-    go true b c d q = ap group_dialect (sym (some-injective Settings g q))
-    go false true c d q = ap group_dialect (sym (some-injective Security g q))
-    go false false true d q = ap group_dialect (sym (some-injective Ipv4 g q))
-    go false false false true q = ap group_dialect (sym (some-injective Ipv6 g q))
-    go false false false false q = absurd (none-ne-some g q)
+    go true b c d q = ap group_dialect (sym (same_Some Settings g q))
+    go false true c d q = ap group_dialect (sym (same_Some Security g q))
+    go false false true d q = ap group_dialect (sym (same_Some Ipv4 g q))
+    go false false false true q = ap group_dialect (sym (same_Some Ipv6 g q))
+    go false false false false q = absurd (none-some g q)
 group_dialect_lem ConnMan n {g} e = go (same n (word "global")) (is_service n) e
   where
-    go : (a b : Bool) → cond a (some Global) (only b (some Service)) ≡ some g → group_dialect g ≡ ConnMan
-    go true b q = ap group_dialect (sym (some-injective Global g q))
-    go false true q = ap group_dialect (sym (some-injective Service g q))
-    go false false q = absurd (none-ne-some g q)
+    go : (a b : Bool) → cond a (Some Global) (only b (Some Service)) ≡ Some g → group_dialect g ≡ ConnMan
+    go true b q = ap group_dialect (sym (same_Some Global g q))
+    go false true q = ap group_dialect (sym (same_Some Service g q))
+    go false false q = absurd (none-some g q)
 
 -- the one name of a group that is no service names it
-pub group_of_name : (g : Group) → serves g ≡ false → group_of (group_dialect g) (group_name g) ≡ some g
+pub group_of_name : (g : Group) → serves g ≡ false → group_of (group_dialect g) (group_name g) ≡ Some g
 unfolding group_of
 group_of_name Settings s = refl
 group_of_name Security s = refl
@@ -110,33 +110,33 @@ group_of_name Service s = absurd (true≢false s)
 
 -- what is read from a setting has a property that its kind gives to all it reads
 pub read_holds : {A : Type 0} (P : A → Type 0) (f : List ℕ → Option A) (o : Option Entry) →
-    ((e : Entry) → o ≡ some e → (a : A) → f e.value ≡ some a → P a) → IfSome P (read_as f o)
-read_holds P f none h = tt
-read_holds {A} P f (some e) h = go (f e.value) refl
+    ((e : Entry) → o ≡ Some e → (a : A) → f e.value ≡ Some a → P a) → IfSome P (read_as f o)
+read_holds P f None h = tt
+read_holds {A} P f (Some e) h = go (f e.value) refl
   where
     go : (o : Option A) → f e.value ≡ o → IfSome P o
-    go none q = tt
-    go (some a) q = h e refl a q
+    go None q = tt
+    go (Some a) q = h e refl a q
 
 good_gives : (d : Dialect) (k : Kind) {e : Entry} → GoodValue d k e.value →
-    KindGives d k (some e) (valued d k e.value)
+    KindGives d k (Some e) (valued d k e.value)
 good_gives d k {e} g = go (valued d k e.value) (typed_valued d k e.value)
   where
-    go : (o : Option (KindValue k)) → typed d k e.value ≡ mapped (typed_as k) o → KindGives d k (some e) o
-    go none q = absurd (none-ne-some g.value (sym q ∙ g.reads))
-    go (some x) q = present (typed_value d k e.value q)
+    go : (o : Option (KindValue k)) → typed d k e.value ≡ mapped (typed_as k) o → KindGives d k (Some e) o
+    go None q = absurd (none-some g.value (sym q ∙ g.reads))
+    go (Some x) q = present (typed_value d k e.value q)
 
 -- a setting that is listed, and good for its kind, by whatever kind that is
 key_gives : (d : Dialect) (g : Group) (key : List ℕ) (s : Option Entry) →
-    ((e : Entry) → s ≡ some e → Asked d g key e) →
-    ((k : Kind) → kind_of g key ≡ some k → (e : Entry) → s ≡ some e → GoodValue d k e.value) → (o : Option Kind) →
+    ((e : Entry) → s ≡ Some e → Asked d g key e) →
+    ((k : Kind) → kind_of g key ≡ Some k → (e : Entry) → s ≡ Some e → GoodValue d k e.value) → (o : Option Kind) →
     kind_of g key ≡ o → Gives d o s (read_by d o s)
-key_gives d g key none a h none q = (refl, refl)
-key_gives d g key (some e) a h none q =
+key_gives d g key None a h None q = (refl, refl)
+key_gives d g key (Some e) a h None q =
     let x = a e refl in
-    absurd (none-ne-some x.entry.kind (sym q ∙ ap (kind_of g) (sym x.key) ∙ x.entry.listed))
-key_gives d g key none a h (some k) q = absent
-key_gives d g key (some e) a h (some k) q = good_gives d k (h k q e refl)
+    absurd (none-some x.entry.kind (sym q ∙ ap (kind_of g) (sym x.key) ∙ x.entry.listed))
+key_gives d g key None a h (Some k) q = absent
+key_gives d g key (Some e) a h (Some k) q = good_gives d k (h k q e refl)
 
 -- ---- every key of an accepted file
 
@@ -146,7 +146,7 @@ service_entry gs w k = entry_of k (service_at w gs)
 
 -- in the group with a name
 pub group_gives : (d : Dialect) (name file : List ℕ) {n m : ℕ} → reading d name file ≡ Accepted n m
-    → (group : List ℕ) {g : Group} → group_of d group ≡ some g
+    → (group : List ℕ) {g : Group} → group_of d group ≡ Some g
     → (key : List ℕ)
     → Gives d (kind_of g key) (iwd_entry (sections_of d file) group key) (value_of g (iwd_entry (sections_of d file) group) key)
 group_gives d name file a group {g} q key =
@@ -173,18 +173,18 @@ pub entry_given : (k : List ℕ) (es : List Entry) → is_some (entry_of k es) �
 entry_given k [] = refl
 entry_given k (x ∷ es) = go (same k x.key) (entry_given k es)
   where
-    go : (b : Bool) → is_some (entry_of k es) ≡ given k es → is_some (cond b (some x) (entry_of k es)) ≡ (b || given k es)
+    go : (b : Bool) → is_some (entry_of k es) ≡ given k es → is_some (cond b (Some x) (entry_of k es)) ≡ (b || given k es)
     go true h = refl
     go false h = h
 
 gives_some : (d : Dialect) (o : Option Kind) (e : Option Entry) (x : Option (ValueOf o)) → Gives d o e x →
     is_some x ≡ is_some e
-gives_some d none e x h = ap is_some h.1 ∙ sym (ap is_some h.0)
-gives_some d (some k) e x absent = refl
-gives_some d (some k) e x (present q) = refl
+gives_some d None e x h = ap is_some h.1 ∙ sym (ap is_some h.0)
+gives_some d (Some k) e x absent = refl
+gives_some d (Some k) e x (present q) = refl
 
 pub group_given : (d : Dialect) (name file : List ℕ) {n m : ℕ} → reading d name file ≡ Accepted n m
-    → (group : List ℕ) {g : Group} → group_of d group ≡ some g
+    → (group : List ℕ) {g : Group} → group_of d group ≡ Some g
     → (key : List ℕ)
     → is_some (value_of g (iwd_entry (sections_of d file) group) key) ≡ has group key (sections_of d file)
 group_given d name file a group {g} q key =

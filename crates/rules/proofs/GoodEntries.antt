@@ -1,8 +1,8 @@
 -- Every setting of an accepted file is listed for its group, and its value is good for its kind.
-use Rattle.std.specs.Prelude.{ℕ, zero, suc, ◌+◌, ◌≡◌, refl, Bool, true, false, cond, length}
+use Rattle.std.specs.Prelude.{ℕ, zero, suc, ◌+◌, ◌≡◌, refl, Bool, true, false, cond, length, Option, None, Some}
 use Rattle.std.proofs.Common.{ap, sym, ◌∙◌, subst, true≢false}
 use mathlib.Core.List.{List, [], ◌∷◌, ◌++◌, reverse, reverse-cons}
-use Rattle.std.proofs.Math.Option.{Option, none, some, none-ne-some, some-injective}
+use Rattle.std.proofs.lemmas.Option.{none-some, same_Some}
 use Rattle.text.specs.Parts.{lines}
 use Rattle.text.specs.Words.{word, same}
 use Rattle.text.specs.Laws.{same_eq}
@@ -25,15 +25,15 @@ use Rattle.rules.specs.declared.Reading.TheVariants.{Accepted}
 -- a setting in group g
 pub record GoodEntry (d : Dialect) (g : Group) (e : Entry) : Type 0 where
   pub kind : Kind
-  pub listed : kind_of g e.key ≡ some kind
-  pub good : value_fault (judged d kind e.value) ≡ none
+  pub listed : kind_of g e.key ≡ Some kind
+  pub good : value_fault (judged d kind e.value) ≡ None
 
 abbrev pub EntriesGood : Dialect → Group → List Entry → Type 0
 EntriesGood d g [] = Unit
 EntriesGood d g (e ∷ es) = GoodEntry d g e × EntriesGood d g es
 
 pub record GoodSection (d : Dialect) (s : Section) : Type 0 where
-  pub named : group_of d s.name ≡ some s.group
+  pub named : group_of d s.name ≡ Some s.group
   pub entries : EntriesGood d s.group s.entries
 
 abbrev pub AllGood : Dialect → List Section → Type 0
@@ -48,20 +48,20 @@ entries_more d g [] e h k = (k, tt)
 entries_more d g (x ∷ es) e h k = (h.0, entries_more d g es e h.1 k)
 
 good_entry : (d : Dialect) (g : Group) (e : Entry) (o : Option Kind) (es : List Entry) → kind_of g e.key ≡ o →
-    key_fault d e.key e.value o es ≡ none → GoodEntry d g e
-good_entry d g e none es q f = absurd (none-ne-some UnknownKey (sym f))
-good_entry d g e (some x) es q f = go (given e.key es) f
+    key_fault d e.key e.value o es ≡ None → GoodEntry d g e
+good_entry d g e None es q f = absurd (none-some UnknownKey (sym f))
+good_entry d g e (Some x) es q f = go (given e.key es) f
   where
-    go : (b : Bool) → cond b (some RepeatedKey) (value_fault (judged d x e.value)) ≡ none → GoodEntry d g e
-    go true f = absurd (none-ne-some RepeatedKey (sym f))
+    go : (b : Bool) → cond b (Some RepeatedKey) (value_fault (judged d x e.value)) ≡ None → GoodEntry d g e
+    go true f = absurd (none-some RepeatedKey (sym f))
     go false f = record { kind = x; listed = q; good = f }
 
 group_more : (d : Dialect) (n : List ℕ) (l s : ℕ) (gs : List Section) (o : Option Group) → group_of d n ≡ o →
     AllGood d gs → AllGood d (with_group n o l s gs)
-group_more d n l s gs none q h = h
-group_more d n l s gs (some g) q h = (record { named = q; entries = tt }, h)
+group_more d n l s gs None q h = h
+group_more d n l s gs (Some g) q h = (record { named = q; entries = tt }, h)
 
-after_good : (d : Dialect) (n s v : ℕ) (p : Line) (gs : List Section) → fault d gs p ≡ none → AllGood d gs →
+after_good : (d : Dialect) (n s v : ℕ) (p : Line) (gs : List Section) → fault d gs p ≡ None → AllGood d gs →
     AllGood d (with_line d n s v p gs)
 unfolding fault with_line
 after_good d n s v blank gs f h = h
@@ -102,19 +102,19 @@ accepted_good d name file e =
 
 -- ---- no group of an iwd file is a service
 
-pub iwd_plain : (n : List ℕ) (g : Group) → group_of Iwd n ≡ some g → serves g ≡ false
+pub iwd_plain : (n : List ℕ) (g : Group) → group_of Iwd n ≡ Some g → serves g ≡ false
 unfolding group_of
 iwd_plain n g e =
     go (same n (word "Settings")) (same n (word "Security")) (same n (word "IPv4")) (same n (word "IPv6")) e
   where
     go : (a b c d : Bool) →
-        cond a (some Settings) (cond b (some Security) (cond c (some Ipv4) (cond d (some Ipv6) none))) ≡ some g →
+        cond a (Some Settings) (cond b (Some Security) (cond c (Some Ipv4) (cond d (Some Ipv6) None))) ≡ Some g →
         serves g ≡ false
-    go true b c d q = ap serves (sym (some-injective Settings g q))
-    go false true c d q = ap serves (sym (some-injective Security g q))
-    go false false true d q = ap serves (sym (some-injective Ipv4 g q))
-    go false false false true q = ap serves (sym (some-injective Ipv6 g q))
-    go false false false false q = absurd (none-ne-some g q)
+    go true b c d q = ap serves (sym (same_Some Settings g q))
+    go false true c d q = ap serves (sym (same_Some Security g q))
+    go false false true d q = ap serves (sym (same_Some Ipv4 g q))
+    go false false false true q = ap serves (sym (same_Some Ipv6 g q))
+    go false false false false q = absurd (none-some g q)
 
 good_plain : (gs : List Section) → AllGood Iwd gs → services gs ≡ 0
 good_plain [] h = refl
@@ -132,17 +132,17 @@ pub record Asked (d : Dialect) (g : Group) (k : List ℕ) (e : Entry) : Type 0 w
   pub entry : GoodEntry d g e
 
 entry_asked : (d : Dialect) (g : Group) (k : List ℕ) (es : List Entry) {e : Entry} → EntriesGood d g es →
-    entry_of k es ≡ some e → Asked d g k e
-entry_asked d g k [] {e} h q = absurd (none-ne-some e q)
+    entry_of k es ≡ Some e → Asked d g k e
+entry_asked d g k [] {e} h q = absurd (none-some e q)
 entry_asked d g k (x ∷ es) {e} h q = go (same k x.key) refl (λ t. entry_asked d g k es h.1 t) q
   where
-    go : (b : Bool) → same k x.key ≡ b → (entry_of k es ≡ some e → Asked d g k e) →
-        cond b (some x) (entry_of k es) ≡ some e → Asked d g k e
+    go : (b : Bool) → same k x.key ≡ b → (entry_of k es ≡ Some e → Asked d g k e) →
+        cond b (Some x) (entry_of k es) ≡ Some e → Asked d g k e
     go true p f t =
-        subst (Asked d g k) (some-injective x e t) (record { key = sym (same_eq k x.key p); entry = h.0 })
+        subst (Asked d g k) (same_Some x e t) (record { key = sym (same_eq k x.key p); entry = h.0 })
     go false p f t = f t
 
-group_entries : (d : Dialect) (n : List ℕ) {g : Group} → group_of d n ≡ some g → (gs : List Section) → AllGood d gs →
+group_entries : (d : Dialect) (n : List ℕ) {g : Group} → group_of d n ≡ Some g → (gs : List Section) → AllGood d gs →
     EntriesGood d g (entries_in n gs)
 group_entries d n q [] h = tt
 group_entries d n {g} q (s ∷ gs) h = go (same n s.name) refl (group_entries d n q gs h.1)
@@ -150,7 +150,7 @@ group_entries d n {g} q (s ∷ gs) h = go (same n s.name) refl (group_entries d 
     go : (b : Bool) → same n s.name ≡ b → EntriesGood d g (entries_in n gs) →
         EntriesGood d g (cond b s.entries (entries_in n gs))
     go true p f =
-        subst (λ (a : Group). EntriesGood d a s.entries) (some-injective s.group g (sym h.0.named ∙ ap (group_of d) (sym (same_eq n s.name p)) ∙ q)) h.0.entries
+        subst (λ (a : Group). EntriesGood d a s.entries) (same_Some s.group g (sym h.0.named ∙ ap (group_of d) (sym (same_eq n s.name p)) ∙ q)) h.0.entries
     go false p f = f
 
 pub serves_service : (g : Group) → serves g ≡ true → g ≡ Service
@@ -177,13 +177,13 @@ service_entries_lem d (suc n) (s ∷ gs) h =
 
 -- in the group with a name, and in service w
 pub group_asked : (d : Dialect) (name file : List ℕ) {n m : ℕ} → reading d name file ≡ Accepted n m →
-    (group key : List ℕ) {g : Group} → group_of d group ≡ some g → {e : Entry} →
-    entry_of key (entries_in group (sections_of d file)) ≡ some e → Asked d g key e
+    (group key : List ℕ) {g : Group} → group_of d group ≡ Some g → {e : Entry} →
+    entry_of key (entries_in group (sections_of d file)) ≡ Some e → Asked d g key e
 group_asked d name file a group key {g} q t =
     entry_asked d g key (entries_in group (sections_of d file)) (group_entries d group q (sections_of d file) (accepted_good d name file a)) t
 
 pub service_asked : (d : Dialect) (name file : List ℕ) {n m : ℕ} → reading d name file ≡ Accepted n m →
-    (w : ℕ) (key : List ℕ) {e : Entry} → entry_of key (service_at w (sections_of d file)) ≡ some e →
+    (w : ℕ) (key : List ℕ) {e : Entry} → entry_of key (service_at w (sections_of d file)) ≡ Some e →
     Asked d Service key e
 service_asked d name file a w key t =
     entry_asked d Service key (service_at w (sections_of d file)) (service_entries_lem d w (sections_of d file) (accepted_good d name file a)) t

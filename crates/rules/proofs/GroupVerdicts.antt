@@ -1,15 +1,14 @@
 -- The fault of the groups that were read is the first that their lines have, of each service in file order or of an iwd
 -- file as a whole; without one they break no rule.
-use Rattle.std.specs.Prelude.{ℕ, ◌≡◌, refl, Bool, true, false, cond, not, ◌⊎◌}
+use Rattle.std.specs.Prelude.{ℕ, ◌≡◌, refl, Bool, true, false, cond, not, ◌⊎◌, Option, None, Some}
 use Prim.Native.String.{String}
 use Rattle.std.proofs.Common.{arith, ap, sym, ◌∙◌, inl, inr}
 use Rattle.std.proofs.lemmas.Bool.{false≢true}
 use mathlib.Core.List.{List, [], ◌∷◌, ◌++◌, append_assoc, append-nil, reverse, reverse-cons}
-use Rattle.std.proofs.Math.Option.{Option, none, some}
 use Rattle.text.specs.Options.{or_else}
 use Rattle.text.specs.Words.{word, same}
 use Rattle.text.specs.Laws.{same_refl}
-use Rattle.text.specs.Relations.{Each, Some}
+use Rattle.text.specs.Relations.{Each, Any}
 use Rattle.text.specs.RelationLaws.{each_at}
 use Rattle.text.specs.Occurrences.{Everywhere, FirstBad}
 use Rattle.text.specs.OccurrenceLaws.{Compared, alike, later, sooner, compare}
@@ -23,7 +22,8 @@ use Rattle.lines.specs.Lines.{Line, blank, comment, header, setting, broken}
 use Rattle.names.specs.declared.Suffix.{Suffix}
 use Rattle.names.specs.declared.Suffix.TheVariants as S
 use Rattle.rules.specs.Sections.{Section, entries_in}
-use Rattle.rules.specs.Faults.{Fault, fault_at}
+use Rattle.rules.specs.Faults.{fault_at}
+use Rattle.rules.specs.declared.Fault.{Fault}
 use Rattle.rules.specs.Groups.{lack_or_clash, service_fault, section_fault, services_fault, has, has_secret, is_open, gatewayless_by, is_no, ipv6_disabled, file_lacks, file_clashes, file_fault}
 use Rattle.rules.specs.Reading.{Name, iwd_name, connman_file, groups_fault}
 use Rattle.rules.specs.GroupKeys.{GroupIs}
@@ -79,8 +79,8 @@ group_lines_whole a h = rw (append-nil a) at (group_lines_headless a [] h refl)
 
 module _ (d : Dialect) where
   abbrev ServicesVerdict : List Line → Option Fault → Type 0
-  ServicesVerdict ls none = Everywhere (SoundService d) ls
-  ServicesVerdict ls (some f) = FirstBad (SoundService d) (FaultyService d) ls f.refusal f.line
+  ServicesVerdict ls None = Everywhere (SoundService d) ls
+  ServicesVerdict ls (Some f) = FirstBad (SoundService d) (FaultyService d) ls f.refusal f.line
 
   -- a service's header ends the group before it
   sound_before : (a : List Line) (x : Line) (t : List Line) (l : Line) (rest : List Line) →
@@ -131,11 +131,11 @@ module _ (d : Dialect) where
     where
       go : {b : Bool} → Decides (GroupIs d g.name Service) b → (o : Option Refusal) →
           Ruled (ServiceLacks since) (ServiceClashes since) o →
-          ServicesVerdict (earlier ++ header g.name ∷ since) (cond b (fault_at g.line o) none)
+          ServicesVerdict (earlier ++ header g.name ∷ since) (cond b (fault_at g.line o) None)
       go (fails n) o v = sound_more earlier g.name since a.latest h (λ s. absurd (n s))
-      go (holds s) none v =
+      go (holds s) None v =
           sound_more earlier g.name since a.latest h (λ t. rw (group_lines_whole since a.latest) v)
-      go (holds s) (some r) v = record {
+      go (holds s) (Some r) v = record {
         before = earlier;
         at = header g.name;
         rest = since;
@@ -149,15 +149,15 @@ module _ (d : Dialect) where
       services_fault (a ++ (g ∷ [])) ≡ or_else (services_fault a) (section_fault g)
   faults_append [] g = go (section_fault g)
     where
-      go : (o : Option Fault) → or_else o none ≡ o
-      go none = refl
-      go (some f) = refl
+      go : (o : Option Fault) → or_else o None ≡ o
+      go None = refl
+      go (Some f) = refl
   faults_append (x ∷ a) g = go (section_fault x) (faults_append a g)
     where
       go : (o : Option Fault) → services_fault (a ++ (g ∷ [])) ≡ or_else (services_fault a) (section_fault g) →
           or_else o (services_fault (a ++ (g ∷ []))) ≡ or_else (or_else o (services_fault a)) (section_fault g)
-      go none e = e
-      go (some f) e = refl
+      go None e = e
+      go (Some f) e = refl
 
   services_verdict : (gs : List Section) (before : List Line) → SectionsRead d gs before →
       ServicesVerdict before (services_fault (reverse gs))
@@ -168,8 +168,8 @@ module _ (d : Dialect) where
     where
       go : (o : Option Fault) → ServicesVerdict s.0 o →
           ServicesVerdict (s.0 ++ header g.name ∷ s.1) (or_else o (section_fault g))
-      go none v = section_verdict g before s.0 s.1 s.2 v
-      go (some f) v = faulty_before s.0 g.name s.1 s.2.latest v
+      go None v = section_verdict g before s.0 s.1 s.2 v
+      go (Some f) v = faulty_before s.0 g.name s.1 s.2.latest v
 
 -- ---- an iwd file as a whole
 
@@ -193,7 +193,7 @@ lines_in_headless : (n : List ℕ) (a b : List Line) → Each (λ l. ¬ IsHeader
 lines_in_headless n [] b h = refl
 lines_in_headless n (l ∷ a) b h = lines_in_cons n l (a ++ b) h.0 ∙ lines_in_headless n a b h.1
 
-lines_in_first : (n : List ℕ) (a c : List Line) → ¬ Some (NamesGroup n) a → lines_in n (a ++ header n ∷ c) ≡ group_lines c
+lines_in_first : (n : List ℕ) (a c : List Line) → ¬ Any (NamesGroup n) a → lines_in n (a ++ header n ∷ c) ≡ group_lines c
 lines_in_first n [] c h = rw (same_refl n)
 lines_in_first n (header m ∷ a) c h = go (same_decides n m) (lines_in_first n a c (λ k. h (inr k)))
   where
@@ -236,13 +236,13 @@ entries_once d n (g ∷ gs) before s hs o =
 module _ (g : String) (P : List ℕ → List ℕ → Type 0) where
   -- a group with the name g has a setting that is so
   abbrev InThat : List Line → Type 0
-  InThat ls = InGroup g (λ own. Some (SettingThat P) own) ls
+  InThat ls = InGroup g (λ own. Any (SettingThat P) own) ls
 
   in_more : (l : Line) (ls : List Line) → InThat ls → InThat (l ∷ ls)
   in_more l ls h =
       record { before = l ∷ h.before; rest = h.rest; is = ap (λ (r : List Line). l ∷ r) h.is; so = h.so }
 
-  lines_in_lem : (ls : List Line) → Some (SettingThat P) (lines_in (word g) ls) → InThat ls
+  lines_in_lem : (ls : List Line) → Any (SettingThat P) (lines_in (word g) ls) → InThat ls
   lines_in_lem [] h = absurd h
   lines_in_lem (blank ∷ ls) h = in_more blank ls (lines_in_lem ls h)
   lines_in_lem (comment ∷ ls) h = in_more comment ls (lines_in_lem ls h)
@@ -250,8 +250,8 @@ module _ (g : String) (P : List ℕ → List ℕ → Type 0) where
   lines_in_lem (broken b ∷ ls) h = in_more (broken b) ls (lines_in_lem ls h)
   lines_in_lem (header m ∷ ls) h = go (same_decides (word g) m) (lines_in_lem ls) h
     where
-      go : {b : Bool} → Decides (word g ≡ m) b → (Some (SettingThat P) (lines_in (word g) ls) → InThat ls) →
-          Some (SettingThat P) (cond b (group_lines ls) (lines_in (word g) ls)) → InThat (header m ∷ ls)
+      go : {b : Bool} → Decides (word g ≡ m) b → (Any (SettingThat P) (lines_in (word g) ls) → InThat ls) →
+          Any (SettingThat P) (cond b (group_lines ls) (lines_in (word g) ls)) → InThat (header m ∷ ls)
       go (holds e) f h = record { before = []; rest = ls; is = ap (λ (n : List ℕ). header n ∷ ls) (sym e); so = h }
       go (fails e) f h = in_more (header m) ls (f h)
 
@@ -259,22 +259,22 @@ module _ (g : String) (P : List ℕ → List ℕ → Type 0) where
 no_tells : (u : List ℕ) → Decides (Means (flag_rows Iwd) u false) (is_no (flag Iwd u))
 no_tells u = decides (is_no (flag Iwd u)) (λ e. flag_means Iwd u (no_is (flag Iwd u) e)) (λ h. ap is_no (means_flag Iwd u h))
   where
-    no_is : (o : Option Bool) → is_no o ≡ true → o ≡ some false
-    no_is none e = absurd (false≢true e)
-    no_is (some true) e = absurd (false≢true e)
-    no_is (some false) e = refl
+    no_is : (o : Option Bool) → is_no o ≡ true → o ≡ Some false
+    no_is None e = absurd (false≢true e)
+    no_is (Some true) e = absurd (false≢true e)
+    no_is (Some false) e = refl
 
 module _ (d : Dialect) (gs : List Section) (ls : List Line) (s : SectionsRead d gs ls) (allowed : LinesAllowed d ls) where
   entries_whole : (n : List ℕ) → entry_pairs (entries_in n (reverse gs)) ≡ line_pairs (lines_in n ls)
   entries_whole n = rw (append-nil (reverse gs), append-nil ls) at (entries_lines d n gs ls s [] [] refl refl)
 
   module _ (g : String) (P : List ℕ → List ℕ → Type 0) where
-    in_lines : InThat g P ls → Some (SettingThat P) (lines_in (word g) ls)
+    in_lines : InThat g P ls → Any (SettingThat P) (lines_in (word g) ls)
     in_lines h =
         let once = (allowed h.before (header (word g)) h.rest h.is).once in
         rw (h.is, lines_in_first (word g) h.before h.rest once) h.so
 
-    in_group_tells : {b : Bool} → Decides (Some (λ p. P p.0 p.1) (entry_pairs (entries_in (word g) (reverse gs)))) b →
+    in_group_tells : {b : Bool} → Decides (Any (λ p. P p.0 p.1) (entry_pairs (entries_in (word g) (reverse gs)))) b →
         Decides (InThat g P ls) b
     in_group_tells t =
         decides_alike (lines_in_lem g P ls) in_lines
@@ -320,8 +320,8 @@ module _ (d : Dialect) (gs : List Section) (ls : List Line) (s : SectionsRead d 
 -- ---- the groups of a file
 
 abbrev pub GroupsVerdict : Dialect → Name → List Line → Option Fault → Type 0
-GroupsVerdict d k ls none = GroupsSound d k ls
-GroupsVerdict d k ls (some f) = FaultyGroup d k ls f.refusal f.line
+GroupsVerdict d k ls None = GroupsSound d k ls
+GroupsVerdict d k ls (Some f) = FaultyGroup d k ls f.refusal f.line
 
 module _ (d : Dialect) (gs : List Section) (ls : List Line) (s : SectionsRead d gs ls) (a : LinesAllowed d ls) where
   file_verdict : (x : Suffix) → GroupsVerdict d (iwd_name x) ls (file_fault x (reverse gs))
@@ -332,13 +332,13 @@ module _ (d : Dialect) (gs : List Section) (ls : List Line) (s : SectionsRead d 
     where
       go : (o : Option Refusal) → Ruled (FileLacks x ls) (FileClashes x ls) o →
           GroupsVerdict d (iwd_name x) ls (fault_at 0 o)
-      go none v = v
-      go (some r) v = (v, refl)
+      go None v = v
+      go (Some r) v = (v, refl)
 
   pub groups_verdict : (k : Name) → GroupsVerdict d k ls (groups_fault k (reverse gs))
   groups_verdict (iwd_name x) = file_verdict x
   groups_verdict connman_file = go (services_fault (reverse gs)) (services_verdict d gs ls s)
     where
       go : (o : Option Fault) → ServicesVerdict d ls o → GroupsVerdict d connman_file ls o
-      go none v = v
-      go (some f) v = v
+      go None v = v
+      go (Some f) v = v

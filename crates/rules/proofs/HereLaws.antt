@@ -1,8 +1,8 @@
 -- The group in which a line stands is one group, and the lines since its header are one list.
-use Rattle.std.specs.Prelude.{ℕ, ◌≡◌, List, [], ◌∷◌, ◌++◌}
+use Rattle.std.specs.Prelude.{ℕ, ◌≡◌, List, [], ◌∷◌, ◌++◌, Some}
 use Rattle.std.proofs.Common.{ap, sym, ◌∙◌, subst, inl, inr}
-use Rattle.std.proofs.Math.Option.{some, some-injective}
-use Rattle.text.specs.Relations.{Each, Some}
+use Rattle.std.proofs.lemmas.Option.{same_Some}
+use Rattle.text.specs.Relations.{Each, Any}
 use Rattle.text.specs.RelationLaws.{each_at}
 use Rattle.text.specs.OccurrenceLaws.{Compared, alike, later, sooner, compare}
 use Rattle.text.specs.declared.Dialect.{Dialect}
@@ -21,7 +21,7 @@ that_header P (header n) h = tt
 that_header P (setting k v) h = h
 that_header P (broken b) h = h
 
-pub headless : (P : List ℕ → Type 0) (ls : List Line) → Each (λ l. ¬ IsHeader l) ls → ¬ Some (HeaderThat P) ls
+pub headless : (P : List ℕ → Type 0) (ls : List Line) → Each (λ l. ¬ IsHeader l) ls → ¬ Any (HeaderThat P) ls
 headless P [] h s = s
 headless P (l ∷ ls) h (inl s) = h.0 (that_header P l s)
 headless P (l ∷ ls) h (inr s) = headless P ls h.1 s
@@ -48,23 +48,23 @@ module _ {d : Dialect} {before : List Line} where
   here_group x y =
       let p = group_named d x.name x.group x.named in
       let q = group_named d y.name y.group y.named in
-      some-injective x.group y.group (sym p ∙ ap (group_of d) (here_alike x y).0 ∙ q)
+      same_Some x.group y.group (sym p ∙ ap (group_of d) (here_alike x y).0 ∙ q)
 
   pub here_headed : Here d before → ¬ Each (λ l. ¬ IsHeader l) before
   here_headed x h = no_header before h x.earlier x.name x.since x.is
 
-  pub since_without : (key : List ℕ) (x y : Here d before) → ¬ Some (GivesKey key) x.since →
-      ¬ Some (GivesKey key) y.since
-  since_without key x y n h = n (subst (Some (GivesKey key)) (here_since y x) h)
+  pub since_without : (key : List ℕ) (x y : Here d before) → ¬ Any (GivesKey key) x.since →
+      ¬ Any (GivesKey key) y.since
+  since_without key x y n h = n (subst (Any (GivesKey key)) (here_since y x) h)
 
   module _ {key : List ℕ} where
-    kind_in : (x : KeyHere d before key) (y : Here d before) → kind_of y.group key ≡ some x.kind
+    kind_in : (x : KeyHere d before key) (y : Here d before) → kind_of y.group key ≡ Some x.kind
     kind_in x y =
         ap (λ (g : Group). kind_of g key) (here_group y x.here)
         ∙ key_kind_lem x.here.group key x.kind x.listed
 
     pub kind_unique : (x y : KeyHere d before key) → x.kind ≡ y.kind
-    kind_unique x y = some-injective x.kind y.kind (sym (kind_in x x.here) ∙ kind_in y x.here)
+    kind_unique x y = same_Some x.kind y.kind (sym (kind_in x x.here) ∙ kind_in y x.here)
 
     pub key_known : KeyHere d before key → ¬ ((y : Here d before) × ((kind : Kind) → ¬ KeyIs y.group key kind))
     key_known x z = z.1 x.kind (kind_key z.0.group key x.kind (kind_in x z.0))

@@ -1,9 +1,9 @@
 -- The fault of a line is the first row of document 01's table that applies to it; a line without a fault is allowed.
-use Rattle.std.specs.Prelude.{ℕ, ◌≡◌, Bool, true, false, cond, List, [], ◌∷◌}
+use Rattle.std.specs.Prelude.{ℕ, ◌≡◌, Bool, true, false, cond, List, [], ◌∷◌, Option, None, Some}
 use Rattle.std.proofs.Common.{arith, sym, ◌∙◌, subst, true≢false, inl, inr}
 use Rattle.std.proofs.Math.Path.{refl}
-use Rattle.std.proofs.Math.Option.{Option, none, some, none-ne-some}
-use Rattle.text.specs.Relations.{Each, Some}
+use Rattle.std.proofs.lemmas.Option.{none-some}
+use Rattle.text.specs.Relations.{Each, Any}
 use Rattle.text.specs.Occurrences.{First}
 use Rattle.text.specs.OccurrenceLaws.{none_first}
 use Rattle.text.specs.Decides.{Decides, holds, fails, decides_and}
@@ -30,8 +30,8 @@ use Rattle.rules.specs.declared.Refusal.{Refusal}
 use Rattle.rules.specs.declared.Refusal.TheVariants as R
 
 abbrev pub LineVerdict : Dialect → List Line → Line → Option Refusal → Type 0
-LineVerdict d before l none = Allowed d before l
-LineVerdict d before l (some r) = FirstRow d before l r
+LineVerdict d before l None = Allowed d before l
+LineVerdict d before l (Some r) = FirstRow d before l r
 
 -- a row of another kind of line
 abbrev never : ¬ ⊥
@@ -48,17 +48,17 @@ break_first d before B.BadHeader = inr ((λ e. let z : ◌≡◌ {A = ℕ} 0 1 =
 
 header_verdict : (d : Dialect) (gs : List Section) (before : List Line) → SectionsRead d gs before →
     (n : List ℕ) (o : Option Group) → group_of d n ≡ o → LineVerdict d before (header n) (header_fault n o gs)
-header_verdict d gs before s n none q =
-    inr (never, inr (never, inl ((λ g h. none-ne-some g (sym q ∙ group_named d n g h)), refl)))
-header_verdict d gs before s n (some g) q =
+header_verdict d gs before s n None q =
+    inr (never, inr (never, inl ((λ g h. none-some g (sym q ∙ group_named d n g h)), refl)))
+header_verdict d gs before s n (Some g) q =
     go (named_tells d gs before s n) (decides_and (serves_tells d n g q) (eight_tells d gs before s))
   where
     known : ¬ ((h : Group) → ¬ GroupIs d n h)
     known z = z g (named_group d n g q)
 
-    go : {a b : Bool} → Decides (Some (NamesGroup n) before) a →
+    go : {a b : Bool} → Decides (Any (NamesGroup n) before) a →
         Decides (GroupIs d n Service × EightServices d before) b →
-        LineVerdict d before (header n) (cond a (some R.RepeatedGroup) (cond b (some R.ManyServices) none))
+        LineVerdict d before (header n) (cond a (Some R.RepeatedGroup) (cond b (Some R.ManyServices) None))
     go (holds h) t = inr (never, inr (never, inr (known, inl (h, refl))))
     go (fails h) (holds k) = inr (never, inr (never, inr (known, inr (h, inl (k, refl)))))
     go (fails h) (fails k) = record { group = g; listed = named_group d n g q; once = h; few = k }
@@ -77,7 +77,7 @@ module _ (d : Dialect) (g : Section) (gs : List Section) (before : List Line) (s
     named = named_group d g.name g.group s.2.grouped;
   }
 
-  module _ (kind : Kind) (q : kind_of g.group k ≡ some kind) where
+  module _ (kind : Kind) (q : kind_of g.group k ≡ Some kind) where
     abbrev place : KeyHere d before k
     place = record { here = here; kind = kind; listed = kind_key g.group k kind q }
 
@@ -87,8 +87,8 @@ module _ (d : Dialect) (g : Section) (gs : List Section) (before : List Line) (s
         FirstRow d before (setting k v) r
     behind r h = inr (never, inr (here_headed here, inr (key_known place, h)))
 
-    module _ (n : ¬ Some (GivesKey k) s.1) where
-      new : ¬ ((y : Here d before) × Some (GivesKey k) y.since)
+    module _ (n : ¬ Any (GivesKey k) s.1) where
+      new : ¬ ((y : Here d before) × Any (GivesKey k) y.since)
       new z = since_without k here z.0 n z.1
 
       whole : WholeText kind v → ¬ ((x : KeyHere d before k) × (¬ WholeText x.kind v))
@@ -101,26 +101,26 @@ module _ (d : Dialect) (g : Section) (gs : List Section) (before : List Line) (s
           behind R.ValueText (inr (new, inl ((place, λ w. true≢false (sym (whole_text kind v w) ∙ p)), refl)))
       value_verdict true p true t o e =
           behind R.ValueText (inr (new, inl ((place, λ w. true≢false (sym t ∙ whole_unbroken kind v w)), refl)))
-      value_verdict true p false t none e =
+      value_verdict true p false t None e =
           behind R.ValueKind
           (inr (new, inr (whole (judged_whole kind v p t), inl ((place, unread), refl))))
         where
           unread : (y : Typed) → ¬ ValueIs d kind v y
-          unread y w = none-ne-some y (sym e ∙ value_typed d kind v w)
-      value_verdict true p false t (some y) e =
+          unread y w = none-some y (sym e ∙ value_typed d kind v w)
+      value_verdict true p false t (Some y) e =
           record { place = place; once = n; text = judged_whole kind v p t; typed = y; good = typed_value d kind v e }
 
-    listed_verdict : {b : Bool} → Decides (Some (GivesKey k) s.1) b →
-        LineVerdict d before (setting k v) (cond b (some R.RepeatedKey) (value_fault (judged d kind v)))
+    listed_verdict : {b : Bool} → Decides (Any (GivesKey k) s.1) b →
+        LineVerdict d before (setting k v) (cond b (Some R.RepeatedKey) (value_fault (judged d kind v)))
     unfolding judged kind_judged
     listed_verdict (holds h) = behind R.RepeatedKey (inl ((here, h), refl))
     listed_verdict (fails n) = value_verdict n (value_text v) refl (string_broken kind v) refl (typed d kind v) refl
 
   key_verdict : (o : Option Kind) → kind_of g.group k ≡ o →
       LineVerdict d before (setting k v) (key_fault d k v o g.entries)
-  key_verdict none q =
-      inr (never, inr (here_headed here, inl ((here, λ x h. none-ne-some x (sym q ∙ key_kind_lem g.group k x h)), refl)))
-  key_verdict (some kind) q =
+  key_verdict None q =
+      inr (never, inr (here_headed here, inl ((here, λ x h. none-some x (sym q ∙ key_kind_lem g.group k x h)), refl)))
+  key_verdict (Some kind) q =
       listed_verdict kind q (pairs_tell (λ j u. k ≡ j) g.entries s.1 s.2.entries (given_tells k g.entries))
 
 setting_verdict : (d : Dialect) (gs : List Section) (before : List Line) → SectionsRead d gs before →
@@ -149,7 +149,7 @@ setting_no_row : (d : Dialect) (before : List Line) (k v : List ℕ) → Allowed
 setting_no_row d before k v a =
     (never, (here_headed a.place.here, (key_known a.place, (once, (text, (value, tt))))))
   where
-    once : ¬ ((y : Here d before) × Some (GivesKey k) y.since)
+    once : ¬ ((y : Here d before) × Any (GivesKey k) y.since)
     once z = since_without k a.place.here z.0 a.once z.1
 
     text : ¬ ((x : KeyHere d before k) × (¬ WholeText x.kind v))

@@ -1,9 +1,8 @@
 -- The steps of `Exactly`: the reading's answer is one by the rules, and an answer by the rules is the reading's.
-use Rattle.std.specs.Prelude.{ℕ, ◌≤◌, ◌≡◌, Bool, true, false, cond, leb}
+use Rattle.std.specs.Prelude.{ℕ, ◌≤◌, ◌≡◌, Bool, true, false, cond, leb, Option, None, Some}
 use Rattle.std.proofs.Common.{arith, ap₂, ◌∙◌, subst, le-leb, leb-true, leb-false}
 use Rattle.std.proofs.Math.Path.{refl}
 use mathlib.Core.List.{List, [], map, reverse}
-use Rattle.std.proofs.Math.Option.{Option, none, some}
 use Rattle.std.proofs.lemmas.Bool.{lt-leb}
 use Rattle.std.proofs.Math.ListN.{length}
 use Rattle.text.specs.Parts.{lines}
@@ -15,7 +14,7 @@ use Rattle.lines.specs.Lines.{Line, blank, comment, header, setting, broken, lin
 use Rattle.lines.specs.LineRuleLaws.{file_lines, lines_file}
 use Rattle.lines.specs.declared.Break.TheVariants as B
 use Rattle.rules.specs.Sections.{services, settings}
-use Rattle.rules.specs.Faults.{Fault}
+use Rattle.rules.specs.declared.Fault.{Fault}
 use Rattle.rules.specs.Reading.{Name, iwd_name, connman_file, name_in, line_fault, grown, sections_of, groups_fault, verdict, reading_of, reading}
 use Rattle.rules.specs.Numbers.{number_of}
 use Rattle.rules.specs.LineOrder.{IsSetting, ServiceHeader, RowApplies, line_rows, LinesAllowed, FaultyLine}
@@ -38,7 +37,7 @@ abbrev first_fault : Dialect → List ℕ → Option Fault
 first_fault d file = line_fault d 1 0 [] (lines file)
 
 module _ (d : Dialect) (name file : List ℕ) where
-  groups_judged : (k : Name) → first_fault d file ≡ none →
+  groups_judged : (k : Name) → first_fault d file ≡ None →
       GroupsVerdict d k (text_lines d file) (groups_fault k (sections_of d file))
   unfolding sections_of
   groups_judged k e =
@@ -46,10 +45,10 @@ module _ (d : Dialect) (name file : List ℕ) where
       (subst (LinesVerdict d (text_lines d file)) e (lines_verdict d (lines file))) k
 
   module _ {k : Name} (a : Admitted d name file k (text_lines d file)) where
-    group_answer_lem : first_fault d file ≡ none → LinesAllowed d (text_lines d file) → (o : Option Fault) →
+    group_answer_lem : first_fault d file ≡ None → LinesAllowed d (text_lines d file) → (o : Option Fault) →
         GroupsVerdict d k (text_lines d file) o → Answers d name file (verdict o (sections_of d file))
     unfolding sections_of
-    group_answer_lem e h none v = record {
+    group_answer_lem e h None v = record {
       kind = k;
       ls = text_lines d file;
       admitted = a;
@@ -58,21 +57,21 @@ module _ (d : Dialect) (name file : List ℕ) where
       settings = settings_counted d (grown d 1 0 [] (lines file)) (text_lines d file) (lines_stand d (lines file) e);
       services = services_counted d (grown d 1 0 [] (lines file)) (text_lines d file) (lines_stand d (lines file) e);
     }
-    group_answer_lem e h (some f) v =
+    group_answer_lem e h (Some f) v =
         at_group (record { kind = k; ls = text_lines d file; admitted = a; allowed = h; faulty = v })
 
     line_answer : (o : Option Fault) → first_fault d file ≡ o → LinesVerdict d (text_lines d file) o →
         Answers d name file (verdict (or_else o (groups_fault k (sections_of d file))) (sections_of d file))
-    line_answer none e v = group_answer_lem e v (groups_fault k (sections_of d file)) (groups_judged k e)
-    line_answer (some f) e v = at_line (record { kind = k; ls = text_lines d file; admitted = a; faulty = v })
+    line_answer None e v = group_answer_lem e v (groups_fault k (sections_of d file)) (groups_judged k e)
+    line_answer (Some f) e v = at_line (record { kind = k; ls = text_lines d file; admitted = a; faulty = v })
 
   pub reading_answers : Answers d name file (reading d name file)
   unfolding reading
   reading_answers = go (leb (length file) 16384) refl
     where
       named : length file ≤ 16384 → (o : Option Name) → name_in d name ≡ o → Answers d name file (reading_of d o file)
-      named h none e = misnamed h (none_named d name e)
-      named h (some k) e =
+      named h None e = misnamed h (none_named d name e)
+      named h (Some k) e =
           line_answer (record { size = h; named = is_named d name k e; lines = file_lines d file })
           (first_fault d file) refl (lines_verdict d (lines file))
 
@@ -95,7 +94,7 @@ module _ (d : Dialect) (name file : List ℕ) where
         groups_fault k (sections_of d file) ≡ o
     group_decides h o v =
         groups_unique d k (text_lines d file) (groups_fault k (sections_of d file)) o
-        (groups_judged k (line_decides none h)) (rw lines_are v)
+        (groups_judged k (line_decides None h)) (rw lines_are v)
 
     admitted_reading : reading d name file ≡ verdict (or_else (first_fault d file) (groups_fault k (sections_of d file))) (sections_of d file)
     unfolding reading
@@ -104,7 +103,7 @@ module _ (d : Dialect) (name file : List ℕ) where
   accepted_reading : (n m : ℕ) → AcceptedFile d name file n m → reading d name file ≡ Accepted n m
   unfolding sections_of
   accepted_reading n m h =
-      let e = line_decides h.admitted none h.allowed in
+      let e = line_decides h.admitted None h.allowed in
       let q = lines_are h.admitted in
       let s = lines_stand d (lines file) e in
       let gs = grown d 1 0 [] (lines file) in
@@ -112,19 +111,19 @@ module _ (d : Dialect) (name file : List ℕ) where
       let j = services_counted d gs (text_lines d file) s in
       let c : settings (reverse gs) ≡ n = count_unique IsSetting (rw q at i) h.settings in
       let b : services (reverse gs) ≡ m = count_unique (ServiceHeader d) (rw q at j) h.services in
-      admitted_reading h.admitted ∙ rw (e, group_decides h.admitted h.allowed none h.sound) (ap₂ Accepted c b)
+      admitted_reading h.admitted ∙ rw (e, group_decides h.admitted h.allowed None h.sound) (ap₂ Accepted c b)
 
   refused_reading : {r : Refusal} {n : ℕ} → RefusedFile d name file r n → reading d name file ≡ Refused r n
   unfolding reading
   refused_reading (too_long h) = rw (lt-leb (length file) 16384 h)
   refused_reading (misnamed h k) = rw (le-leb (length file) 16384 h, unnamed d name k)
   refused_reading {r} {n} (at_line w) =
-      admitted_reading w.admitted ∙ rw (line_decides w.admitted (some (record { refusal = r; line = n })) w.faulty)
+      admitted_reading w.admitted ∙ rw (line_decides w.admitted (Some (record { refusal = r; line = n })) w.faulty)
   refused_reading {r} {n} (at_group w) =
       admitted_reading w.admitted
       ∙ rw (
-        line_decides w.admitted none w.allowed,
-        group_decides w.admitted w.allowed (some (record { refusal = r; line = n })) w.faulty,
+        line_decides w.admitted None w.allowed,
+        group_decides w.admitted w.allowed (Some (record { refusal = r; line = n })) w.faulty,
       )
 
   pub answers_reading : (r : Reading) → Answers d name file r → reading d name file ≡ r

@@ -1,7 +1,6 @@
 -- "the file's own refusals": the reading of a file gives the numbers 1 to 15 and no other.
-use Rattle.std.specs.Prelude.{ℕ, suc, ◌+◌, ◌≤◌, ◌≡◌, Bool, true, false, cond, ◌&&◌, List, [], ◌∷◌, leb, length}
+use Rattle.std.specs.Prelude.{ℕ, suc, ◌+◌, ◌≤◌, ◌≡◌, Bool, true, false, cond, ◌&&◌, List, [], ◌∷◌, leb, length, Option, None, Some}
 use Rattle.std.proofs.Common.{arith, subst}
-use Rattle.std.proofs.Math.Option.{Option, none, some}
 use Rattle.text.specs.Parts.{lines}
 use Rattle.text.specs.Options.{or_else}
 use Rattle.text.specs.OptionLaws.{IfSome}
@@ -12,7 +11,8 @@ use Rattle.kinds.specs.Typed.{Judged, good, broken_text, broken_kind, judged}
 use Rattle.kinds.specs.declared.Kind.{Kind}
 use Rattle.rules.specs.Tables.{group_of, kind_of}
 use Rattle.rules.specs.Sections.{Entry, Section, given, name_given, serves, services}
-use Rattle.rules.specs.Faults.{header_fault, value_fault, key_fault, setting_fault, fault, Fault, fault_at}
+use Rattle.rules.specs.Faults.{header_fault, value_fault, key_fault, setting_fault, fault, fault_at}
+use Rattle.rules.specs.declared.Fault.{Fault}
 use Rattle.rules.specs.Groups.{lack_or_clash, lacks, clashes, service_fault, section_fault, services_fault, file_lacks, file_clashes, file_fault}
 use Rattle.rules.specs.Reading.{Name, iwd_name, connman_file, name_in, after_line, line_fault, sections_of, groups_fault, verdict, reading_of, reading}
 use Rattle.rules.specs.Numbers.{number_of}
@@ -31,10 +31,10 @@ OwnFault o = IfSome (λ f. number_of f.refusal ≤ 15) o
 -- ---- lines
 
 header_own : (n : List ℕ) (o : Option Group) (gs : List Section) → Own (header_fault n o gs)
-header_own n none gs = omega arith
-header_own n (some g) gs = go (name_given n gs) (serves g && leb 8 (services gs))
+header_own n None gs = omega arith
+header_own n (Some g) gs = go (name_given n gs) (serves g && leb 8 (services gs))
   where
-    go : (a b : Bool) → Own (cond a (some RepeatedGroup) (cond b (some ManyServices) none))
+    go : (a b : Bool) → Own (cond a (Some RepeatedGroup) (cond b (Some ManyServices) None))
     go true b = omega arith
     go false true = omega arith
     go false false = tt
@@ -45,10 +45,10 @@ value_own broken_text = omega arith
 value_own broken_kind = omega arith
 
 key_own : (d : Dialect) (k v : List ℕ) (o : Option Kind) (es : List Entry) → Own (key_fault d k v o es)
-key_own d k v none es = omega arith
-key_own d k v (some x) es = go (given k es)
+key_own d k v None es = omega arith
+key_own d k v (Some x) es = go (given k es)
   where
-    go : (b : Bool) → Own (cond b (some RepeatedKey) (value_fault (judged d x v)))
+    go : (b : Bool) → Own (cond b (Some RepeatedKey) (value_fault (judged d x v)))
     go true = omega arith
     go false = value_own (judged d x v)
 
@@ -69,12 +69,12 @@ line_own d gs (setting k v) = setting_own d k v gs
 -- ---- the file
 
 at_own : (l : ℕ) (o : Option Refusal) → Own o → OwnFault (fault_at l o)
-at_own l none h = tt
-at_own l (some r) h = h
+at_own l None h = tt
+at_own l (Some r) h = h
 
 or_own : (a b : Option Fault) → OwnFault a → OwnFault b → OwnFault (or_else a b)
-or_own none b h g = g
-or_own (some f) b h g = h
+or_own None b h g = g
+or_own (Some f) b h g = h
 
 lines_own : (d : Dialect) (n s : ℕ) (gs : List Section) (ls : List (List ℕ)) → OwnFault (line_fault d n s gs ls)
 unfolding line_fault
@@ -86,7 +86,7 @@ rule_own true b = omega arith
 rule_own false true = omega arith
 rule_own false false = tt
 
-section_own : (b : Bool) (l : ℕ) (es : List Entry) → OwnFault (cond b (fault_at l (service_fault es)) none)
+section_own : (b : Bool) (l : ℕ) (es : List Entry) → OwnFault (cond b (fault_at l (service_fault es)) None)
 unfolding service_fault
 section_own true l es = at_own l (lack_or_clash (lacks es) (clashes es)) (rule_own (lacks es) (clashes es))
 section_own false l es = tt
@@ -105,12 +105,12 @@ OwnReading (R.Accepted n m) = Unit
 OwnReading (R.Refused r l) = number_of r ≤ 15
 
 verdict_own : (o : Option Fault) (gs : List Section) → OwnFault o → OwnReading (verdict o gs)
-verdict_own none gs h = tt
-verdict_own (some f) gs h = h
+verdict_own None gs h = tt
+verdict_own (Some f) gs h = h
 
 named_own : (d : Dialect) (o : Option Name) (file : List ℕ) → OwnReading (reading_of d o file)
-named_own d none file = omega arith
-named_own d (some n) file = verdict_own (or_else (line_fault d 1 0 [] (lines file)) (groups_fault n (sections_of d file))) (sections_of d file) (or_own (line_fault d 1 0 [] (lines file)) (groups_fault n (sections_of d file)) (lines_own d 1 0 [] (lines file)) (groups_own n (sections_of d file)))
+named_own d None file = omega arith
+named_own d (Some n) file = verdict_own (or_else (line_fault d 1 0 [] (lines file)) (groups_fault n (sections_of d file))) (sections_of d file) (or_own (line_fault d 1 0 [] (lines file)) (groups_fault n (sections_of d file)) (lines_own d 1 0 [] (lines file)) (groups_own n (sections_of d file)))
 
 reading_own : (d : Dialect) (name file : List ℕ) → OwnReading (reading d name file)
 unfolding reading

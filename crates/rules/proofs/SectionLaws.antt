@@ -1,9 +1,9 @@
 -- The groups that the reading keeps stand in the lines that it has read, one after the other: what it asks of the groups
 -- is asked of the lines.
-use Rattle.std.specs.Prelude.{ℕ, suc, ◌+◌, ◌≡◌, refl, Bool, true, false, cond, List, [], ◌∷◌, ◌++◌, ◌⊎◌, leb, length}
+use Rattle.std.specs.Prelude.{ℕ, suc, ◌+◌, ◌≡◌, refl, Bool, true, false, cond, List, [], ◌∷◌, ◌++◌, ◌⊎◌, leb, length, Option, None, Some}
 use Rattle.std.proofs.Common.{arith, ap, ap₂, sym, ◌∙◌, subst, true≢false, append_assoc, append-nil, inl, inr, leb-true, le-leb}
-use Rattle.std.proofs.Math.Option.{Option, none, some, none-ne-some}
-use Rattle.text.specs.Relations.{Each, Some}
+use Rattle.std.proofs.lemmas.Option.{none-some}
+use Rattle.text.specs.Relations.{Each, Any}
 use Rattle.text.specs.RelationLaws.{each_append, each_weaken, some_left, some_right, some_either}
 use Rattle.text.specs.Occurrences.{Count, count_end, count_one, count_other}
 use Rattle.text.specs.OccurrenceLaws.{count_unique, count_none, count_append}
@@ -41,7 +41,7 @@ line_pairs (setting k v ∷ ls) = (k, v) ∷ line_pairs ls
 line_pairs (broken b ∷ ls) = line_pairs ls
 
 abbrev pub KeyIn : List ℕ → List KeyValue → Type 0
-KeyIn k ps = Some (λ p. k ≡ p.0) ps
+KeyIn k ps = Any (λ p. k ≡ p.0) ps
 
 -- no key is given twice
 abbrev pub Once : List KeyValue → Type 0
@@ -50,7 +50,7 @@ Once (p ∷ ps) = (¬ KeyIn p.0 ps) × Once ps
 
 -- a setting among the lines is one among their pairs
 module _ (P : List ℕ → List ℕ → Type 0) where
-  pub pairs_some : (ls : List Line) → Some (λ p. P p.0 p.1) (line_pairs ls) → Some (SettingThat P) ls
+  pub pairs_some : (ls : List Line) → Any (λ p. P p.0 p.1) (line_pairs ls) → Any (SettingThat P) ls
   pairs_some [] h = h
   pairs_some (blank ∷ ls) h = inr (pairs_some ls h)
   pairs_some (comment ∷ ls) h = inr (pairs_some ls h)
@@ -59,7 +59,7 @@ module _ (P : List ℕ → List ℕ → Type 0) where
   pairs_some (setting k v ∷ ls) (inl h) = inl h
   pairs_some (setting k v ∷ ls) (inr h) = inr (pairs_some ls h)
 
-  setting_pairs : (l : Line) (ls : List Line) → SettingThat P l → Some (λ p. P p.0 p.1) (line_pairs (l ∷ ls))
+  setting_pairs : (l : Line) (ls : List Line) → SettingThat P l → Any (λ p. P p.0 p.1) (line_pairs (l ∷ ls))
   setting_pairs blank ls h = absurd h
   setting_pairs comment ls h = absurd h
   setting_pairs (header n) ls h = absurd h
@@ -67,20 +67,20 @@ module _ (P : List ℕ → List ℕ → Type 0) where
   setting_pairs (setting k v) ls h = inl h
 
   more_pairs : (l : Line) (ls : List Line) →
-      Some (λ p. P p.0 p.1) (line_pairs ls) → Some (λ p. P p.0 p.1) (line_pairs (l ∷ ls))
+      Any (λ p. P p.0 p.1) (line_pairs ls) → Any (λ p. P p.0 p.1) (line_pairs (l ∷ ls))
   more_pairs blank ls h = h
   more_pairs comment ls h = h
   more_pairs (header n) ls h = h
   more_pairs (broken b) ls h = h
   more_pairs (setting k v) ls h = inr h
 
-  pub some_pairs : (ls : List Line) → Some (SettingThat P) ls → Some (λ p. P p.0 p.1) (line_pairs ls)
+  pub some_pairs : (ls : List Line) → Any (SettingThat P) ls → Any (λ p. P p.0 p.1) (line_pairs ls)
   some_pairs [] h = h
   some_pairs (l ∷ ls) (inl h) = setting_pairs l ls h
   some_pairs (l ∷ ls) (inr h) = more_pairs l ls (some_pairs ls h)
 
   pub pairs_tell : (es : List Entry) (ls : List Line) → entry_pairs es ≡ line_pairs ls → {b : Bool} →
-      Decides (Some (λ p. P p.0 p.1) (entry_pairs es)) b → Decides (Some (SettingThat P) ls) b
+      Decides (Any (λ p. P p.0 p.1) (entry_pairs es)) b → Decides (Any (SettingThat P) ls) b
   pairs_tell es ls q t = decides_alike (pairs_some ls) (some_pairs ls) (rw q at t)
 
 pub given_tells : (k : List ℕ) (es : List Entry) → Decides (KeyIn k (entry_pairs es)) (given k es)
@@ -116,7 +116,7 @@ once_append k v (p ∷ ps) o n =
 pub record SectionRead (d : Dialect) (g : Section) (before earlier since : List Line) : Type 0 where
   pub is : before ≡ earlier ++ header g.name ∷ since
   pub latest : Each (λ l. ¬ IsHeader l) since
-  pub grouped : group_of d g.name ≡ some g.group
+  pub grouped : group_of d g.name ≡ Some g.group
   pub entries : entry_pairs g.entries ≡ line_pairs since
   pub once : Once (line_pairs since)
   pub line : g.line ≡ suc (length earlier)
@@ -128,22 +128,22 @@ SectionsRead d (g ∷ gs) before =
     (earlier : List Line) × (since : List Line) × SectionRead d g before earlier since × SectionsRead d gs earlier
 
 pub named_tells : (d : Dialect) (gs : List Section) (before : List Line) → SectionsRead d gs before →
-    (n : List ℕ) → Decides (Some (NamesGroup n) before) (name_given n gs)
+    (n : List ℕ) → Decides (Any (NamesGroup n) before) (name_given n gs)
 named_tells d [] before s n = fails (headless (λ m. n ≡ m) before s.0)
 named_tells d (g ∷ gs) before s n =
     rw s.2.is (decides_alike to from (decides_or (same_decides n g.name) (named_tells d gs s.0 s.3 n)))
   where
-    to : (n ≡ g.name) ⊎ Some (NamesGroup n) s.0 → Some (NamesGroup n) (s.0 ++ header g.name ∷ s.1)
+    to : (n ≡ g.name) ⊎ Any (NamesGroup n) s.0 → Any (NamesGroup n) (s.0 ++ header g.name ∷ s.1)
     to (inl e) = some_right (NamesGroup n) s.0 (header g.name ∷ s.1) (inl e)
     to (inr h) = some_left (NamesGroup n) s.0 (header g.name ∷ s.1) h
 
-    sort : Some (NamesGroup n) s.0 ⊎ ((n ≡ g.name) ⊎ Some (NamesGroup n) s.1) →
-        (n ≡ g.name) ⊎ Some (NamesGroup n) s.0
+    sort : Any (NamesGroup n) s.0 ⊎ ((n ≡ g.name) ⊎ Any (NamesGroup n) s.1) →
+        (n ≡ g.name) ⊎ Any (NamesGroup n) s.0
     sort (inl h) = inr h
     sort (inr (inl e)) = inl e
     sort (inr (inr h)) = absurd (headless (λ m. n ≡ m) s.1 s.2.latest h)
 
-    from : Some (NamesGroup n) (s.0 ++ header g.name ∷ s.1) → (n ≡ g.name) ⊎ Some (NamesGroup n) s.0
+    from : Any (NamesGroup n) (s.0 ++ header g.name ∷ s.1) → (n ≡ g.name) ⊎ Any (NamesGroup n) s.0
     from h = sort (some_either (NamesGroup n) s.0 (header g.name ∷ s.1) h)
 
 -- ---- counts
@@ -204,13 +204,13 @@ settings_count d (g ∷ gs) before s =
 
 -- ---- one line more
 
-unrepeated : (d : Dialect) (k v : List ℕ) (o : Option Kind) (es : List Entry) → key_fault d k v o es ≡ none →
+unrepeated : (d : Dialect) (k v : List ℕ) (o : Option Kind) (es : List Entry) → key_fault d k v o es ≡ None →
     given k es ≡ false
-unrepeated d k v none es f = absurd (none-ne-some R.UnknownKey (sym f))
-unrepeated d k v (some x) es f = go (given k es) f
+unrepeated d k v None es f = absurd (none-some R.UnknownKey (sym f))
+unrepeated d k v (Some x) es f = go (given k es) f
   where
-    go : (b : Bool) → cond b (some R.RepeatedKey) (value_fault (judged d x v)) ≡ none → b ≡ false
-    go true f = absurd (none-ne-some R.RepeatedKey (sym f))
+    go : (b : Bool) → cond b (Some R.RepeatedKey) (value_fault (judged d x v)) ≡ None → b ≡ false
+    go true f = absurd (none-some R.RepeatedKey (sym f))
     go false f = refl
 
 not_given : (k : List ℕ) (es : List Entry) → given k es ≡ false → ¬ KeyIn k (entry_pairs es)
@@ -231,7 +231,7 @@ module _ (d : Dialect) (before earlier since : List Line) (l : Line) (p : ¬ IsH
         ∙ append_assoc earlier (header g.name ∷ since) (l ∷ [])
         ∙ ap (λ (m : List ℕ). earlier ++ header m ∷ (since ++ (l ∷ []))) (sym n);
     latest = each_append (λ b. ¬ IsHeader b) since (l ∷ []) a.latest (p, tt);
-    grouped = ap (group_of d) n ∙ a.grouped ∙ ap some (sym o);
+    grouped = ap (group_of d) n ∙ a.grouped ∙ ap Some (sym o);
     entries = e ∙ ap (λ (r : List KeyValue). r ++ line_pairs (l ∷ [])) a.entries ∙ sym (line_pairs_append since (l ∷ []));
     once = rw (line_pairs_append since (l ∷ [])) u;
     line = i ∙ a.line;
@@ -252,21 +252,21 @@ plain_more d (g ∷ gs) before l p q s = (
 )
 
 group_more : (d : Dialect) (gs : List Section) (before : List Line) (n : List ℕ) (l s : ℕ) (o : Option Group) →
-    group_of d n ≡ o → l ≡ suc (length before) → header_fault n o gs ≡ none →
+    group_of d n ≡ o → l ≡ suc (length before) → header_fault n o gs ≡ None →
     SectionsRead d gs before → SectionsRead d (with_group n o l s gs) (before ++ (header n ∷ []))
-group_more d gs before n l s none q i f h = absurd (none-ne-some R.UnknownGroup (sym f))
-group_more d gs before n l s (some g) q i f h =
+group_more d gs before n l s None q i f h = absurd (none-some R.UnknownGroup (sym f))
+group_more d gs before n l s (Some g) q i f h =
     (before, [], record { is = refl; latest = tt; grouped = q; entries = refl; once = tt; line = i }, h)
 
 pub sections_more : (d : Dialect) (gs : List Section) (before : List Line) (n s at : ℕ) (l : Line) →
-    n ≡ suc (length before) → fault d gs l ≡ none →
+    n ≡ suc (length before) → fault d gs l ≡ None →
     SectionsRead d gs before → SectionsRead d (with_line d n s at l gs) (before ++ (l ∷ []))
 unfolding fault with_line
 sections_more d gs before n s at blank i f h = plain_more d gs before blank (λ z. z) refl h
 sections_more d gs before n s at comment i f h = plain_more d gs before comment (λ z. z) refl h
-sections_more d gs before n s at (broken b) i f h = absurd (none-ne-some (break_of b) (sym f))
+sections_more d gs before n s at (broken b) i f h = absurd (none-some (break_of b) (sym f))
 sections_more d gs before n s at (header m) i f h = group_more d gs before m n s (group_of d m) refl i f h
-sections_more d [] before n s at (setting k v) i f h = absurd (none-ne-some R.NoGroup (sym f))
+sections_more d [] before n s at (setting k v) i f h = absurd (none-some R.NoGroup (sym f))
 sections_more d (g ∷ gs) before n s at (setting k v) i f h =
     let e : Entry = record { key = k; value = v; line = n; start = s + at } in
     let new = not_given k g.entries (unrepeated d k v (kind_of g.group k) g.entries f) in (

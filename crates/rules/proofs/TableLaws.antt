@@ -1,9 +1,9 @@
 -- `group_of` and `kind_of` find what the lists of groups and keys say: a name's group, and a key's kind in its group.
-use Rattle.std.specs.Prelude.{ℕ, ◌≡◌, refl, Bool, true, false, cond, not, ◌&&◌, ◌||◌, List, [], ◌∷◌, ◌++◌, take, drop}
+use Rattle.std.specs.Prelude.{ℕ, ◌≡◌, refl, Bool, true, false, cond, not, ◌&&◌, ◌||◌, List, [], ◌∷◌, ◌++◌, take, drop, Some}
 use Rattle.std.proofs.Common.{ap, sym, ◌∙◌, subst, inl, inr, take-append-drop}
 use Rattle.std.proofs.Math.Bool.{or-true}
 use Rattle.std.proofs.lemmas.Bool.{false≢true}
-use Rattle.std.proofs.Math.Option.{some, some-injective, none-ne-some}
+use Rattle.std.proofs.lemmas.Option.{same_Some, none-some}
 use Rattle.text.specs.Bytes.{is_identifier}
 use Rattle.text.specs.Parts.{all}
 use Rattle.text.specs.Words.{word, same, named}
@@ -32,13 +32,13 @@ distinct [] = true
 distinct (x ∷ t) = not (in_words x.0 t) && distinct t
 
 module _ {A : Type 0} where
-  named_row : (w : List ℕ) (t : List (List ℕ × A)) {a : A} → named w t ≡ some a → InTable w a t
-  named_row w [] {a} e = absurd (none-ne-some a e)
+  named_row : (w : List ℕ) (t : List (List ℕ × A)) {a : A} → named w t ≡ Some a → InTable w a t
+  named_row w [] {a} e = absurd (none-some a e)
   named_row w (x ∷ t) {a} e = go (same w x.0) refl (λ k. named_row w t k) e
     where
-      go : (b : Bool) → same w x.0 ≡ b → (named w t ≡ some a → InTable w a t) →
-          cond b (some x.1) (named w t) ≡ some a → InTable w a (x ∷ t)
-      go true q f e = inl (same_eq w x.0 q, sym (some-injective x.1 a e))
+      go : (b : Bool) → same w x.0 ≡ b → (named w t ≡ Some a → InTable w a t) →
+          cond b (Some x.1) (named w t) ≡ Some a → InTable w a (x ∷ t)
+      go true q f e = inl (same_eq w x.0 q, sym (same_Some x.1 a e))
       go false q f e = inr (f e)
 
   row_in : (w : List ℕ) (a : A) (t : List (List ℕ × A)) → InTable w a t → in_words w t ≡ true
@@ -46,16 +46,16 @@ module _ {A : Type 0} where
   row_in w a (x ∷ t) (inl h) = rw (ap (λ (m : List ℕ). same m x.0) h.0 ∙ same_refl x.0)
   row_in w a (x ∷ t) (inr h) = ap (λ (b : Bool). same w x.0 || b) (row_in w a t h) ∙ or-true (same w x.0)
 
-  row_named : (w : List ℕ) (a : A) (t : List (List ℕ × A)) → distinct t ≡ true → InTable w a t → named w t ≡ some a
+  row_named : (w : List ℕ) (a : A) (t : List (List ℕ × A)) → distinct t ≡ true → InTable w a t → named w t ≡ Some a
   row_named w a [] d h = absurd h
   row_named w a (x ∷ t) d (inl h) =
-      rw (ap (λ (m : List ℕ). same m x.0) h.0 ∙ same_refl x.0) (ap some (sym h.1))
+      rw (ap (λ (m : List ℕ). same m x.0) h.0 ∙ same_refl x.0) (ap Some (sym h.1))
   row_named w a (x ∷ t) d (inr h) =
       let p = and_true (not (in_words x.0 t)) (distinct t) d in
       go (same w x.0) refl p.0 (row_named w a t p.1 h)
     where
-      go : (b : Bool) → same w x.0 ≡ b → not (in_words x.0 t) ≡ true → named w t ≡ some a →
-          cond b (some x.1) (named w t) ≡ some a
+      go : (b : Bool) → same w x.0 ≡ b → not (in_words x.0 t) ≡ true → named w t ≡ Some a →
+          cond b (Some x.1) (named w t) ≡ Some a
       go true q d e =
           let i : in_words x.0 t ≡ true = rw (same_eq w x.0 q) at (row_in w a t h) in
           absurd (false≢true (rw i at d))
@@ -72,10 +72,10 @@ keys_distinct Ipv6 = refl
 keys_distinct Global = refl
 keys_distinct Service = refl
 
-pub key_kind_lem : (g : Group) (k : List ℕ) (x : Kind) → KeyIs g k x → kind_of g k ≡ some x
+pub key_kind_lem : (g : Group) (k : List ℕ) (x : Kind) → KeyIs g k x → kind_of g k ≡ Some x
 key_kind_lem g k x h = row_named k x (keys_of g) (keys_distinct g) h
 
-pub kind_key : (g : Group) (k : List ℕ) (x : Kind) → kind_of g k ≡ some x → KeyIs g k x
+pub kind_key : (g : Group) (k : List ℕ) (x : Kind) → kind_of g k ≡ Some x → KeyIs g k x
 kind_key g k x e = named_row k (keys_of g) e
 
 -- ---- groups
@@ -83,23 +83,23 @@ kind_key g k x e = named_row k (keys_of g) e
 service_name_lem : (n : List ℕ) → is_service n ≡ true → ServiceName n
 unfolding is_service
 service_name_lem n h =
-    let few : Bool = is_some (sized 1 32 (some (drop 8 n))) in
+    let few : Bool = is_some (sized 1 32 (Some (drop 8 n))) in
     let p = and_true (same (take 8 n) (word "service_")) (few && all is_identifier (drop 8 n)) h in
     let q = and_true few (all is_identifier (drop 8 n)) p.1 in
-    let s = some_is (sized 1 32 (some (drop 8 n))) q.0 in
-    let z = sized_is 1 32 (some (drop 8 n)) s.1 in
+    let s = some_is (sized 1 32 (Some (drop 8 n))) q.0 in
+    let z = sized_is 1 32 (Some (drop 8 n)) s.1 in
     record {
       id = drop 8 n;
       is = sym (take-append-drop 8 n) ∙ ap (λ (r : List ℕ). r ++ drop 8 n) (same_eq (take 8 n) (word "service_") p.0);
-      size = rw (some-injective (drop 8 n) s.0 z.1) z.0;
+      size = rw (same_Some (drop 8 n) s.0 z.1) z.0;
       bytes = q.1;
     }
 
 name_service : (n : List ℕ) → ServiceName n → is_service n ≡ true
 unfolding is_service
-name_service n h = rw (h.is, is_sized 1 32 (some h.id) h.size refl, h.bytes)
+name_service n h = rw (h.is, is_sized 1 32 (Some h.id) h.size refl, h.bytes)
 
-pub group_named : (d : Dialect) (n : List ℕ) (g : Group) → GroupIs d n g → group_of d n ≡ some g
+pub group_named : (d : Dialect) (n : List ℕ) (g : Group) → GroupIs d n g → group_of d n ≡ Some g
 unfolding group_of
 group_named Iwd n g h = row_named n g iwd_groups refl h
 group_named ConnMan n Settings h = absurd h
@@ -111,21 +111,21 @@ group_named ConnMan n Service h =
     let e : same n (word "global") ≡ false = ap (λ (m : List ℕ). same m (word "global")) h.is in
     rw (e, name_service n h)
 
-pub named_group : (d : Dialect) (n : List ℕ) (g : Group) → group_of d n ≡ some g → GroupIs d n g
+pub named_group : (d : Dialect) (n : List ℕ) (g : Group) → group_of d n ≡ Some g → GroupIs d n g
 unfolding group_of
 named_group Iwd n g e = named_row n iwd_groups e
 named_group ConnMan n g e = go (same n (word "global")) refl (is_service n) refl e
   where
     go : (a : Bool) → same n (word "global") ≡ a → (b : Bool) → is_service n ≡ b →
-        cond a (some Global) (only b (some Service)) ≡ some g → GroupIs ConnMan n g
-    go true p b q e = subst (GroupIs ConnMan n) (some-injective Global g e) (same_eq n (word "global") p)
-    go false p true q e = subst (GroupIs ConnMan n) (some-injective Service g e) (service_name_lem n q)
-    go false p false q e = absurd (none-ne-some g e)
+        cond a (Some Global) (only b (Some Service)) ≡ Some g → GroupIs ConnMan n g
+    go true p b q e = subst (GroupIs ConnMan n) (same_Some Global g e) (same_eq n (word "global") p)
+    go false p true q e = subst (GroupIs ConnMan n) (same_Some Service g e) (service_name_lem n q)
+    go false p false q e = absurd (none-some g e)
 
 -- whether a name is a service's, by its group
-pub serves_tells : (d : Dialect) (n : List ℕ) (g : Group) → group_of d n ≡ some g →
+pub serves_tells : (d : Dialect) (n : List ℕ) (g : Group) → group_of d n ≡ Some g →
     Decides (GroupIs d n Service) (serves g)
 serves_tells d n g q =
     decides (serves g)
-    (λ e. named_group d n Service (q ∙ ap some (serves_service g e)))
-    (λ s. ap serves (some-injective g Service (sym q ∙ group_named d n Service s)))
+    (λ e. named_group d n Service (q ∙ ap Some (serves_service g e)))
+    (λ s. ap serves (same_Some g Service (sym q ∙ group_named d n Service s)))

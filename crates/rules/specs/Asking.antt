@@ -1,6 +1,5 @@
 -- What is asked of an accepted file: a setting, by its group or by its service's number, and its key.
-use Rattle.std.specs.Prelude.{ℕ, zero, suc, cond, List, [], ◌∷◌}
-use Rattle.std.proofs.Math.Option.{Option, none, some}
+use Rattle.std.specs.Prelude.{ℕ, zero, suc, cond, List, [], ◌∷◌, Option, None, Some}
 use Rattle.text.specs.Bytes.{between}
 use Rattle.rules.specs.Sections.{Entry, Section, serves, entry_of, entries_in}
 use Rattle.rules.specs.declared.Refusal.TheVariants.{NoService}
@@ -25,16 +24,16 @@ service_at (suc n) (g ∷ gs) = cond (serves g.group) (first_or n g.entries (ser
 
 -- what is read from a setting's value, its line, and where its value starts; none and 0 where it is absent
 abbrev pub read_as : {A : Type 0} → (List ℕ → Option A) → Option Entry → Option A
-read_as f none = none
-read_as f (some x) = f x.value
+read_as f None = None
+read_as f (Some x) = f x.value
 
 abbrev pub entry_line : Option Entry → ℕ
-entry_line none = 0
-entry_line (some x) = x.line
+entry_line None = 0
+entry_line (Some x) = x.line
 
 abbrev pub entry_start : Option Entry → ℕ
-entry_start none = 0
-entry_start (some x) = x.start
+entry_start None = 0
+entry_start (Some x) = x.start
 
 -- the answer to what is asked of a file, and of service w of it: "18: service number is 0 or above the count", after "the file's own refusals"
 abbrev pub asked : Reading → Answer

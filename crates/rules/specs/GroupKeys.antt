@@ -3,7 +3,7 @@ use Rattle.std.specs.Prelude.{ℕ, ◌≡◌, true, List, ◌++◌}
 use Rattle.text.specs.Bytes.{is_identifier}
 use Rattle.text.specs.Parts.{all}
 use Rattle.text.specs.Words.{word}
-use Rattle.text.specs.Relations.{Some, Sized}
+use Rattle.text.specs.Relations.{Any, Sized}
 use Rattle.text.specs.declared.Dialect.{Dialect}
 use Rattle.text.specs.declared.Dialect.TheVariants.{Iwd, ConnMan}
 use Rattle.kinds.specs.declared.Kind.{Kind}
@@ -13,7 +13,7 @@ use Rattle.rules.specs.declared.Group.TheVariants.{Settings, Security, Ipv4, Ipv
 
 -- the word stands in the table, with what it stands for
 abbrev pub InTable : {A : Type 0} → List ℕ → A → List (List ℕ × A) → Type 0
-InTable w a table = Some (λ row. (w ≡ row.0) × (a ≡ row.1)) table
+InTable w a table = Any (λ row. (w ≡ row.0) × (a ≡ row.1)) table
 
 -- "`service_` and 1 to 32 letters, digits or `_`"
 pub record ServiceName (name : List ℕ) : Type 0 where

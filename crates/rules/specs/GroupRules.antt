@@ -2,7 +2,7 @@
 use Rattle.std.specs.Prelude.{ℕ, ◌≡◌, false, List, [], ◌∷◌, ◌++◌, ◌⊎◌}
 use Prim.Native.String.{String}
 use Rattle.text.specs.Words.{word}
-use Rattle.text.specs.Relations.{Some}
+use Rattle.text.specs.Relations.{Any}
 use Rattle.text.specs.Occurrences.{Everywhere, FirstBad}
 use Rattle.text.specs.declared.Dialect.{Dialect}
 use Rattle.text.specs.declared.Dialect.TheVariants.{Iwd}
@@ -26,13 +26,13 @@ group_lines (broken b ∷ ls) = broken b ∷ group_lines ls
 
 -- one of the lines gives the key; one of them gives it this value
 abbrev pub Has : String → List Line → Type 0
-Has key ls = Some (GivesKey (word key)) ls
+Has key ls = Any (GivesKey (word key)) ls
 
 abbrev pub GivesValue : List ℕ → List ℕ → Line → Type 0
 GivesValue key value l = SettingThat (λ k v. (key ≡ k) × (value ≡ v)) l
 
 abbrev pub HasValue : String → String → List Line → Type 0
-HasValue key value ls = Some (GivesValue (word key) (word value)) ls
+HasValue key value ls = Any (GivesValue (word key) (word value)) ls
 
 -- "14 before 15 within it"
 pub data Faulty (lacks clashes : Type 0) : Refusal → Type 0 where
@@ -83,7 +83,7 @@ abbrev pub GivesNo : List ℕ → Line → Type 0
 GivesNo key l = SettingThat (λ k v. (key ≡ k) × Means (flag_rows Iwd) v false) l
 
 abbrev pub InAsNo : String → String → List Line → Type 0
-InAsNo group key ls = InGroup group (λ own. Some (GivesNo (word key)) own) ls
+InAsNo group key ls = InGroup group (λ own. Any (GivesNo (word key)) own) ls
 
 -- "either key"
 abbrev pub EitherKey : List Line → Type 0

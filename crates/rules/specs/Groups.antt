@@ -1,25 +1,25 @@
 -- "Rules over a group": what a service, or an iwd file as a whole, lacks (14) or contradicts (15).
-use Rattle.std.specs.Prelude.{ℕ, Bool, true, false, cond, not, ◌&&◌, ◌||◌, List, [], ◌∷◌}
-use Rattle.std.proofs.Math.Option.{Option, none, some}
+use Rattle.std.specs.Prelude.{ℕ, Bool, true, false, cond, not, ◌&&◌, ◌||◌, List, [], ◌∷◌, Option, None, Some}
 use Rattle.text.specs.Words.{word}
 use Rattle.text.specs.Options.{and_then, or_else}
 use Rattle.text.specs.declared.Dialect.TheVariants.{Iwd}
 use Rattle.named_words.specs.NamedWords.{flag, word_of}
 use Rattle.named_words.specs.declared.Word.{Word}
-use Rattle.named_words.specs.declared.Word.TheVariants.{Wifi, Ethernet, Psk, None}
+use Rattle.named_words.specs.declared.Word.TheVariants.{Wifi, Ethernet, Psk}
 use Rattle.named_words.specs.declared.WordList.{WordList}
 use Rattle.named_words.specs.declared.WordList.TheVariants as W
 use Rattle.names.specs.declared.Suffix.{Suffix}
 use Rattle.names.specs.declared.Suffix.TheVariants as S
 use Rattle.rules.specs.Sections.{Entry, Section, given, entry_of, entries_in, serves}
 use Rattle.rules.specs.WordNumbers.{is_word}
-use Rattle.rules.specs.Faults.{Fault, fault_at}
+use Rattle.rules.specs.Faults.{fault_at}
+use Rattle.rules.specs.declared.Fault.{Fault}
 use Rattle.rules.specs.declared.Refusal.{Refusal}
 use Rattle.rules.specs.declared.Refusal.TheVariants.{Missing, Contradiction}
 
 -- 14 before 15
 abbrev pub lack_or_clash : Bool → Bool → Option Refusal
-lack_or_clash lacks clashes = cond lacks (some Missing) (cond clashes (some Contradiction) none)
+lack_or_clash lacks clashes = cond lacks (Some Missing) (cond clashes (Some Contradiction) None)
 
 -- ---- a service
 
@@ -56,7 +56,7 @@ wireless_by has =
     || has (word "Hidden"))))
 
 abbrev pub clashes_by : (List ℕ → Bool) → (Word → Bool) → (Word → Bool) → Bool
-clashes_by has type security = (type Ethernet && wireless_by has) || (security None && has (word "Passphrase"))
+clashes_by has type security = (type Ethernet && wireless_by has) || (security Word.None && has (word "Passphrase"))
 
 -- by the settings
 abbrev pub lacks : List Entry → Bool
@@ -73,10 +73,10 @@ service_fault es = lack_or_clash (lacks es) (clashes es)
 
 -- "then each service in file order", "service header"
 abbrev pub section_fault : Section → Option Fault
-section_fault g = cond (serves g.group) (fault_at g.line (service_fault g.entries)) none
+section_fault g = cond (serves g.group) (fault_at g.line (service_fault g.entries)) None
 
 abbrev pub services_fault : List Section → Option Fault
-services_fault [] = none
+services_fault [] = None
 services_fault (g ∷ gs) = or_else (section_fault g) (services_fault gs)
 
 -- ---- an iwd file
@@ -120,8 +120,8 @@ has_secret gs = secret_by (λ k. has (word "Security") k gs)
 
 -- whether a yes/no is given and is a no
 abbrev pub is_no : Option Bool → Bool
-is_no none = false
-is_no (some b) = not b
+is_no None = false
+is_no (Some b) = not b
 
 -- the yes/no that the setting with a key gives, in iwd
 abbrev pub flag_given : List ℕ → List Entry → Option Bool

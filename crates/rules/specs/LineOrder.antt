@@ -1,7 +1,7 @@
 -- Which line may stand after which lines, and document 01's table, 3 to 13: which number is given exactly when. Said of
 -- the lines, with nothing of the reading in it; `Exactly` proves that the reading keeps to it.
 use Rattle.std.specs.Prelude.{ℕ, ◌≡◌, List, [], ◌∷◌, ◌++◌}
-use Rattle.text.specs.Relations.{Each, Some}
+use Rattle.text.specs.Relations.{Each, Any}
 use Rattle.text.specs.Occurrences.{First, Everywhere, FirstBad, AtLeast}
 use Rattle.text.specs.declared.Dialect.{Dialect}
 use Rattle.kinds.specs.Typed.{Typed}
@@ -85,13 +85,13 @@ EightServices d before = AtLeast 8 (ServiceHeader d) before
 pub record AllowedHeader (d : Dialect) (before : List Line) (name : List ℕ) : Type 0 where
   pub group : Group
   pub listed : GroupIs d name group
-  pub once : ¬ Some (NamesGroup name) before
+  pub once : ¬ Any (NamesGroup name) before
   pub few : ¬ (GroupIs d name Service × EightServices d before)
 
 -- a setting's key is listed for its group and was not given in it; its text is whole, and its value of the key's kind
 pub record AllowedSetting (d : Dialect) (before : List Line) (key value : List ℕ) : Type 0 where
   pub place : KeyHere d before key
-  pub once : ¬ Some (GivesKey key) place.here.since
+  pub once : ¬ Any (GivesKey key) place.here.since
   pub text : WholeText place.kind value
   pub typed : Typed
   pub good : ValueIs d place.kind value typed
@@ -117,7 +117,7 @@ RowApplies d before l R.BadHeader = BrokenAs B.BadHeader l
 -- 6: "unknown group"
 RowApplies d before l R.UnknownGroup = HeaderThat (λ name. (g : Group) → ¬ GroupIs d name g) l
 -- 7: "group named a second time"
-RowApplies d before l R.RepeatedGroup = HeaderThat (λ name. Some (NamesGroup name) before) l
+RowApplies d before l R.RepeatedGroup = HeaderThat (λ name. Any (NamesGroup name) before) l
 -- 8: "setting before any group"
 RowApplies d before l R.NoGroup = SettingThat (λ key value. Each (λ b. ¬ IsHeader b) before) l
 -- 9: "key not listed for its group"
@@ -125,7 +125,7 @@ RowApplies d before l R.UnknownKey =
     SettingThat (λ key value. (x : Here d before) × ((kind : Kind) → ¬ KeyIs x.group key kind)) l
 -- 10: "key a second time in its group"
 RowApplies d before l R.RepeatedKey =
-    SettingThat (λ key value. (x : Here d before) × Some (GivesKey key) x.since) l
+    SettingThat (λ key value. (x : Here d before) × Any (GivesKey key) x.since) l
 -- 11: "value text broken"
 RowApplies d before l R.ValueText =
     SettingThat (λ key value. (x : KeyHere d before key) × (¬ WholeText x.kind value)) l

@@ -1,8 +1,7 @@
 -- The value of a setting: what the kind that is listed for its key, in its group, reads from it. Which kind that is
 -- stands in the table of keys alone, and which dialect's it is follows from the group: whoever asks for a value names a
 -- group and a key, and no kind.
-use Rattle.std.specs.Prelude.{ℕ, Bool, List, []}
-use Rattle.std.proofs.Math.Option.{Option, none, some}
+use Rattle.std.specs.Prelude.{ℕ, Bool, List, [], Option, None, Some}
 use Rattle.text.specs.Words.{word}
 use Rattle.text.specs.declared.Dialect.{Dialect}
 use Rattle.text.specs.declared.Dialect.TheVariants.{Iwd, ConnMan}
@@ -72,12 +71,12 @@ group_dialect Service = ConnMan
 
 -- of a key that is not listed there is no value at all
 abbrev pub ValueOf : Option Kind → Type 0
-ValueOf none = ⊥
-ValueOf (some k) = KindValue k
+ValueOf None = ⊥
+ValueOf (Some k) = KindValue k
 
 abbrev pub read_by : Dialect → (o : Option Kind) → Option Entry → Option (ValueOf o)
-read_by d none e = none
-read_by d (some k) e = read_as (valued d k) e
+read_by d None e = None
+read_by d (Some k) e = read_as (valued d k) e
 
 -- the value of key k, at giving the settings of a group g by their keys: none where that one is absent
 abbrev pub value_of : (g : Group) → (List ℕ → Option Entry) → (k : List ℕ) → Option (ValueOf (kind_of g k))

@@ -1,7 +1,7 @@
 -- A file's name is read as what the rule for names says, and as nothing else.
-use Rattle.std.specs.Prelude.{ℕ, ◌≡◌, refl, Bool, true, false, not, List, ◌++◌}
+use Rattle.std.specs.Prelude.{ℕ, ◌≡◌, refl, Bool, true, false, not, List, ◌++◌, Option, None, Some}
 use Rattle.std.proofs.Common.{ap, sym, ◌∙◌, subst}
-use Rattle.std.proofs.Math.Option.{Option, none, some, some-injective, none-ne-some}
+use Rattle.std.proofs.lemmas.Option.{same_Some, none-some}
 use Rattle.text.specs.Bytes.{is_alphanumeric}
 use Rattle.text.specs.Parts.{front, after, empty}
 use Rattle.text.specs.Words.{word, same}
@@ -36,34 +36,34 @@ connman_is name e =
 
 -- ---- both
 
-pub named_is : (d : Dialect) (name : List ℕ) (k : Name) → FileNamed d name k → name_in d name ≡ some k
+pub named_is : (d : Dialect) (name : List ℕ) (k : Name) → FileNamed d name k → name_in d name ≡ Some k
 named_is Iwd name (iwd_name s) h =
     ap (name_in Iwd) h.2 ∙ ap (mapped (λ (x : Network). iwd_name x.suffix)) (network_file_name h.0 s h.1)
 named_is Iwd name connman_file h = absurd h
 named_is ConnMan name (iwd_name s) h = absurd h
-named_is ConnMan name connman_file h = ap (λ (b : Bool). only b (some connman_file)) (is_connman name h)
+named_is ConnMan name connman_file h = ap (λ (b : Bool). only b (Some connman_file)) (is_connman name h)
 
-pub is_named : (d : Dialect) (name : List ℕ) (k : Name) → name_in d name ≡ some k → FileNamed d name k
+pub is_named : (d : Dialect) (name : List ℕ) (k : Name) → name_in d name ≡ Some k → FileNamed d name k
 is_named Iwd name k e = go (network_of name) refl e
   where
-    go : (o : Option Network) → network_of name ≡ o → mapped (λ (x : Network). iwd_name x.suffix) o ≡ some k →
+    go : (o : Option Network) → network_of name ≡ o → mapped (λ (x : Network). iwd_name x.suffix) o ≡ Some k →
         FileNamed Iwd name k
-    go none i q = absurd (none-ne-some k q)
-    go (some x) i q =
-        subst (FileNamed Iwd name) (some-injective (iwd_name x.suffix) k q)
+    go None i q = absurd (none-some k q)
+    go (Some x) i q =
+        subst (FileNamed Iwd name) (same_Some (iwd_name x.suffix) k q)
         (x.name, network_bytes name i, sym (file_name_network name i))
 is_named ConnMan name k e = go (connman_name name) refl e
   where
-    go : (b : Bool) → connman_name name ≡ b → only b (some connman_file) ≡ some k → FileNamed ConnMan name k
-    go false i q = absurd (none-ne-some k q)
-    go true i q = subst (FileNamed ConnMan name) (some-injective connman_file k q) (connman_is name i)
+    go : (b : Bool) → connman_name name ≡ b → only b (Some connman_file) ≡ Some k → FileNamed ConnMan name k
+    go false i q = absurd (none-some k q)
+    go true i q = subst (FileNamed ConnMan name) (same_Some connman_file k q) (connman_is name i)
 
-pub unnamed : (d : Dialect) (name : List ℕ) → ((k : Name) → ¬ FileNamed d name k) → name_in d name ≡ none
+pub unnamed : (d : Dialect) (name : List ℕ) → ((k : Name) → ¬ FileNamed d name k) → name_in d name ≡ None
 unnamed d name h = go (name_in d name) refl
   where
-    go : (o : Option Name) → name_in d name ≡ o → o ≡ none
-    go none e = refl
-    go (some k) e = absurd (h k (is_named d name k e))
+    go : (o : Option Name) → name_in d name ≡ o → o ≡ None
+    go None e = refl
+    go (Some k) e = absurd (h k (is_named d name k e))
 
-pub none_named : (d : Dialect) (name : List ℕ) → name_in d name ≡ none → (k : Name) → ¬ FileNamed d name k
-none_named d name e k h = none-ne-some k (sym e ∙ named_is d name k h)
+pub none_named : (d : Dialect) (name : List ℕ) → name_in d name ≡ None → (k : Name) → ¬ FileNamed d name k
+none_named d name e k h = none-some k (sym e ∙ named_is d name k h)

@@ -1,6 +1,5 @@
 -- The reading of a file: "Order: 1, 2; then the first faulty line ..; then each service in file order (iwd: the file), 14 before 15 within it."
-use Rattle.std.specs.Prelude.{ℕ, suc, ◌+◌, cond, List, [], ◌∷◌, reverse, leb, length}
-use Rattle.std.proofs.Math.Option.{Option, none, some}
+use Rattle.std.specs.Prelude.{ℕ, suc, ◌+◌, cond, List, [], ◌∷◌, reverse, leb, length, Option, None, Some}
 use Rattle.text.specs.Parts.{lines}
 use Rattle.text.specs.Options.{mapped, only, or_else}
 use Rattle.text.specs.declared.Dialect.{Dialect}
@@ -9,7 +8,8 @@ use Rattle.lines.specs.Lines.{line_of, value_start}
 use Rattle.names.specs.Names.{network_of, connman_name}
 use Rattle.names.specs.declared.Suffix.{Suffix}
 use Rattle.rules.specs.Sections.{Section, settings, services, with_line}
-use Rattle.rules.specs.Faults.{Fault, fault_at, fault}
+use Rattle.rules.specs.Faults.{fault_at, fault}
+use Rattle.rules.specs.declared.Fault.{Fault}
 use Rattle.rules.specs.Groups.{services_fault, file_fault}
 use Rattle.rules.specs.declared.Refusal.TheVariants.{Size, FileName}
 use Rattle.rules.specs.declared.Reading.{Reading}
@@ -21,7 +21,7 @@ after_line d n s l gs = with_line d n s (value_start d l) (line_of d l) gs
 
 -- the first faulty line, each judged after those before it
 unfoldable pub line_fault : Dialect → ℕ → ℕ → List Section → List (List ℕ) → Option Fault
-line_fault d n s gs [] = none
+line_fault d n s gs [] = None
 line_fault d n s gs (l ∷ ls) = or_else (fault_at n (fault d gs (line_of d l))) (line_fault d (suc n) (s + length l + 1) (after_line d n s l gs) ls)
 
 -- the groups after all lines, the latest first
@@ -40,7 +40,7 @@ pub data Name : Type 0 where
 
 abbrev pub name_in : Dialect → List ℕ → Option Name
 name_in Iwd n = mapped (λ x. iwd_name x.suffix) (network_of n)
-name_in ConnMan n = only (connman_name n) (some connman_file)
+name_in ConnMan n = only (connman_name n) (Some connman_file)
 
 -- the groups as a whole
 abbrev pub groups_fault : Name → List Section → Option Fault
@@ -48,12 +48,12 @@ groups_fault (iwd_name s) gs = file_fault s gs
 groups_fault connman_file gs = services_fault gs
 
 abbrev pub verdict : Option Fault → List Section → Reading
-verdict (some f) gs = Refused f.refusal f.line
-verdict none gs = Accepted (settings gs) (services gs)
+verdict (Some f) gs = Refused f.refusal f.line
+verdict None gs = Accepted (settings gs) (services gs)
 
 abbrev pub reading_of : Dialect → Option Name → List ℕ → Reading
-reading_of d none file = Refused FileName 0
-reading_of d (some n) file = verdict (or_else (line_fault d 1 0 [] (lines file)) (groups_fault n (sections_of d file))) (sections_of d file)
+reading_of d None file = Refused FileName 0
+reading_of d (Some n) file = verdict (or_else (line_fault d 1 0 [] (lines file)) (groups_fault n (sections_of d file))) (sections_of d file)
 
 -- "file over 16,384 bytes" (1), "file name breaks its rule" (2)
 unfoldable pub reading : Dialect → List ℕ → List ℕ → Reading

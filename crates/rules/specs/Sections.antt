@@ -1,6 +1,5 @@
 -- What stands in a file: its groups and their settings, as the reading keeps them and as they are asked.
-use Rattle.std.specs.Prelude.{ℕ, suc, ◌+◌, Bool, true, false, cond, ◌||◌, List, [], ◌∷◌, ◌++◌, length}
-use Rattle.std.proofs.Math.Option.{Option, none, some}
+use Rattle.std.specs.Prelude.{ℕ, suc, ◌+◌, Bool, true, false, cond, ◌||◌, List, [], ◌∷◌, ◌++◌, length, Option, None, Some}
 use Rattle.text.specs.Words.{same}
 use Rattle.text.specs.declared.Dialect.{Dialect}
 use Rattle.lines.specs.Lines.{Line, blank, comment, header, setting, broken}
@@ -32,8 +31,8 @@ given k (x ∷ xs) = same k x.key || given k xs
 
 -- the setting with a key
 abbrev pub entry_of : List ℕ → List Entry → Option Entry
-entry_of k [] = none
-entry_of k (x ∷ xs) = cond (same k x.key) (some x) (entry_of k xs)
+entry_of k [] = None
+entry_of k (x ∷ xs) = cond (same k x.key) (Some x) (entry_of k xs)
 
 -- ---- groups
 
@@ -74,8 +73,8 @@ with_entry x (g ∷ gs) =
     record { name = g.name; group = g.group; line = g.line; start = g.start; entries = g.entries ++ (x ∷ []) } ∷ gs
 
 abbrev pub with_group : List ℕ → Option Group → ℕ → ℕ → List Section → List Section
-with_group n none l s gs = gs
-with_group n (some g) l s gs = record { name = n; group = g; line = l; start = s; entries = [] } ∷ gs
+with_group n None l s gs = gs
+with_group n (Some g) l s gs = record { name = n; group = g; line = l; start = s; entries = [] } ∷ gs
 
 unfoldable pub with_line : Dialect → ℕ → ℕ → ℕ → Line → List Section → List Section
 with_line d l s at blank gs = gs

@@ -1,6 +1,5 @@
 -- The groups, their keys, and each key's kind: document 01's lists under "Settings and their kinds".
-use Rattle.std.specs.Prelude.{ℕ, Bool, cond, ◌&&◌, List, [], ◌∷◌, take, drop}
-use Rattle.std.proofs.Math.Option.{Option, some}
+use Rattle.std.specs.Prelude.{ℕ, Bool, cond, ◌&&◌, List, [], ◌∷◌, take, drop, Option, Some}
 use Rattle.text.specs.Bytes.{is_identifier}
 use Rattle.text.specs.Parts.{all}
 use Rattle.text.specs.Words.{word, same, named}
@@ -21,12 +20,12 @@ iwd_groups = (word "Settings", Settings) ∷ (word "Security", Security) ∷ (wo
 -- "`service_` and 1 to 32 letters, digits or `_`"
 unfoldable pub is_service : List ℕ → Bool
 is_service n =
-    same (take 8 n) (word "service_") && (is_some (sized 1 32 (some (drop 8 n))) && all is_identifier (drop 8 n))
+    same (take 8 n) (word "service_") && (is_some (sized 1 32 (Some (drop 8 n))) && all is_identifier (drop 8 n))
 
 -- "ConnMan groups: `global`: .. `service_` ..": the group that a name names
 unfoldable pub group_of : Dialect → List ℕ → Option Group
 group_of Iwd n = named n iwd_groups
-group_of ConnMan n = cond (same n (word "global")) (some Global) (only (is_service n) (some Service))
+group_of ConnMan n = cond (same n (word "global")) (Some Global) (only (is_service n) (Some Service))
 
 -- the keys of each group, with their kinds; by request 2026-03 "iwd's group gains Address (length 128 if left off) and Gateway"
 unfoldable pub keys_of : Group → List (List ℕ × Kind)

@@ -5,7 +5,7 @@
 #![tactic(auto)]
 
 // The refusals, in the order of document 01's numbers 1 to 19.
-#[derive(Clone, Copy)]
+#[derive(Clone, Copy, PartialEq, Eq)]
 pub enum Refusal {
     Size,
     FileName,
@@ -28,6 +28,13 @@ pub enum Refusal {
     Malformed,
 }
 
+// A refusal and its line.
+#[derive(Clone, Copy)]
+pub struct Fault {
+    pub refusal: Refusal,
+    pub line: usize,
+}
+
 // What a reading answers: the numbers of settings and services, or the refusal and its line.
 #[derive(Clone, Copy)]
 pub enum Reading {
@@ -43,7 +50,7 @@ pub enum Answer {
 }
 
 // The groups: iwd's four, and ConnMan's two.
-#[derive(Clone, Copy)]
+#[derive(Clone, Copy, PartialEq, Eq)]
 pub enum Group {
     Settings,
     Security,

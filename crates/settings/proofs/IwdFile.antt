@@ -2,8 +2,7 @@
 use Prim.Native.Nat.{ℕ}
 use native.Mathlib.Omega.{arith}
 use mathlib.Core.Path.{◌≡◌, refl, ap, sym, ◌∙◌}
-use mathlib.Core.List.{List, []}
-use lib.ListN.{replicate, length-replicate}
+use mathlib.Core.List.{List}
 use Rattle.text.specs.Words.{word}
 use Rattle.text.specs.declared.Dialect.TheVariants.{Iwd}
 use Rattle.addresses.specs.Addresses.{addresses, rows}
@@ -20,10 +19,10 @@ use Rattle.rules.specs.declared.Refusal.{Refusal}
 use Rattle.places.specs.KeySlots.{bytes_of, ValueInFile}
 use Rattle.places.specs.declared.KeyName.TheVariants as N
 use Rattle.pass.specs.Pass.{Found, ReadsFile}
-use Rattle.pass.proofs.Walking.{empty_row}
 use Rattle.pass.proofs.Asking.{found_group}
 use Rattle.settings.specs.Rows.{IwdRowsGive}
 use Rattle.values.specs.Rows.{RowGives, FourRows, IwdRows}
+use Rattle.settings.specs.Absent.{zero_iwd_settings, iwd_absent_zero}
 use Rattle.settings.specs.Asked.{iwd_answered, iwd_servers_after}
 use Rattle.settings.specs.Settings.{general_settings_of, security_settings_of, ipv4_settings_of, ipv6_settings_of}
 use Rattle.settings.specs.declared.GeneralSettings.{GeneralSettings}
@@ -32,7 +31,6 @@ use Rattle.settings.specs.declared.Ipv4Settings.{Ipv4Settings}
 use Rattle.settings.specs.declared.Ipv6Settings.{Ipv6Settings}
 use Rattle.settings.specs.declared.IwdSettings.{IwdSettings}
 use Rattle.values.proofs.KeptValues.{row_of, key_in, row_read, addresses_none}
-use Rattle.places.specs.Store.{table_length}
 use Rattle.places.specs.History.{base}
 
 -- ---- the rows
@@ -47,15 +45,6 @@ module _ {file x : List ℕ} where
 pub found_rows : {file y : List ℕ} → Found Iwd file y → FourRows file y (λ n. entries_in n (sections_of Iwd file))
 unfolding group_of
 found_rows f = record { general = found_group f G.Settings refl refl; security = found_group f G.Security refl refl; ipv4 = found_group f G.Ipv4 refl refl; ipv6 = found_group f G.Ipv6 refl refl }
-
-none_rows : (file : List ℕ) → FourRows file (replicate table_length 0) (λ n. [])
-none_rows file =
-    record {
-      general = empty_row Iwd file (base G.Settings 0) G.Settings (omega arith);
-      security = empty_row Iwd file (base G.Security 0) G.Security (omega arith);
-      ipv4 = empty_row Iwd file (base G.Ipv4 0) G.Ipv4 (omega arith);
-      ipv6 = empty_row Iwd file (base G.Ipv6 0) G.Ipv6 (omega arith);
-    }
 
 -- ---- the answers
 
@@ -73,19 +62,16 @@ module _ {name file : List ℕ} {y : List ℕ} {q : Reading} (h : ReadsFile Iwd 
     pub iwd_good : {s : IwdSettings} → IwdRowsGive file y s → record { answer = Good; settings = s } ≡ iwd_answered name file
     iwd_good t = rw (good, t.is (λ n. entries_in n (sections_of Iwd file)) (found_rows (h.found e)))
 
-    pub servers_good : (old : List (List ℕ)) {t z : List (List ℕ)} → t ≡ rows (addresses Spaces (bytes_of file y (base G.Ipv4 0) N.Dns)) → z ≡ t → z ≡ iwd_servers_after name file old
+    pub servers_good : (old : List (List ℕ)) {t : List (List ℕ)} → t ≡ rows (addresses Spaces (bytes_of file y (base G.Ipv4 0) N.Dns)) → t ≡ iwd_servers_after name file old
     unfolding keys_of
-    servers_good old p k = k ∙ p ∙ rw good (ap rows (row_read N.Dns (found_rows (h.found e)).ipv4 (addresses Spaces) (addresses_none Spaces)))
+    servers_good old p = p ∙ rw good (ap rows (row_read N.Dns (found_rows (h.found e)).ipv4 (addresses Spaces) (addresses_none Spaces)))
 
   module _ {r : Refusal} {l : ℕ} (e : q ≡ R.Refused r l) where
     bad : asked (reading Iwd name file) ≡ Refused r l
     bad = ap asked (sym h.is ∙ e)
 
-    pub refused_kept : IwdRows file y
-    refused_kept = rw (h.left e) (record { long = length-replicate {A = ℕ} table_length 0; settings = λ n. []; rows = none_rows file })
-
-    pub iwd_refused : {s : IwdSettings} → IwdRowsGive file y s → record { answer = Refused r l; settings = s } ≡ iwd_answered name file
-    iwd_refused t = rw (bad, t.is (λ n. []) (rw (h.left e) (none_rows file)))
+    pub iwd_refused : {s : IwdSettings} → s ≡ zero_iwd_settings → record { answer = Refused r l; settings = s } ≡ iwd_answered name file
+    iwd_refused t = rw (bad, iwd_absent_zero, t)
 
     pub servers_refused : (old : List (List ℕ)) → old ≡ iwd_servers_after name file old
     servers_refused old = rw bad

@@ -1,9 +1,7 @@
 -- The settings of a service: its row, and one law for each answer.
 use Prim.Native.Nat.{ℕ, ◌≤◌}
-use native.Mathlib.Omega.{arith}
 use mathlib.Core.Path.{◌≡◌, ap, ◌∙◌}
-use mathlib.Core.List.{List, []}
-use lib.ListN.{replicate, length-replicate}
+use mathlib.Core.List.{List}
 use Rattle.text.specs.declared.Dialect.TheVariants.{ConnMan}
 use Rattle.addresses.specs.Addresses.{addresses, rows}
 use Rattle.addresses.specs.declared.Separator.TheVariants.{Comma}
@@ -21,31 +19,20 @@ use Rattle.places.specs.KeySlots.{bytes_of, ValueInFile}
 use Rattle.places.specs.declared.KeyName.TheVariants as N
 use Rattle.places.proofs.Values.{base_few}
 use Rattle.pass.specs.Pass.{Found, ReadsFile}
-use Rattle.pass.proofs.Walking.{empty_row}
 use Rattle.pass.proofs.Asking.{found_service, service_found, service_answer_lem, service_few}
 use Rattle.settings.specs.Settings.{network_settings_of, address_settings_of, service_settings}
 use Rattle.values.specs.Rows.{RowOf, RowGives}
-use Rattle.settings.specs.Asked.{service_answer_of, service_answered, service_servers_after}
+use Rattle.settings.specs.Asked.{service_answered, service_servers_after}
+use Rattle.settings.specs.Absent.{zero_service_settings, service_absent_zero}
 use Rattle.settings.specs.declared.NetworkSettings.{NetworkSettings}
 use Rattle.settings.specs.declared.AddressSettings.{AddressSettings}
 use Rattle.settings.specs.declared.ServiceSettings.{ServiceSettings}
-use Rattle.settings.specs.declared.ServiceAnswer.{ServiceAnswer}
 use Rattle.values.proofs.KeptValues.{key_in, row_read, addresses_none}
-use Rattle.places.specs.Store.{row_length, table_length}
 
 -- ---- the row
 
 pub service_typed : {file x : List ℕ} {r : ℕ} {a : NetworkSettings} {b : AddressSettings} → RowGives ConnMan file x r G.Service network_settings_of a → RowGives ConnMan file x r G.Service address_settings_of b → RowGives ConnMan file x r G.Service service_settings (record { network = a; addresses = b })
 service_typed p q = record { is = λ es h. rw (p.is es h, q.is es h) }
-
-none_row : (file : List ℕ) → RowKeeps ConnMan file (replicate table_length 0) row_length G.Service []
-none_row file = empty_row ConnMan file row_length G.Service (omega arith)
-
-pub none_kept : (file : List ℕ) → RowOf ConnMan file (replicate table_length 0) row_length G.Service
-none_kept file = record { table = record { long = length-replicate {A = ℕ} table_length 0; row = omega arith }; settings = []; row = none_row file }
-
-pub none_answer : {file : List ℕ} {s : ServiceSettings} → RowGives ConnMan file (replicate table_length 0) row_length G.Service service_settings s → (r : Refusal) (l : ℕ) → record { answer = Refused r l; settings = s } ≡ service_answer_of (Refused r l) []
-none_answer {file} t r l = rw (t.is [] (none_row file))
 
 -- after a reading
 module _ {file : List ℕ} {y : List ℕ} (f : Found ConnMan file y) (w : ℕ) (few : (1 ≤ w) × (w ≤ 8)) where
@@ -59,8 +46,8 @@ module _ {file : List ℕ} {y : List ℕ} (f : Found ConnMan file y) (w : ℕ) (
 
 module _ {name file : List ℕ} (w : ℕ) {y : List ℕ} {q : Reading} (h : ReadsFile ConnMan name file y q) {b : Answer} (s : b ≡ asked_of w q) where
   module _ {r : Refusal} {l : ℕ} (e : b ≡ Refused r l) where
-    pub refused_is : {a : ServiceAnswer} → a ≡ service_answer_of (Refused r l) [] → a ≡ service_answered name file w
-    refused_is p = rw (service_answer_lem h w s e, p)
+    pub refused_is : {t : ServiceSettings} → t ≡ zero_service_settings → record { answer = Refused r l; settings = t } ≡ service_answered name file w
+    refused_is p = rw (service_answer_lem h w s e, service_absent_zero, p)
 
     pub servers_kept : (old : List (List ℕ)) → old ≡ service_servers_after name file w old
     servers_kept old = rw (service_answer_lem h w s e)
@@ -82,6 +69,6 @@ module _ {name file : List ℕ} (w : ℕ) {y : List ℕ} {q : Reading} (h : Read
       pub service_good : {t : ServiceSettings} → RowGives ConnMan file y r G.Service service_settings t → record { answer = Good; settings = t } ≡ service_answered name file w
       service_good t = rw (service_answer_lem h w s e, t.is (service_at w (sections_of ConnMan file)) found_row)
 
-      pub servers_good : (old : List (List ℕ)) {t z : List (List ℕ)} → t ≡ rows (addresses Comma (bytes_of file y r N.Nameservers)) → z ≡ t → z ≡ service_servers_after name file w old
+      pub servers_good : (old : List (List ℕ)) {t : List (List ℕ)} → t ≡ rows (addresses Comma (bytes_of file y r N.Nameservers)) → t ≡ service_servers_after name file w old
       unfolding keys_of
-      servers_good old p k = k ∙ p ∙ rw (service_answer_lem h w s e) (ap rows (row_read N.Nameservers found_row (addresses Comma) (addresses_none Comma)))
+      servers_good old p = p ∙ rw (service_answer_lem h w s e) (ap rows (row_read N.Nameservers found_row (addresses Comma) (addresses_none Comma)))

@@ -1,6 +1,5 @@
 -- What a caller is answered who asks for typed settings: the file's own refusals, 18, or the settings.
-use Rattle.std.specs.Prelude.{ℕ, List}
-use Rattle.std.proofs.Math.Option.{none}
+use Rattle.std.specs.Prelude.{ℕ, List, None}
 use Rattle.text.specs.declared.Dialect.TheVariants.{Iwd, ConnMan}
 use Rattle.rules.specs.Sections.{Entry, Section, entry_of}
 use Rattle.rules.specs.Reading.{sections_of, reading}
@@ -16,7 +15,7 @@ use Rattle.settings.specs.declared.ServiceAnswer.{ServiceAnswer}
 -- "A refusal gives .. zeros for all else": every setting is absent
 abbrev pub iwd_answer_of : Answer → List Section → IwdAnswer
 iwd_answer_of Good gs = record { answer = Good; settings = iwd_settings (iwd_entry gs) }
-iwd_answer_of (Refused r l) gs = record { answer = Refused r l; settings = iwd_settings (λ n k. none) }
+iwd_answer_of (Refused r l) gs = record { answer = Refused r l; settings = iwd_settings (λ n k. None) }
 
 abbrev pub iwd_answered : List ℕ → List ℕ → IwdAnswer
 iwd_answered name file = iwd_answer_of (asked (reading Iwd name file)) (sections_of Iwd file)
@@ -32,7 +31,7 @@ iwd_servers_after name file old = iwd_servers_of (asked (reading Iwd name file))
 
 abbrev pub service_answer_of : Answer → List Entry → ServiceAnswer
 service_answer_of Good es = record { answer = Good; settings = service_settings (λ k. entry_of k es) }
-service_answer_of (Refused r l) es = record { answer = Refused r l; settings = service_settings (λ k. none) }
+service_answer_of (Refused r l) es = record { answer = Refused r l; settings = service_settings (λ k. None) }
 
 abbrev pub service_answered : List ℕ → List ℕ → ℕ → ServiceAnswer
 service_answered name file w =

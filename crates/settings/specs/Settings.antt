@@ -1,21 +1,18 @@
 -- The typed settings, as document 01 lists them under "Settings and their kinds": every key with its value, or absent. A
 -- value is asked for by its group and key; which kind reads it stands in the table of keys.
-use Rattle.std.specs.Prelude.{ℕ, List, length}
-use Rattle.std.proofs.Math.Option.{Option}
+use Rattle.std.specs.Prelude.{ℕ, List, length, Option}
 use Rattle.text.specs.Words.{word}
-use Rattle.text.specs.Options.{or_empty}
-use Rattle.addresses.specs.Addresses.{address_answer, rows}
-use Rattle.ipv6.specs.Answers.{ipv6_answer}
-use Rattle.connman_ipv4.specs.Answers.{ipv4_answer}
-use Rattle.ipv6_values.specs.Answers.{connman_ipv6_answer, with_length_answer}
-use Rattle.hex_values.specs.Answers.{mac_answer, pre_shared_key_answer, ssid_answer}
-use Rattle.entry_lists.specs.Answers.{entries_answer}
+use Rattle.text.specs.Options.{mapped, or_empty}
+use Rattle.addresses.specs.Addresses.{rows}
+use Rattle.addressing.specs.Numbers.{numbers_laid}
+use Rattle.ipv6_values.specs.Layout.{with_length_laid}
+use Rattle.put.specs.Texts.{bounded}
+use Rattle.entry_lists.specs.Places.{entries_laid}
 use Rattle.rules.specs.Tables.{keys_of}
 use Rattle.rules.specs.Sections.{Entry}
 use Rattle.rules.specs.Asking.{entry_line, entry_start}
 use Rattle.rules.specs.ListedValues.{value_of, group_value}
 use Rattle.rules.specs.declared.Group.TheVariants.{Settings, Security, Ipv4, Ipv6, Service}
-use Rattle.values.specs.Values.{choice, chosen, length_or0}
 use Rattle.settings.specs.declared.GeneralSettings.{GeneralSettings}
 use Rattle.settings.specs.declared.SecuritySettings.{SecuritySettings}
 use Rattle.settings.specs.declared.Ipv4Settings.{Ipv4Settings}
@@ -33,10 +30,10 @@ unfolding keys_of
 general_settings_of at =
     let value = value_of Settings at in
     record {
-      auto_connect = choice (value (word "AutoConnect"));
-      hidden = choice (value (word "Hidden"));
-      always_randomize_address = choice (value (word "AlwaysRandomizeAddress"));
-      address_override = mac_answer (value (word "AddressOverride"));
+      auto_connect = value (word "AutoConnect");
+      hidden = value (word "Hidden");
+      always_randomize_address = value (word "AlwaysRandomizeAddress");
+      address_override = value (word "AddressOverride");
     }
 
 -- "Security: Passphrase (string ..), PreSharedKey (64 hex digits)"
@@ -46,7 +43,7 @@ security_settings_of at =
     let value = value_of Security at in
     record {
       passphrase = entry_line (at (word "Passphrase"));
-      pre_shared_key = pre_shared_key_answer (value (word "PreSharedKey"));
+      pre_shared_key = value (word "PreSharedKey");
     }
 
 -- "IPv4: Address, Gateway, Broadcast (address), Netmask (mask), DNS (1 to 4 addresses ..), DomainName (string ..),
@@ -56,13 +53,13 @@ unfolding keys_of
 ipv4_settings_of at =
     let value = value_of Ipv4 at in
     record {
-      address = address_answer (value (word "Address"));
-      gateway = address_answer (value (word "Gateway"));
-      broadcast = address_answer (value (word "Broadcast"));
-      netmask = length_or0 (value (word "Netmask"));
+      address = value (word "Address");
+      gateway = value (word "Gateway");
+      broadcast = value (word "Broadcast");
+      netmask = value (word "Netmask");
       dns = length (or_empty (value (word "DNS")));
       domain_name = entry_line (at (word "DomainName"));
-      send_hostname = choice (value (word "SendHostname"));
+      send_hostname = value (word "SendHostname");
     }
 
 -- "IPv6: Enabled (bool)", and by request 2026-03 "Address (length 128 if left off) and Gateway"
@@ -71,9 +68,9 @@ unfolding keys_of
 ipv6_settings_of at =
     let value = value_of Ipv6 at in
     record {
-      enabled = choice (value (word "Enabled"));
-      address = with_length_answer (value (word "Address"));
-      gateway = ipv6_answer (value (word "Gateway"));
+      enabled = value (word "Enabled");
+      address = mapped with_length_laid (value (word "Address"));
+      gateway = value (word "Gateway");
     }
 
 -- the settings of an iwd file, at giving the setting with a key in the group with a name
@@ -99,12 +96,12 @@ unfolding keys_of
 network_settings_of at =
     let value = value_of Service at in
     record {
-      service_type = chosen (value (word "Type"));
+      service_type = value (word "Type");
       name = entry_line (at (word "Name"));
-      ssid = ssid_answer (value (word "SSID"));
+      ssid = mapped (bounded 32) (value (word "SSID"));
       passphrase = entry_line (at (word "Passphrase"));
-      security = chosen (value (word "Security"));
-      hidden = choice (value (word "Hidden"));
+      security = value (word "Security");
+      hidden = value (word "Hidden");
     }
 
 -- "IPv4, IPv6 (off, auto)", which by request 2026-03 "gains address/length with an optional gateway", "IPv6.Privacy (..), MAC,
@@ -114,13 +111,13 @@ unfolding keys_of
 address_settings_of at =
     let value = value_of Service at in
     record {
-      ipv4 = ipv4_answer (value (word "IPv4"));
-      ipv6 = connman_ipv6_answer (value (word "IPv6"));
-      privacy = chosen (value (word "IPv6.Privacy"));
-      mac = mac_answer (value (word "MAC"));
+      ipv4 = mapped (numbers_laid 4) (value (word "IPv4"));
+      ipv6 = mapped (numbers_laid 16) (value (word "IPv6"));
+      privacy = value (word "IPv6.Privacy");
+      mac = value (word "MAC");
       nameservers = length (or_empty (value (word "Nameservers")));
-      search_domains = entries_answer (entry_start (at (word "SearchDomains"))) (value (word "SearchDomains"));
-      timeservers = entries_answer (entry_start (at (word "Timeservers"))) (value (word "Timeservers"));
+      search_domains = mapped (entries_laid (entry_start (at (word "SearchDomains")))) (value (word "SearchDomains"));
+      timeservers = mapped (entries_laid (entry_start (at (word "Timeservers")))) (value (word "Timeservers"));
       domain = entry_line (at (word "Domain"));
     }
 

@@ -23,13 +23,6 @@ fn iwd_rows(file: &[u8], x: &Places) -> IwdSettings
     }
 }
 
-// Puts four name servers into the caller's array.
-pub fn store(out: &mut [[u8; 4]; 4], from: [[u8; 4]; 4])
-    ensures { out.new ≡ from }
-{
-    *out = from;
-}
-
 // The typed settings of an iwd file, and its name servers. A refusal gives settings that are all absent and leaves the name
 // servers as they were.
 pub fn iwd_settings(name: &[u8], file: &[u8], servers: &mut [[u8; 4]; 4]) -> IwdAnswer
@@ -39,11 +32,8 @@ pub fn iwd_settings(name: &[u8], file: &[u8], servers: &mut [[u8; 4]; 4]) -> Iwd
     let mut x = [0; PLACES];
     let reading = pass::read(Dialect::Iwd, name, file, &mut x);
     match reading {
-        Reading::Accepted(settings, services) => {
-            store(
-                servers,
-                values::servers_at(Separator::Spaces, file, &x, IPV4_ROW, KeyName::Dns),
-            );
+        Reading::Accepted(_, _) => {
+            *servers = values::servers_at(Separator::Spaces, file, &x, IPV4_ROW, KeyName::Dns);
             IwdAnswer {
                 answer: Answer::Good,
                 settings: iwd_rows(file, &x),
@@ -51,7 +41,7 @@ pub fn iwd_settings(name: &[u8], file: &[u8], servers: &mut [[u8; 4]; 4]) -> Iwd
         }
         Reading::Refused(refusal, line) => IwdAnswer {
             answer: Answer::Refused(refusal, line),
-            settings: iwd_rows(file, &x),
+            settings: IwdSettings::default(),
         },
     }
 }

@@ -9,52 +9,52 @@ pub mod iwd;
 pub mod rows;
 pub mod services;
 
-use addresses::Address;
-use connman_ipv4::Ipv4;
+use addressing::Numbers;
 use entry_lists::Entries;
-use hex_values::{Mac, PreSharedKey, Ssid};
-use ipv6_values::{Ipv6, WithLength};
+use ipv6_values::WithLength;
+use named_words::Word;
+use put::Bounded;
 use rules::Answer;
-use values::{Choice, Chosen};
 
 // iwd's group Settings.
-#[derive(Clone, Copy)]
+#[derive(Clone, Copy, Default)]
 pub struct GeneralSettings {
-    pub auto_connect: Choice,
-    pub hidden: Choice,
-    pub always_randomize_address: Choice,
-    pub address_override: Mac,
+    pub auto_connect: Option<bool>,
+    pub hidden: Option<bool>,
+    pub always_randomize_address: Option<bool>,
+    pub address_override: Option<[u8; 6]>,
 }
 
 // iwd's group Security.
-#[derive(Clone, Copy)]
+#[derive(Clone, Copy, Default)]
 pub struct SecuritySettings {
     pub passphrase: usize,
-    pub pre_shared_key: PreSharedKey,
+    pub pre_shared_key: Option<[u8; 32]>,
 }
 
 // iwd's group IPv4.
-#[derive(Clone, Copy)]
+#[derive(Clone, Copy, Default)]
 pub struct Ipv4Settings {
-    pub address: Address,
-    pub gateway: Address,
-    pub broadcast: Address,
-    pub netmask: u8,
+    pub address: Option<[u8; 4]>,
+    pub gateway: Option<[u8; 4]>,
+    pub broadcast: Option<[u8; 4]>,
+    pub netmask: Option<u8>,
     pub dns: usize,
     pub domain_name: usize,
-    pub send_hostname: Choice,
+    pub send_hostname: Option<bool>,
 }
 
 // iwd's group IPv6.
-#[derive(Clone, Copy)]
+#[derive(Clone, Copy, Default)]
 pub struct Ipv6Settings {
-    pub enabled: Choice,
-    pub address: WithLength,
-    pub gateway: ipv6::Address,
+    pub enabled: Option<bool>,
+    pub address: Option<WithLength>,
+    pub gateway: Option<[u8; 16]>,
 }
 
-// The settings of an iwd file, by its groups. An absent address, MAC or key is not ok; an absent mask, list or string is 0.
-#[derive(Clone, Copy)]
+// The settings of an iwd file, by its groups. An absent setting is None; the line of a string and the count of the name
+// servers are 0 where these are absent, as 01 says ("zeros for all else").
+#[derive(Clone, Copy, Default)]
 pub struct IwdSettings {
     pub general: GeneralSettings,
     pub security: SecuritySettings,
@@ -63,31 +63,31 @@ pub struct IwdSettings {
 }
 
 // Which network a ConnMan service joins, and how.
-#[derive(Clone, Copy)]
+#[derive(Clone, Copy, Default)]
 pub struct NetworkSettings {
-    pub service_type: Chosen,
+    pub service_type: Option<Word>,
     pub name: usize,
-    pub ssid: Ssid,
+    pub ssid: Option<Bounded<32>>,
     pub passphrase: usize,
-    pub security: Chosen,
-    pub hidden: Choice,
+    pub security: Option<Word>,
+    pub hidden: Option<bool>,
 }
 
 // The addresses of a ConnMan service. The entries of a list stand at places in the file.
-#[derive(Clone, Copy)]
+#[derive(Clone, Copy, Default)]
 pub struct AddressSettings {
-    pub ipv4: Ipv4,
-    pub ipv6: Ipv6,
-    pub privacy: Chosen,
-    pub mac: Mac,
+    pub ipv4: Option<Numbers<4>>,
+    pub ipv6: Option<Numbers<16>>,
+    pub privacy: Option<Word>,
+    pub mac: Option<[u8; 6]>,
     pub nameservers: usize,
-    pub search_domains: Entries,
-    pub timeservers: Entries,
+    pub search_domains: Option<Entries>,
+    pub timeservers: Option<Entries>,
     pub domain: usize,
 }
 
 // The settings of a ConnMan service; what is absent is as in iwd's.
-#[derive(Clone, Copy)]
+#[derive(Clone, Copy, Default)]
 pub struct ServiceSettings {
     pub network: NetworkSettings,
     pub addresses: AddressSettings,

@@ -1,15 +1,14 @@
 // The settings of a ConnMan service.
-ghost use Rattle.std.specs.Prelude.{◌≡◌, []};
+ghost use Rattle.std.specs.Prelude.{◌≡◌};
 ghost use Rattle.settings.specs.Settings.{service_settings};
 ghost use Rattle.values.specs.Rows.{RowOf, RowGives};
-ghost use Rattle.settings.specs.Asked.{service_answer_of, service_answered, service_servers_after};
+ghost use Rattle.settings.specs.Asked.{service_answered, service_servers_after};
 
-use crate::iwd::store;
 use crate::{ServiceAnswer, ServiceSettings, rows};
 use addresses::Separator;
 use places::rows::base_of;
-use places::{KeyName, PLACES, Places, ROW};
-use rules::{Answer, Group, Refusal};
+use places::{KeyName, PLACES, Places};
+use rules::{Answer, Group};
 use tables::asking;
 use text::Dialect;
 
@@ -21,17 +20,6 @@ fn service_row(file: &[u8], x: &Places, row: usize) -> ServiceSettings
     ServiceSettings {
         network: rows::network_settings(file, x, row),
         addresses: rows::address_settings(file, x, row),
-    }
-}
-
-// A refusal, with settings that are all absent.
-fn refused(file: &[u8], refusal: Refusal, line: usize) -> ServiceAnswer
-    ensures { result ≡ service_answer_of (Answer.Refused refusal line) [] }
-{
-    let none = [0; PLACES];
-    ServiceAnswer {
-        answer: Answer::Refused(refusal, line),
-        settings: service_row(file, &none, ROW),
     }
 }
 
@@ -52,15 +40,15 @@ pub fn service_settings(
     match answer {
         Answer::Good => {
             let row = base_of(Group::Service, service);
-            store(
-                servers,
-                values::servers_at(Separator::Comma, file, &x, row, KeyName::Nameservers),
-            );
+            *servers = values::servers_at(Separator::Comma, file, &x, row, KeyName::Nameservers);
             ServiceAnswer {
                 answer: Answer::Good,
                 settings: service_row(file, &x, row),
             }
         }
-        Answer::Refused(refusal, line) => refused(file, refusal, line),
+        Answer::Refused(refusal, line) => ServiceAnswer {
+            answer: Answer::Refused(refusal, line),
+            settings: ServiceSettings::default(),
+        },
     }
 }

@@ -4,10 +4,10 @@ use native.Mathlib.Omega.{arith}
 use lib.ListN.{length}
 use mathlib.Core.Path.{◌≡◌, refl}
 use mathlib.Core.List.{List, [], ◌∷◌}
-use mathlib.Core.Option.{none}
+use Rattle.std.specs.Prelude.{None}
 use Rattle.tables.specs.KeyPlaces.{at_place}
 
-at_place_out : {A : Type 0} (n : ℕ) (t : List (List ℕ × A)) → (1 ≤ n → length t < n) → at_place n t ≡ none
+at_place_out : {A : Type 0} (n : ℕ) (t : List (List ℕ × A)) → (1 ≤ n → length t < n) → at_place n t ≡ None
 at_place_out n [] h = refl
 at_place_out zero (x ∷ t) h = refl
 at_place_out (suc zero) (x ∷ t) h = absurd (omega (arith, h (omega arith)))
@@ -22,5 +22,5 @@ past : (n k : ℕ) → NoneTo n k → 1 ≤ n → k < n
 past n zero r h = h
 past n (suc k) r h = let m : (n ≡ suc k → ⊥) = r.1 in omega (arith, past n k r.0 h)
 
-pub at_place_none : {A : Type 0} (n : ℕ) (t : List (List ℕ × A)) → NoneTo n (length t) → at_place n t ≡ none
+pub at_place_none : {A : Type 0} (n : ℕ) (t : List (List ℕ × A)) → NoneTo n (length t) → at_place n t ≡ None
 at_place_none n t r = at_place_out n t (past n (length t) r)

@@ -1,9 +1,9 @@
 // The groups, looked up by a header's name.
+#![tactic(auto, unfolding(rules::specs::Tables::group_of))]
+
 ghost use Rattle.std.specs.Prelude.{◌≡◌};
 ghost use Rattle.rules.specs.Tables.{is_service, group_of};
-ghost use Rattle.tables.specs.KeyPlaces.{named_answer};
 
-use crate::Named;
 use rules::Group;
 use text::words::equal;
 use text::{Class, Dialect};
@@ -24,39 +24,39 @@ fn is_service(name: &[u8]) -> bool
     false
 }
 
-fn iwd_group(name: &[u8]) -> Named
-    ensures { result ≡ named_answer (group_of Dialect.Iwd name.now) }
+fn iwd_group(name: &[u8]) -> Option<Group>
+    ensures { result ≡ group_of Dialect.Iwd name.now }
 {
     if equal(name, b"Settings") {
-        return Named::Is(Group::Settings);
+        return Some(Group::Settings);
     }
     if equal(name, b"Security") {
-        return Named::Is(Group::Security);
+        return Some(Group::Security);
     }
     if equal(name, b"IPv4") {
-        return Named::Is(Group::Ipv4);
+        return Some(Group::Ipv4);
     }
     if equal(name, b"IPv6") {
-        return Named::Is(Group::Ipv6);
+        return Some(Group::Ipv6);
     }
-    Named::Unknown
+    None
 }
 
-fn connman_group(name: &[u8]) -> Named
-    ensures { result ≡ named_answer (group_of Dialect.ConnMan name.now) }
+fn connman_group(name: &[u8]) -> Option<Group>
+    ensures { result ≡ group_of Dialect.ConnMan name.now }
 {
     if equal(name, b"global") {
-        return Named::Is(Group::Global);
+        return Some(Group::Global);
     }
     if is_service(name) {
-        return Named::Is(Group::Service);
+        return Some(Group::Service);
     }
-    Named::Unknown
+    None
 }
 
-// The group that a header's name names.
-pub fn group_of(d: Dialect, name: &[u8]) -> Named
-    ensures { result ≡ named_answer (group_of d name.now) }
+// The group that a header's name names, if it is one of the dialect's.
+pub fn group_of(d: Dialect, name: &[u8]) -> Option<Group>
+    ensures { result ≡ group_of d name.now }
 {
     match d {
         Dialect::Iwd => iwd_group(name),

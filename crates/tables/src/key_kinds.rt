@@ -1,97 +1,98 @@
 // The kind of each key, by its group and its place in it.
+#![tactic(auto, unfolding(rules::specs::Tables::keys_of), using(crate::proofs::KindPlaces::at_place_none))]
+
 ghost use Rattle.std.specs.Prelude.{◌≡◌};
 ghost use Rattle.rules.specs.Tables.{keys_of};
-ghost use Rattle.tables.specs.KeyPlaces.{kind_answer, at_place};
+ghost use Rattle.tables.specs.KeyPlaces.{at_place};
 
-use crate::KindAt;
 use addresses::Separator;
 use kinds::Kind;
 use named_words::WordList;
 use rules::Group;
 
-fn settings_kind(n: usize) -> KindAt
-    ensures { result ≡ kind_answer (at_place n (keys_of Group.Settings)) }
+fn settings_kind(n: usize) -> Option<Kind>
+    ensures { result ≡ at_place n (keys_of Group.Settings) }
 {
     match n {
-        1 => KindAt::Is(Kind::Flag),
-        2 => KindAt::Is(Kind::Flag),
-        3 => KindAt::Is(Kind::Flag),
-        4 => KindAt::Is(Kind::Mac),
-        _ => KindAt::Unknown,
+        1 => Some(Kind::Flag),
+        2 => Some(Kind::Flag),
+        3 => Some(Kind::Flag),
+        4 => Some(Kind::Mac),
+        _ => None,
     }
 }
 
-fn security_kind(n: usize) -> KindAt
-    ensures { result ≡ kind_answer (at_place n (keys_of Group.Security)) }
+fn security_kind(n: usize) -> Option<Kind>
+    ensures { result ≡ at_place n (keys_of Group.Security) }
 {
     match n {
-        1 => KindAt::Is(Kind::Passphrase),
-        2 => KindAt::Is(Kind::PreSharedKey),
-        _ => KindAt::Unknown,
+        1 => Some(Kind::Passphrase),
+        2 => Some(Kind::PreSharedKey),
+        _ => None,
     }
 }
 
-fn ipv4_kind(n: usize) -> KindAt
-    ensures { result ≡ kind_answer (at_place n (keys_of Group.Ipv4)) }
+fn ipv4_kind(n: usize) -> Option<Kind>
+    ensures { result ≡ at_place n (keys_of Group.Ipv4) }
 {
     match n {
-        1 => KindAt::Is(Kind::Address),
-        2 => KindAt::Is(Kind::Address),
-        3 => KindAt::Is(Kind::Address),
-        4 => KindAt::Is(Kind::Netmask),
-        5 => KindAt::Is(Kind::Addresses(Separator::Spaces)),
-        6 => KindAt::Is(Kind::Text(1, 253)),
-        7 => KindAt::Is(Kind::Flag),
-        _ => KindAt::Unknown,
+        1 => Some(Kind::Address),
+        2 => Some(Kind::Address),
+        3 => Some(Kind::Address),
+        4 => Some(Kind::Netmask),
+        5 => Some(Kind::Addresses(Separator::Spaces)),
+        6 => Some(Kind::Text(1, 253)),
+        7 => Some(Kind::Flag),
+        _ => None,
     }
 }
 
-fn ipv6_kind(n: usize) -> KindAt
-    ensures { result ≡ kind_answer (at_place n (keys_of Group.Ipv6)) }
+fn ipv6_kind(n: usize) -> Option<Kind>
+    ensures { result ≡ at_place n (keys_of Group.Ipv6) }
 {
     match n {
-        1 => KindAt::Is(Kind::Flag),
-        2 => KindAt::Is(Kind::Ipv6WithLength),
-        3 => KindAt::Is(Kind::Ipv6Address),
-        _ => KindAt::Unknown,
+        1 => Some(Kind::Flag),
+        2 => Some(Kind::Ipv6WithLength),
+        3 => Some(Kind::Ipv6Address),
+        _ => None,
     }
 }
 
-fn global_kind(n: usize) -> KindAt
-    ensures { result ≡ kind_answer (at_place n (keys_of Group.Global)) }
+fn global_kind(n: usize) -> Option<Kind>
+    ensures { result ≡ at_place n (keys_of Group.Global) }
 {
     match n {
-        1 => KindAt::Is(Kind::Text(1, 253)),
-        2 => KindAt::Is(Kind::Text(1, 253)),
-        _ => KindAt::Unknown,
+        1 => Some(Kind::Text(1, 253)),
+        2 => Some(Kind::Text(1, 253)),
+        _ => None,
     }
 }
 
-fn service_kind(n: usize) -> KindAt
-    ensures { result ≡ kind_answer (at_place n (keys_of Group.Service)) }
+fn service_kind(n: usize) -> Option<Kind>
+    ensures { result ≡ at_place n (keys_of Group.Service) }
 {
     match n {
-        1 => KindAt::Is(Kind::Named(WordList::ServiceType)),
-        2 => KindAt::Is(Kind::Ipv4),
-        3 => KindAt::Is(Kind::Ipv6),
-        4 => KindAt::Is(Kind::Named(WordList::Privacy)),
-        5 => KindAt::Is(Kind::Mac),
-        6 => KindAt::Is(Kind::Addresses(Separator::Comma)),
-        7 => KindAt::Is(Kind::Entries),
-        8 => KindAt::Is(Kind::Entries),
-        9 => KindAt::Is(Kind::Text(1, 253)),
-        10 => KindAt::Is(Kind::Text(1, 32)),
-        11 => KindAt::Is(Kind::Ssid),
-        12 => KindAt::Is(Kind::Passphrase),
-        13 => KindAt::Is(Kind::Named(WordList::Security)),
-        14 => KindAt::Is(Kind::Flag),
-        _ => KindAt::Unknown,
+        1 => Some(Kind::Named(WordList::ServiceType)),
+        2 => Some(Kind::Ipv4),
+        3 => Some(Kind::Ipv6),
+        4 => Some(Kind::Named(WordList::Privacy)),
+        5 => Some(Kind::Mac),
+        6 => Some(Kind::Addresses(Separator::Comma)),
+        7 => Some(Kind::Entries),
+        8 => Some(Kind::Entries),
+        9 => Some(Kind::Text(1, 253)),
+        10 => Some(Kind::Text(1, 32)),
+        11 => Some(Kind::Ssid),
+        12 => Some(Kind::Passphrase),
+        13 => Some(Kind::Named(WordList::Security)),
+        14 => Some(Kind::Flag),
+        _ => None,
     }
 }
 
-// The kind of the key at place n of a group.
-pub fn kind_at(g: Group, n: usize) -> KindAt
-    ensures { result ≡ kind_answer (at_place n (keys_of g)) }
+// The kind of the key at place n of a group, if there is one.
+pub fn kind_at(g: Group, n: usize) -> Option<Kind>
+    ensures { result ≡ at_place n (keys_of g) }
 {
     match g {
         Group::Settings => settings_kind(n),

@@ -1,11 +1,10 @@
 // The keys of each group, looked up by name.
 ghost use Rattle.std.specs.Prelude.{cond, ◌≡◌, drop};
 ghost use Rattle.text.specs.Words.{same, place};
-ghost use Rattle.rules.specs.Tables.{kind_of};
-ghost use Rattle.tables.specs.KeyPlaces.{key_names, place_from, listed_answer};
+ghost use Rattle.tables.specs.KeyPlaces.{key_names, place_from, listed_key};
 
+use crate::Listed;
 use crate::key_kinds::kind_at;
-use crate::{KindAt, Listed};
 use rules::Group;
 use text::words::equal;
 
@@ -99,6 +98,7 @@ fn service_place(key: &[u8]) -> usize
     service_front_place(key, behind)
 }
 
+// 0 is no place: `kind_at` has no kind there, as the definition `place` has no key, so that no second question is asked.
 pub fn listed_place(g: Group, key: &[u8]) -> usize
     ensures { result ≡ place key.now (key_names g) }
 {
@@ -112,14 +112,11 @@ pub fn listed_place(g: Group, key: &[u8]) -> usize
     }
 }
 
-// A key of a group: its place among the group's keys and its kind.
-pub fn key_of(g: Group, key: &[u8]) -> Listed
-    ensures { result ≡ listed_answer (place key.now (key_names g)) (kind_of g key.now) }
+// A key of a group: its place among the group's keys and its kind, if it is listed.
+pub fn key_of(g: Group, key: &[u8]) -> Option<Listed>
+    ensures { result ≡ listed_key g key.now }
 {
-    let n = listed_place(g, key);
-    let at = kind_at(g, n);
-    match at {
-        KindAt::Is(kind) => Listed::Is(n, kind),
-        KindAt::Unknown => Listed::Unknown,
-    }
+    let place = listed_place(g, key);
+    let kind = kind_at(g, place)?;
+    Some(Listed { place, kind })
 }

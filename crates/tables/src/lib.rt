@@ -11,25 +11,10 @@ pub mod keys;
 pub mod numbers;
 
 use kinds::Kind;
-use rules::Group;
-
-// The group that a header names, or that it names none.
-#[derive(Clone, Copy)]
-pub enum Named {
-    Is(Group),
-    Unknown,
-}
-
-// The kind of the key at a place, or that there is none.
-#[derive(Clone, Copy)]
-pub enum KindAt {
-    Is(Kind),
-    Unknown,
-}
 
 // A key by its place among the keys of its group, from 1, and its kind.
 #[derive(Clone, Copy)]
-pub enum Listed {
-    Is(usize, Kind),
-    Unknown,
+pub struct Listed {
+    pub place: usize,
+    pub kind: Kind,
 }

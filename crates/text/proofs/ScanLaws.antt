@@ -60,6 +60,10 @@ module _ {p : ℕ → Bool} {s : List ℕ} {k e : ℕ} (t : Scan p s k e) where
   pub scan_within : {i : ℕ} → k ≤ i → i ≤ e → Scan p s i e
   scan_within {i} l m = record { within = t.within; rest = sym (reach (i - k) i (omega arith) m) }
 
+  -- and where it goes on to the end of the text
+  pub scan_last : e ≡ length s → {i : ℕ} → k ≤ i → i ≤ length s → Scan p s i (length s)
+  scan_last w {i} l m = subst (λ (x : ℕ). Scan p s i x) w (scan_within l (omega (arith, w)))
+
   scan_byte : (i : ℕ) → k ≤ i → i < e → p (get_or s i 0) ≡ true
   scan_byte i l m = go (p (get_or s i 0)) refl
     where

@@ -1,7 +1,7 @@
 -- Laws of what holds of the elements of a list: of lists set end to end, and of what follows from it element by element.
 use Rattle.std.specs.Prelude.{List, [], ◌∷◌, ◌++◌, ◌⊎◌}
 use Rattle.std.proofs.Common.{inl, inr}
-use Rattle.text.specs.Relations.{Each, Some, Pairwise}
+use Rattle.text.specs.Relations.{Each, Any, Pairwise}
 
 module _ {A : Type 0} (P : A → Type 0) where
   pub each_append : (a b : List A) → Each P a → Each P b → Each P (a ++ b)
@@ -13,21 +13,21 @@ module _ {A : Type 0} (P : A → Type 0) where
   each_at [] x c h = h.0
   each_at (y ∷ a) x c h = each_at a x c h.1
 
-  pub some_left : (a b : List A) → Some P a → Some P (a ++ b)
+  pub some_left : (a b : List A) → Any P a → Any P (a ++ b)
   some_left [] b h = absurd h
   some_left (x ∷ a) b (inl h) = inl h
   some_left (x ∷ a) b (inr h) = inr (some_left a b h)
 
-  pub some_right : (a b : List A) → Some P b → Some P (a ++ b)
+  pub some_right : (a b : List A) → Any P b → Any P (a ++ b)
   some_right [] b h = h
   some_right (x ∷ a) b h = inr (some_right a b h)
 
-  pub some_either : (a b : List A) → Some P (a ++ b) → Some P a ⊎ Some P b
+  pub some_either : (a b : List A) → Any P (a ++ b) → Any P a ⊎ Any P b
   some_either [] b h = inr h
   some_either (x ∷ a) b (inl h) = inl (inl h)
   some_either (x ∷ a) b (inr h) = go (some_either a b h)
     where
-      go : Some P a ⊎ Some P b → Some P (x ∷ a) ⊎ Some P b
+      go : Any P a ⊎ Any P b → Any P (x ∷ a) ⊎ Any P b
       go (inl k) = inl (inr k)
       go (inr k) = inr k
 
@@ -37,7 +37,7 @@ module _ {A : Type 0} (P Q : A → Type 0) (f : (x : A) → P x → Q x) where
   each_weaken [] h = tt
   each_weaken (x ∷ xs) h = (f x h.0, each_weaken xs h.1)
 
-  pub some_weaken : (xs : List A) → Some P xs → Some Q xs
+  pub some_weaken : (xs : List A) → Any P xs → Any Q xs
   some_weaken [] h = absurd h
   some_weaken (x ∷ xs) (inl h) = inl (f x h)
   some_weaken (x ∷ xs) (inr h) = inr (some_weaken xs h)

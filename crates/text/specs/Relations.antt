@@ -7,9 +7,9 @@ Each P [] = Unit
 Each P (x ∷ xs) = P x × Each P xs
 
 -- one element is so
-abbrev pub Some : {A : Type 0} → (A → Type 0) → List A → Type 0
-Some P [] = ⊥
-Some P (x ∷ xs) = P x ⊎ Some P xs
+abbrev pub Any : {A : Type 0} → (A → Type 0) → List A → Type 0
+Any P [] = ⊥
+Any P (x ∷ xs) = P x ⊎ Any P xs
 
 -- a list of low to high elements
 pub record Sized {A : Type 0} (low high : ℕ) (l : List A) : Type 0 where

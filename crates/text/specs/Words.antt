@@ -1,9 +1,8 @@
 -- Words, and a word's place in a table of words.
-use Rattle.std.specs.Prelude.{ℕ, zero, suc, Bool, true, false, cond, ◌&&◌, List, [], ◌∷◌, eqb}
+use Rattle.std.specs.Prelude.{ℕ, zero, suc, Bool, true, false, cond, ◌&&◌, List, [], ◌∷◌, eqb, Option, None, Some}
 use Prim.Native.String.{String}
 use Prim.Native.String as S
 use Prim.Native.Char.{code}
-use Rattle.std.proofs.Math.Option.{Option, none, some}
 
 -- the bytes of a quoted text
 abbrev pub word : String → List ℕ
@@ -28,5 +27,5 @@ place w (x ∷ xs) = cond (same w x) 1 (further (place w xs))
 
 -- what a word stands for in a table of words and what they stand for
 abbrev pub named : {A : Type 0} → List ℕ → List (List ℕ × A) → Option A
-named w [] = none
-named w (x ∷ xs) = cond (same w x.0) (some x.1) (named w xs)
+named w [] = None
+named w (x ∷ xs) = cond (same w x.0) (Some x.1) (named w xs)

@@ -11,6 +11,8 @@ ghost use Rattle.std.specs.Prelude.{◌≡◌, ◌≤◌, length};
 ghost use Rattle.text.specs.ByteTable.{entry_of, chosen};
 ghost use Rattle.text.specs.Scans.{Stop};
 
+use crate::scan;
+
 pub const LETTER: u8 = 1;
 
 pub const DIGIT: u8 = 2;
@@ -80,13 +82,5 @@ pub fn masked_end(s: &[u8], from: usize, mask: u8) -> usize
     requires { from ≤ length s.now }
     ensures { Stop (chosen mask) s.now from result }
 {
-    let mut i = from;
-    while i < s.len() {
-        if is_in(s[i], mask) {
-            i += 1;
-        } else {
-            return i;
-        }
-    }
-    i
+    scan::end_of(s, from, |x| is_in(x, mask))
 }

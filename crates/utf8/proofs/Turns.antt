@@ -1,21 +1,24 @@
 -- The rows of the table by a first byte, the steps, and the turns of the loop.
-use mathlib.Core.Path.{◌≡◌, refl, ap, ap₂, sym, ◌∙◌}
-use mathlib.Core.Bool.{Bool, true, false, cond, ◌&&◌, false≢true}
+use mathlib.Core.Path.{◌≡◌, refl, ap₂, sym, ◌∙◌}
+use mathlib.Core.Bool.{Bool, true, false, cond, ◌&&◌, and-false, false≢true}
 use mathlib.Core.List.{List, [], ◌∷◌}
+use Rattle.std.specs.Prelude.{Option, None, Some}
 use Prim.Native.Nat.{ℕ, zero, suc, ◌+◌, ◌-◌, ◌≤◌, ◌<◌}
+use native.Mathlib.Nat.{le_refl}
 use native.Mathlib.Numerals.{add-one}
+use Rattle.std.proofs.lemmas.Slice.{between_to_end}
 use native.Mathlib.Omega.{arith}
 use borrow.Author.Tests.{eqb-true}
 use lib.Dec.{eqb, eqb-suc-zero}
 use lib.ListN.{length, drop, get_or, drop_of_length-le, replicate}
 use lib.Seq.{drop-cons}
 use Rattle.text.specs.Bytes.{between}
-use Rattle.text.specs.Parts.{all}
+use Rattle.text.specs.Parts.{all, part}
 use Rattle.text.specs.Scans.{Stop}
 use Rattle.text.proofs.ScanLaws.{stop_after}
-use Rattle.text.specs.Laws.{inside, under, over, and_true, below, below_at}
+use Rattle.text.specs.Laws.{inside, over, and_true, below, below_at}
 use Rattle.utf8.specs.Utf8.{Range, ◌to◌, follow, utf8_from, text, text_byte}
-use Rattle.utf8.specs.Due.{pending, ranges, StepsOver}
+use Rattle.utf8.specs.Due.{pending, ranges, due_after, StepsOver}
 use Rattle.utf8.specs.Laws.{text_after}
 use Rattle.utf8.specs.declared.Due.{Due}
 
@@ -39,16 +42,19 @@ alike_eq (q ∷ qs) (r ∷ rs) e =
 record DueRow : Type 0 where
   low : ℕ
   high : ℕ
-  due : Due
+  due : Option Due
 
 abbrev due_row : ℕ → ℕ → ℕ → ℕ → ℕ → DueRow
-due_row l h m a b = record { low = l; high = h; due = record { more = m; low = a; high = b } }
+due_row l h m a b = record { low = l; high = h; due = Some (record { more = m; low = a; high = b }) }
+
+abbrev no_row : ℕ → ℕ → DueRow
+no_row l h = record { low = l; high = h; due = None }
 
 -- the first bytes in increasing order, and what the code says is due after each
 abbrev due_rows : List DueRow
 due_rows =
     due_row 0 127 0 0 0
-    ∷ due_row 128 193 1 1 0
+    ∷ no_row 128 193
     ∷ due_row 194 223 1 128 191
     ∷ due_row 224 224 2 160 191
     ∷ due_row 225 236 2 128 191
@@ -57,23 +63,23 @@ due_rows =
     ∷ due_row 240 240 3 144 191
     ∷ due_row 241 243 3 128 191
     ∷ due_row 244 244 3 128 143
-    ∷ due_row 245 255 1 1 0
+    ∷ no_row 245 255
     ∷ []
 
 abbrev nth_row : ℕ → DueRow
-nth_row i = get_or due_rows i (due_row 1 0 0 0 0)
+nth_row i = get_or due_rows i (no_row 1 0)
 
 abbrev row_right : DueRow → ℕ → Bool
-row_right r b = cond (between r.low r.high b) (alike (ranges r.due) (follow b)) true
+row_right r b = cond (between r.low r.high b) (alike (due_after r.due) (follow b)) true
 
 tested : below (λ i. below (row_right (nth_row i)) 256) 11 ≡ true
 unfolding follow
 tested = refl
 
-pub row : (i : ℕ) → i < 11 → {r : Due} → r ≡ (nth_row i).due → {b : ℕ} → ((nth_row i).low ≤ b) × (b ≤ (nth_row i).high) × (b < 256) → ranges r ≡ follow b
-row i k e {b} h =
+pub row : (i : ℕ) → i < 11 → {b : ℕ} → ((nth_row i).low ≤ b) × (b ≤ (nth_row i).high) × (b < 256) → due_after (nth_row i).due ≡ follow b
+row i k {b} h =
     let t : row_right (nth_row i) b ≡ true = below_at (row_right (nth_row i)) 256 (below_at (λ (i : ℕ). below (row_right (nth_row i)) 256) 11 tested i k) b h.2 in
-    ap ranges e ∙ alike_eq (ranges (nth_row i).due) (follow b) (rw (inside {x = b} (nth_row i).low (nth_row i).high h.0 h.1) at t)
+    alike_eq (due_after (nth_row i).due) (follow b) (rw (inside {x = b} (nth_row i).low (nth_row i).high h.0 h.1) at t)
 
 -- ---- the steps
 
@@ -95,45 +101,47 @@ pending_cons d z = go d.more z
     go (suc m) n = let e : suc m - 1 ≡ m = omega arith in rw (e, tails m)
 
 module _ {d : Due} {b : ℕ} where
-  pub step_first : d.more ≡ 0 → {r : Due} → ranges r ≡ follow b → StepsOver d b r
+  pub step_first : d.more ≡ 0 → {r : Option Due} → due_after r ≡ follow b → StepsOver d b r
   unfolding utf8_from
   step_first z e = record { rest = λ s. rw (z, e) }
 
-  module _ (z : d.more ≡ 0 → ⊥) {r : Due} where
-    pub step_low : b < d.low → r ≡ record { more = 1; low = 1; high = 0 } → StepsOver d b r
+  module _ (z : d.more ≡ 0 → ⊥) where
+    pub step_out : between d.low d.high b ≡ false → StepsOver d b None
     unfolding utf8_from
-    step_low k e = record { rest = λ s. rw (e, pending_cons d z, under d.low d.high k) (sym (nothing s)) }
+    step_out e = record { rest = λ s. rw (pending_cons d z, e) (sym (nothing s)) }
 
-    pub step_high : d.high < b → r ≡ record { more = 1; low = 1; high = 0 } → StepsOver d b r
+    pub step_next : between d.low d.high b ≡ true → StepsOver d b (Some (record { more = d.more - 1; low = 128; high = 191 }))
     unfolding utf8_from
-    step_high k e = record { rest = λ s. rw (e, pending_cons d z, over d.low d.high k) (sym (nothing s)) }
-
-    pub step_next : d.low ≤ b → b ≤ d.high → r ≡ record { more = d.more - 1; low = 128; high = 191 } → StepsOver d b r
-    unfolding utf8_from
-    step_next k j e = record { rest = λ s. rw (e, pending_cons d z, inside d.low d.high k j) }
+    step_next e = record { rest = λ s. rw (pending_cons d z, e) }
 
 -- ---- the loop
 
--- the rest from i on is judged as the whole is
-pub record Turn (line : Bool) (s : List ℕ) (i : ℕ) (d : Due) : Type 0 where
-  pub within : i ≤ length s
-  pub rest : (all (text_byte line) (drop i s) && utf8_from (ranges d) (drop i s)) ≡ text line s
+-- the rest t from i on is judged as the whole s is
+pub record Turn (line : Bool) (s t : List ℕ) (i : ℕ) (d : Due) : Type 0 where
+  pub rest : (all (text_byte line) (drop i t) && utf8_from (ranges d) (drop i t)) ≡ text line s
 
-pub turn_first : (line : Bool) {s : List ℕ} {i : ℕ} {d : Due} → Stop (between 32 126) s 0 i → d ≡ record { more = 0; low = 0; high = 0 } → Turn line s i d
-turn_first line {s} h e = rw e (record { within = h.within; rest = rw (← stop_after h) (text_after line s) })
+pub turn_first : (line : Bool) {s : List ℕ} {i : ℕ} → Stop (between 32 126) s 0 i → Turn line s (part i (length s) s) 0 (record { more = 0; low = 0; high = 0 })
+turn_first line {s} {i} h = record { rest = rw (between_to_end s i (length s) (le_refl (length s)), ← stop_after h) (text_after line s) }
 
-module _ {line : Bool} {s : List ℕ} {i : ℕ} {d : Due} (h : Turn line s i d) where
-  pub turn_end : length s ≤ i → eqb d.more 0 ≡ text line s
+module _ {line : Bool} {s t : List ℕ} {i : ℕ} {d : Due} (h : Turn line s t i d) where
+  pub turn_end : length t ≤ i → eqb d.more 0 ≡ text line s
   unfolding utf8_from
   turn_end l = go d.more refl
     where
       go : (m : ℕ) → m ≡ d.more → eqb m 0 ≡ text line s
-      go zero e = rw (drop_of_length-le s l, ← e) at h.rest
-      go (suc m) e = rw (eqb-suc-zero m) (rw (drop_of_length-le s l, ← e) at h.rest)
+      go zero e = rw (drop_of_length-le t l, ← e) at h.rest
+      go (suc m) e = rw (eqb-suc-zero m) (rw (drop_of_length-le t l, ← e) at h.rest)
 
-  module _ (l : i < length s) where
-    pub turn_not : text_byte line (get_or s i 0) ≡ false → false ≡ text line s
-    turn_not e = rw (drop-cons s i 0 l, e) at h.rest
+  module _ (l : i < length t) where
+    pub turn_not : text_byte line (get_or t i 0) ≡ false → false ≡ text line s
+    turn_not e = rw (drop-cons t i 0 l, e) at h.rest
 
-    pub turn : text_byte line (get_or s i 0) ≡ true → {r : Due} → StepsOver d (get_or s i 0) r → Turn line s (i + 1) r
-    turn e g = record { within = omega arith; rest = rw (add-one i, ← g.rest (drop (suc i) s)) (rw (drop-cons s i 0 l, e) at h.rest) }
+    next : text_byte line (get_or t i 0) ≡ true → {r : Option Due} → StepsOver d (get_or t i 0) r →
+        (all (text_byte line) (drop (suc i) t) && utf8_from (due_after r) (drop (suc i) t)) ≡ text line s
+    next e g = rw (← g.rest (drop (suc i) t)) (rw (drop-cons t i 0 l, e) at h.rest)
+
+    pub turn_out : text_byte line (get_or t i 0) ≡ true → StepsOver d (get_or t i 0) None → false ≡ text line s
+    turn_out e g = sym (rw (nothing (drop (suc i) t), and-false (all (text_byte line) (drop (suc i) t)))) ∙ next e g
+
+    pub turn : text_byte line (get_or t i 0) ≡ true → {r : Due} → StepsOver d (get_or t i 0) (Some r) → Turn line s t (i + 1) r
+    turn e g = record { rest = rw (add-one i) (next e g) }

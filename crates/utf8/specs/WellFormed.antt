@@ -1,7 +1,7 @@
 -- "UTF-8 is the Unicode standard's well-formed UTF-8": its table 3-7 row by row. `WellFormedLaws` shows that `utf8`
 -- keeps to it.
 use Rattle.std.specs.Prelude.{ℕ, ◌≤◌, List, [], ◌∷◌, ◌++◌}
-use Rattle.text.specs.Relations.{Some, Pairwise}
+use Rattle.text.specs.Relations.{Any, Pairwise}
 use Rattle.utf8.specs.Utf8.{Range, ◌to◌}
 
 -- table 3-7, "Well-Formed UTF-8 Byte Sequences": for each row the ranges of its first, second, third and fourth bytes
@@ -25,7 +25,7 @@ pub record InRange (r : Range) (b : ℕ) : Type 0 where
 
 -- the bytes of one character: each of the range at its place in a row of the table
 abbrev pub Character : List ℕ → Type 0
-Character bytes = Some (λ row. Pairwise InRange row bytes) byte_sequences
+Character bytes = Any (λ row. Pairwise InRange row bytes) byte_sequences
 
 -- well-formed: nothing but characters, one after the other
 pub data WellFormedUtf8 : List ℕ → Type 0 where

@@ -3,7 +3,7 @@ use Rattle.std.specs.Prelude.{ℕ, suc, ◌≤◌, ◌≡◌, refl, Bool, true, 
 use Rattle.std.proofs.Common.{arith, ap, ◌∙◌, subst, inl, inr}
 use Rattle.std.proofs.lemmas.Bool.{false≢true}
 use Rattle.text.specs.Bytes.{between}
-use Rattle.text.specs.Relations.{Some, Pairwise}
+use Rattle.text.specs.Relations.{Any, Pairwise}
 use Rattle.text.specs.Laws.{and_true, inside, over, between_low, between_high}
 use Rattle.utf8.specs.Utf8.{Range, ◌to◌, follow, utf8_from, utf8}
 use Rattle.utf8.specs.WellFormed.{byte_sequences, InRange, Character, WellFormedUtf8, no_more, character}
@@ -33,7 +33,7 @@ table_apart =
 
 -- the bytes of one of the rows
 abbrev InRow : List (List Range) → List ℕ → Type 0
-InRow rows q = Some (λ row. Pairwise InRange row q) rows
+InRow rows q = Any (λ row. Pairwise InRange row q) rows
 
 within_between : (r : Range) (b : ℕ) → InRange r b → between r.low r.high b ≡ true
 within_between r b h = inside {x = b} r.low r.high h.least h.most

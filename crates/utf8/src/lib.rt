@@ -3,7 +3,7 @@
 
 ghost use Rattle.std.specs.Prelude.{◌≡◌, ◌≤◌, length};
 ghost use Rattle.utf8.specs.Utf8.{follow, text_byte, text, value_text, record_text};
-ghost use Rattle.utf8.specs.Due.{ranges, StepsOver};
+ghost use Rattle.utf8.specs.Due.{due_after, StepsOver};
 
 // The bytes due after a first byte: how many more, and the range of the next. Each one after it is 128 to 191.
 #[derive(Clone, Copy)]
@@ -13,91 +13,80 @@ pub struct Due {
     pub high: u8,
 }
 
-fn next_due(more: u8, low: u8, high: u8) -> Due
-    ensures { result ≡ record { more = more; low = low; high = high } }
+// Before a first byte.
+const NOTHING_DUE: Due = Due {
+    more: 0,
+    low: 0,
+    high: 0,
+};
+
+// What is due after the first byte b, where b is first in a sequence: the rows of table 3-7. By comparing, since of a match on single
+// bytes the compiler makes a table of jumps, which takes longer.
+fn follows(b: u8) -> Option<Due>
+    ensures { due_after result ≡ follow b }
 {
-    Due { more, low, high }
+    let (more, low, high) = if b <= 127 {
+        (0, 0, 0)
+    } else if b <= 193 {
+        return None;
+    } else if b <= 223 {
+        (1, 128, 191)
+    } else if b <= 224 {
+        (2, 160, 191)
+    } else if b <= 236 {
+        (2, 128, 191)
+    } else if b <= 237 {
+        (2, 128, 159)
+    } else if b <= 239 {
+        (2, 128, 191)
+    } else if b <= 240 {
+        (3, 144, 191)
+    } else if b <= 243 {
+        (3, 128, 191)
+    } else if b <= 244 {
+        (3, 128, 143)
+    } else {
+        return None;
+    };
+    Some(Due { more, low, high })
 }
 
-// What is due after the first byte b; a byte in no range where b is first in no sequence.
-fn follows(b: u8) -> Due
-    ensures { ranges result ≡ follow b }
-{
-    if b <= 127 {
-        return next_due(0, 0, 0);
-    }
-    if b <= 193 {
-        return next_due(1, 1, 0);
-    }
-    if b <= 223 {
-        return next_due(1, 128, 191);
-    }
-    if b <= 224 {
-        return next_due(2, 160, 191);
-    }
-    if b <= 236 {
-        return next_due(2, 128, 191);
-    }
-    if b <= 237 {
-        return next_due(2, 128, 159);
-    }
-    if b <= 239 {
-        return next_due(2, 128, 191);
-    }
-    if b <= 240 {
-        return next_due(3, 144, 191);
-    }
-    if b <= 243 {
-        return next_due(3, 128, 191);
-    }
-    if b <= 244 {
-        return next_due(3, 128, 143);
-    }
-    next_due(1, 1, 0)
-}
-
-// What is due after the byte b, where d was due before it.
-fn step(d: Due, b: u8) -> Due
+// What is due after the byte b, where d was due before it and b is as it says.
+fn step(d: Due, b: u8) -> Option<Due>
     ensures { StepsOver d b result }
 {
     if d.more == 0 {
         return follows(b);
     }
-    if b < d.low {
-        return next_due(1, 1, 0);
+    if !text::classes::within(d.low, d.high, b) {
+        return None;
     }
-    if d.high < b {
-        return next_due(1, 1, 0);
-    }
-    next_due(d.more - 1, 128, 191)
+    Some(Due {
+        more: d.more - 1,
+        low: 128,
+        high: 191,
+    })
 }
 
 fn is_text_byte(line: bool, b: u8) -> bool
     ensures { result ≡ text_byte line b }
 {
-    if b == 0 {
-        return false;
-    }
-    if line {
-        return b != 13;
-    }
-    true
+    b != 0 && !(line && b == 13)
 }
 
 // Whether s is UTF-8 without byte 0 and, where it stands on a line, without byte 13. Printable ASCII is passed in blocks.
 fn is_text(s: &[u8], line: bool) -> bool
     ensures { result ≡ text line s.now }
 {
-    let mut i = text::scan::printable_end(s, 0);
-    let mut d = next_due(0, 0, 0);
-    while i < s.len() {
-        let b = s[i];
-        if is_text_byte(line, b) {
-            d = step(d, b);
-            i += 1;
-        } else {
+    let mut d = NOTHING_DUE;
+    for &b in &s[text::scan::printable_end(s, 0)..] {
+        if !is_text_byte(line, b) {
             return false;
         }
+        let Some(next) = step(d, b) else {
+            return false;
+        };
+        d = next;
     }
     d.more == 0
 }

@@ -1,10 +1,10 @@
 -- What a row keeps of a key, read by its kind.
-use Prim.Native.Nat.{ℕ, ◌≤◌}
+use Prim.Native.Nat.{ℕ, zero, suc, ◌≤◌}
 use native.Mathlib.Omega.{arith}
 use mathlib.Core.Path.{◌≡◌, refl, ap, sym, ◌∙◌, subst}
 use mathlib.Core.Bool.{Bool, true, false}
 use mathlib.Core.List.{List, []}
-use mathlib.Core.Option.{Option, none, some}
+use Rattle.std.specs.Prelude.{Option, None, Some}
 use Rattle.text.specs.Options.{and_then}
 use Rattle.text.specs.Words.{word}
 use Rattle.text.specs.declared.Dialect.{Dialect}
@@ -22,7 +22,7 @@ use Rattle.addresses.specs.MaskRuleLaws.{netmask_good}
 use Rattle.kinds.specs.declared.Kind.{Kind}
 use Rattle.kinds.specs.declared.Kind.TheVariants.{Flag, Named, Netmask}
 use Rattle.named_words.specs.declared.Word.{Word}
-use Rattle.named_words.specs.declared.Word.TheVariants.{Wifi, Ethernet, Disabled, Enabled, Preferred, Psk, Ieee8021x, None, Wep}
+use Rattle.named_words.specs.declared.Word.TheVariants.{Wifi, Ethernet, Disabled, Enabled, Preferred, Psk, Ieee8021x, Wep}
 use Rattle.named_words.specs.declared.WordList.{WordList}
 use Rattle.rules.specs.WordNumbers.{is_word, word_number}
 use Rattle.rules.specs.Asking.{read_as, entry_line, entry_start}
@@ -37,50 +37,49 @@ use Rattle.places.specs.declared.KeyName.{KeyName}
 use Rattle.places.specs.declared.KeyName.TheVariants as N
 use Rattle.places.proofs.RowKeys.{row_key, row_in, CodedBy, coded_word, coded_flag, coded_mask, kept_word}
 use Rattle.places.proofs.Values.{kept_read, kept_line, kept_start}
-use Rattle.values.specs.Values.{choice, chosen, length_or0}
-use Rattle.values.specs.Codes.{choice_by, chosen_by}
+use Rattle.values.specs.Codes.{choice_by, chosen_by, mask_by}
 use Rattle.values.specs.Rows.{RowOf, MaskIn, IwdRows}
 
 -- ---- no kind reads a value from no bytes
 
-pub address_none : address [] ≡ none
+pub address_none : address [] ≡ None
 unfolding address number decimal_value
 address_none = refl
 
-pub addresses_none : (s : Separator) → addresses s [] ≡ none
+pub addresses_none : (s : Separator) → addresses s [] ≡ None
 unfolding addresses address number decimal_value
 addresses_none Spaces = refl
 addresses_none Comma = refl
 
-pub ipv4_none : ipv4 [] ≡ none
+pub ipv4_none : ipv4 [] ≡ None
 unfolding ipv4
 ipv4_none = refl
 
-pub ipv6_none : ipv6 [] ≡ none
+pub ipv6_none : ipv6 [] ≡ None
 unfolding ipv6 halves side
 ipv6_none = refl
 
-pub connman_ipv6_none : connman_ipv6 [] ≡ none
+pub connman_ipv6_none : connman_ipv6 [] ≡ None
 unfolding connman_ipv6
 connman_ipv6_none = refl
 
-pub with_length_none : with_length [] ≡ none
+pub with_length_none : with_length [] ≡ None
 unfolding with_length
 with_length_none = rw ipv6_none
 
-pub entries_none : entries [] ≡ none
+pub entries_none : entries [] ≡ None
 unfolding entries
 entries_none = refl
 
-pub mac_none : mac [] ≡ none
+pub mac_none : mac [] ≡ None
 unfolding mac
 mac_none = refl
 
-pub key_none : pre_shared_key_of [] ≡ none
+pub key_none : pre_shared_key_of [] ≡ None
 unfolding pre_shared_key_of
 key_none = refl
 
-pub ssid_none : ssid [] ≡ none
+pub ssid_none : ssid [] ≡ None
 unfolding ssid
 ssid_none = refl
 
@@ -106,18 +105,18 @@ abbrev pub IfText : KeyName → Type 0 → Type 0
 IfText k A = When (is_text (key_kind k)) A
 
 module _ {d : Dialect} {file x : List ℕ} {b : ℕ} (k : KeyName) {es : List Entry} (h : RowKeeps d file x b (key_group k) es) where
-  pub row_read : {A : Type 0} (f : List ℕ → Option A) → f [] ≡ none → IfText k (f (bytes_of file x b k) ≡ read_as f (entry_of (name_of k) es))
-  row_read f q = when (is_text (key_kind k)) (λ t. kept_read d (some (key_kind k)) file (key_slot x b k) f q t (entry_of (name_of k) es) (row_key k h))
+  pub row_read : {A : Type 0} (f : List ℕ → Option A) → f [] ≡ None → IfText k (f (bytes_of file x b k) ≡ read_as f (entry_of (name_of k) es))
+  row_read f q = when (is_text (key_kind k)) (λ t. kept_read d (Some (key_kind k)) file (key_slot x b k) f q t (entry_of (name_of k) es) (row_key k h))
 
   pub row_line : (key_slot x b k).line ≡ entry_line (entry_of (name_of k) es)
-  row_line = kept_line d (some (key_kind k)) file (key_slot x b k) (entry_of (name_of k) es) (row_key k h)
+  row_line = kept_line d (Some (key_kind k)) file (key_slot x b k) (entry_of (name_of k) es) (row_key k h)
 
   pub row_start : IfText k ((key_slot x b k).start ≡ entry_start (entry_of (name_of k) es))
-  row_start = when (is_text (key_kind k)) (λ t. kept_start d (some (key_kind k)) file (key_slot x b k) t (entry_of (name_of k) es) (row_key k h))
+  row_start = when (is_text (key_kind k)) (λ t. kept_start d (Some (key_kind k)) file (key_slot x b k) t (entry_of (name_of k) es) (row_key k h))
 
 -- ---- a yes/no and a word by their codes
 
-word_back : (u : Word) → chosen_by (word_number u) ≡ chosen (some u)
+word_back : (u : Word) → chosen_by (word_number u) ≡ Some u
 unfolding chosen_by
 word_back Wifi = refl
 word_back Ethernet = refl
@@ -126,31 +125,35 @@ word_back Enabled = refl
 word_back Preferred = refl
 word_back Psk = refl
 word_back Ieee8021x = refl
-word_back None = refl
+word_back Word.None = refl
 word_back Wep = refl
 
-flag_back : (b : Bool) → choice_by (flag_code b) ≡ choice (some b)
+flag_back : (b : Bool) → choice_by (flag_code b) ≡ Some b
 flag_back false = refl
 flag_back true = refl
 
--- what a slot's code gives, where the code of no setting gives what is absent and that of a value what it is
-by_code : {A B : Type 0} (back : ℕ → B) (give : Option A → B) (f : List ℕ → Option A) (code : A → ℕ) → back 0 ≡ give none → ((a : A) → back (code a) ≡ give (some a)) → (d : Dialect) (k : Kind) (file : List ℕ) (s : Slot) (o : Option Entry) → ((v : List ℕ) → Coded d (some k) v s.code → CodedBy f code v s.code) → SlotKeeps d (some k) file s o → back s.code ≡ give (read_as f o)
-by_code back give f code z b d k file s none c q = ap (λ (t : Slot). back t.code) q ∙ z
-by_code back give f code z b d k file s (some e) c h = let w = c e.value h.code in ap back w.code ∙ b w.value ∙ sym (ap give w.is)
+mask_back : (n : ℕ) → 1 ≤ n → mask_by n ≡ Some n
+mask_back zero h = absurd (omega (arith, h))
+mask_back (suc n) h = refl
 
-pub word_by_lem : (d : Dialect) (l : WordList) (file : List ℕ) (s : Slot) (o : Option Entry) → SlotKeeps d (some (Named l)) file s o → chosen_by s.code ≡ chosen (read_as (word_of l) o)
+-- what a slot's code gives, where the code of no setting gives nothing and that of a value the value
+by_code : {A : Type 0} (back : ℕ → Option A) (f : List ℕ → Option A) (code : A → ℕ) → back 0 ≡ None → ((v : List ℕ) (a : A) → f v ≡ Some a → back (code a) ≡ Some a) → (d : Dialect) (k : Kind) (file : List ℕ) (s : Slot) (o : Option Entry) → ((v : List ℕ) → Coded d (Some k) v s.code → CodedBy f code v s.code) → SlotKeeps d (Some k) file s o → back s.code ≡ read_as f o
+by_code back f code z b d k file s None c q = ap (λ (t : Slot). back t.code) q ∙ z
+by_code back f code z b d k file s (Some e) c h = let w = c e.value h.code in ap back w.code ∙ b e.value w.value w.is ∙ sym w.is
+
+pub word_by_lem : (d : Dialect) (l : WordList) (file : List ℕ) (s : Slot) (o : Option Entry) → SlotKeeps d (Some (Named l)) file s o → chosen_by s.code ≡ read_as (word_of l) o
 unfolding chosen_by
-word_by_lem d l file s o h = by_code chosen_by chosen (word_of l) word_number refl word_back d (Named l) file s o (λ v c. coded_word d l v c) h
+word_by_lem d l file s o h = by_code chosen_by (word_of l) word_number refl (λ v u e. word_back u) d (Named l) file s o (λ v c. coded_word d l v c) h
 
-pub flag_by : (d : Dialect) (file : List ℕ) (s : Slot) (o : Option Entry) → SlotKeeps d (some Flag) file s o → choice_by s.code ≡ choice (read_as (flag d) o)
-flag_by d file s o h = by_code choice_by choice (flag d) flag_code refl flag_back d Flag file s o (λ v c. coded_flag d v c) h
+pub flag_by : (d : Dialect) (file : List ℕ) (s : Slot) (o : Option Entry) → SlotKeeps d (Some Flag) file s o → choice_by s.code ≡ read_as (flag d) o
+flag_by d file s o h = by_code choice_by (flag d) flag_code refl (λ v b e. flag_back b) d Flag file s o (λ v c. coded_flag d v c) h
 
-mask_by : (d : Dialect) (file : List ℕ) (s : Slot) (o : Option Entry) → SlotKeeps d (some Netmask) file s o → s.code ≡ length_or0 (read_as netmask o)
-mask_by d file s o h = by_code (λ n. n) length_or0 netmask (λ m. m) refl (λ m. refl) d Netmask file s o (λ v c. coded_mask d v c) h
+mask_by_lem : (d : Dialect) (file : List ℕ) (s : Slot) (o : Option Entry) → SlotKeeps d (Some Netmask) file s o → mask_by s.code ≡ read_as netmask o
+mask_by_lem d file s o h = by_code mask_by netmask (λ m. m) refl (λ v m e. mask_back m (netmask_good v e).0) d Netmask file s o (λ v c. coded_mask d v c) h
 
-mask_few : (d : Dialect) (file : List ℕ) (s : Slot) (o : Option Entry) → SlotKeeps d (some Netmask) file s o → s.code ≤ 32
-mask_few d file s none q = rw (ap (λ (t : Slot). t.code) q) (omega arith)
-mask_few d file s (some e) h = let w = coded_mask d e.value h.code in omega (arith, w.code, (netmask_good e.value w.is).1)
+mask_few : (d : Dialect) (file : List ℕ) (s : Slot) (o : Option Entry) → SlotKeeps d (Some Netmask) file s o → s.code ≤ 32
+mask_few d file s None q = rw (ap (λ (t : Slot). t.code) q) (omega arith)
+mask_few d file s (Some e) h = let w = coded_mask d e.value h.code in omega (arith, w.code, (netmask_good e.value w.is).1)
 
 pub mask_in : {d : Dialect} {file x : List ℕ} {b : ℕ} → RowOf d file x b G.Ipv4 → MaskIn x b N.Netmask
 mask_in {d} {file} {x} {b} h = record { table = h.table; small = mask_few d file (key_slot x b N.Netmask) (entry_of (word "Netmask") h.settings) (row_key N.Netmask h.row) }
@@ -158,14 +161,14 @@ mask_in {d} {file} {x} {b} h = record { table = h.table; small = mask_few d file
 -- the same of a key of a row
 module _ {d : Dialect} {file x : List ℕ} {b : ℕ} (k : KeyName) {es : List Entry} (h : RowKeeps d file x b (key_group k) es) where
   pub row_word : (l : WordList) → key_kind k ≡ Named l → (w : Word) → slot_is x b k w ≡ is_word w (read_as (word_of l) (entry_of (name_of k) es))
-  row_word l e w = kept_word d l file (key_slot x b k) (entry_of (name_of k) es) (subst (λ (i : Kind). SlotKeeps d (some i) file (key_slot x b k) (entry_of (name_of k) es)) e (row_key k h)) w ∙ ap (is_word w) (then_read (entry_of (name_of k) es))
+  row_word l e w = kept_word d l file (key_slot x b k) (entry_of (name_of k) es) (subst (λ (i : Kind). SlotKeeps d (Some i) file (key_slot x b k) (entry_of (name_of k) es)) e (row_key k h)) w ∙ ap (is_word w) (then_read (entry_of (name_of k) es))
     where
       then_read : (o : Option Entry) → and_then o (λ e. word_of l e.value) ≡ read_as (word_of l) o
-      then_read none = refl
-      then_read (some e) = refl
+      then_read None = refl
+      then_read (Some e) = refl
 
-  pub row_flag : key_kind k ≡ Flag → choice_by (key_slot x b k).code ≡ choice (read_as (flag d) (entry_of (name_of k) es))
-  row_flag e = flag_by d file (key_slot x b k) (entry_of (name_of k) es) (subst (λ (i : Kind). SlotKeeps d (some i) file (key_slot x b k) (entry_of (name_of k) es)) e (row_key k h))
+  pub row_flag : key_kind k ≡ Flag → choice_by (key_slot x b k).code ≡ read_as (flag d) (entry_of (name_of k) es)
+  row_flag e = flag_by d file (key_slot x b k) (entry_of (name_of k) es) (subst (λ (i : Kind). SlotKeeps d (Some i) file (key_slot x b k) (entry_of (name_of k) es)) e (row_key k h))
 
-pub row_mask : {d : Dialect} {file x : List ℕ} {b : ℕ} {es : List Entry} → RowKeeps d file x b G.Ipv4 es → (key_slot x b N.Netmask).code ≡ length_or0 (read_as netmask (entry_of (word "Netmask") es))
-row_mask {d} {file} {x} {b} {es} h = mask_by d file (key_slot x b N.Netmask) (entry_of (word "Netmask") es) (row_key N.Netmask h)
+pub row_mask : {d : Dialect} {file x : List ℕ} {b : ℕ} {es : List Entry} → RowKeeps d file x b G.Ipv4 es → mask_by (key_slot x b N.Netmask).code ≡ read_as netmask (entry_of (word "Netmask") es)
+row_mask {d} {file} {x} {b} {es} h = mask_by_lem d file (key_slot x b N.Netmask) (entry_of (word "Netmask") es) (row_key N.Netmask h)

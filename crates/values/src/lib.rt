@@ -1,143 +1,129 @@
 // The typed value of one key, by its row and its name in the table of places: one reader for each kind of document 01's
-// section "Settings and their kinds".
+// section "Settings and their kinds". It is absent where the row keeps no setting with this key.
 //
 // A slot that keeps nothing has no bytes, and no kind reads a value from none.
 #![tactic(auto)]
 
 ghost use Rattle.std.specs.Prelude.{◌≡◌, length};
-ghost use Rattle.addresses.specs.Addresses.{address, addresses, address_answer, rows};
+ghost use Rattle.text.specs.Options.{mapped, or_empty};
+ghost use Rattle.addresses.specs.Addresses.{address, addresses, rows};
+ghost use Rattle.addressing.specs.Numbers.{numbers_laid};
 ghost use Rattle.ipv6.specs.Ipv6.{ipv6};
 ghost use Rattle.connman_ipv4.specs.ConnmanIpv4.{ipv4};
 ghost use Rattle.ipv6_values.specs.Ipv6Values.{connman_ipv6, with_length};
+ghost use Rattle.ipv6_values.specs.Layout.{with_length_laid};
 ghost use Rattle.hex_values.specs.HexValues.{mac, ssid, pre_shared_key_of};
+ghost use Rattle.put.specs.Texts.{bounded};
 ghost use Rattle.entry_lists.specs.EntryLists.{entries};
-ghost use Rattle.ipv6.specs.Answers.{ipv6_answer};
-ghost use Rattle.connman_ipv4.specs.Answers.{ipv4_answer};
-ghost use Rattle.ipv6_values.specs.Answers.{connman_ipv6_answer, with_length_answer};
-ghost use Rattle.hex_values.specs.Answers.{mac_answer, ssid_answer, pre_shared_key_answer};
-ghost use Rattle.entry_lists.specs.Answers.{entries_answer};
+ghost use Rattle.entry_lists.specs.Places.{entries_laid};
 ghost use Rattle.places.specs.KeySlots.{key_slot, bytes_of, RowInTable, ValueInFile};
-ghost use Rattle.values.specs.Codes.{choice_by, chosen_by};
+ghost use Rattle.values.specs.Codes.{choice_by, chosen_by, mask_by};
 ghost use Rattle.values.specs.Rows.{MaskIn};
-ghost use Rattle.text.specs.Options.{or_empty};
 
-use addresses::{Address, Separator};
-use connman_ipv4::Ipv4;
+use addresses::Separator;
+use addressing::Numbers;
 use entry_lists::Entries;
-use hex_values::{Mac, PreSharedKey, Ssid};
-use ipv6_values::{Ipv6, WithLength};
+use ipv6_values::WithLength;
 use named_words::Word;
 use places::rows::{code_of, start_of, value_of};
 use places::{KeyName, Places};
-
-// A yes/no that may be absent.
-#[derive(Clone, Copy)]
-pub enum Choice {
-    Absent,
-    No,
-    Yes,
-}
-
-// A named word that may be absent.
-#[derive(Clone, Copy)]
-pub enum Chosen {
-    Absent,
-    Is(Word),
-}
+use put::Bounded;
 
 // A yes/no by its code.
-pub fn choice_at(x: &Places, row: usize, k: KeyName) -> Choice
+pub fn choice_at(x: &Places, row: usize, k: KeyName) -> Option<bool>
     requires { RowInTable x.now row }
     ensures { result ≡ choice_by (key_slot x.now row k).code }
 {
-    let n = code_of(x, row, k);
-    match n {
-        1 => Choice::No,
-        2 => Choice::Yes,
-        _ => Choice::Absent,
+    match code_of(x, row, k) {
+        1 => Some(false),
+        2 => Some(true),
+        _ => None,
     }
 }
 
 // A word by its code.
-pub fn chosen_at(x: &Places, row: usize, k: KeyName) -> Chosen
+#[tactic(auto, unfolding(crate::specs::Codes::chosen_by))]
+pub fn chosen_at(x: &Places, row: usize, k: KeyName) -> Option<Word>
     requires { RowInTable x.now row }
     ensures { result ≡ chosen_by (key_slot x.now row k).code }
 {
-    let n = code_of(x, row, k);
-    match n {
-        1 => Chosen::Is(Word::Wifi),
-        2 => Chosen::Is(Word::Ethernet),
-        3 => Chosen::Is(Word::Disabled),
-        4 => Chosen::Is(Word::Enabled),
-        5 => Chosen::Is(Word::Preferred),
-        6 => Chosen::Is(Word::Psk),
-        7 => Chosen::Is(Word::Ieee8021x),
-        8 => Chosen::Is(Word::None),
-        9 => Chosen::Is(Word::Wep),
-        _ => Chosen::Absent,
+    match code_of(x, row, k) {
+        1 => Some(Word::Wifi),
+        2 => Some(Word::Ethernet),
+        3 => Some(Word::Disabled),
+        4 => Some(Word::Enabled),
+        5 => Some(Word::Preferred),
+        6 => Some(Word::Psk),
+        7 => Some(Word::Ieee8021x),
+        8 => Some(Word::None),
+        9 => Some(Word::Wep),
+        _ => None,
     }
 }
 
-pub fn address_at(file: &[u8], x: &Places, row: usize, k: KeyName) -> Address
+pub fn address_at(file: &[u8], x: &Places, row: usize, k: KeyName) -> Option<[u8; 4]>
     requires { ValueInFile file.now x.now row k }
-    ensures { result ≡ address_answer (address (bytes_of file.now x.now row k)) }
+    ensures { result ≡ address (bytes_of file.now x.now row k) }
 {
     addresses::numbers::read_address(value_of(file, x, row, k))
 }
 
-// A mask's length by its code, 0 where there is none.
-pub fn netmask_at(x: &Places, row: usize, k: KeyName) -> u8
+// A mask's length by its code.
+pub fn netmask_at(x: &Places, row: usize, k: KeyName) -> Option<u8>
     requires { MaskIn x.now row k }
-    ensures { result ≡ (key_slot x.now row k).code }
+    ensures { result ≡ mask_by (key_slot x.now row k).code }
 {
-    code_of(x, row, k) as u8
+    match code_of(x, row, k) {
+        0 => None,
+        n => Some(n as u8),
+    }
 }
 
-pub fn ipv4_at(file: &[u8], x: &Places, row: usize, k: KeyName) -> Ipv4
+pub fn ipv4_at(file: &[u8], x: &Places, row: usize, k: KeyName) -> Option<Numbers<4>>
     requires { ValueInFile file.now x.now row k }
-    ensures { result ≡ ipv4_answer (ipv4 (bytes_of file.now x.now row k)) }
+    ensures { result ≡ mapped (numbers_laid 4) (ipv4 (bytes_of file.now x.now row k)) }
 {
     connman_ipv4::read_ipv4(value_of(file, x, row, k))
 }
 
-pub fn ipv6_at(file: &[u8], x: &Places, row: usize, k: KeyName) -> Ipv6
+pub fn ipv6_at(file: &[u8], x: &Places, row: usize, k: KeyName) -> Option<Numbers<16>>
     requires { ValueInFile file.now x.now row k }
-    ensures { result ≡ connman_ipv6_answer (connman_ipv6 (bytes_of file.now x.now row k)) }
+    ensures { result ≡ mapped (numbers_laid 16) (connman_ipv6 (bytes_of file.now x.now row k)) }
 {
     ipv6_values::read_ipv6(value_of(file, x, row, k))
 }
 
-pub fn ipv6_address_at(file: &[u8], x: &Places, row: usize, k: KeyName) -> ipv6::Address
+pub fn ipv6_address_at(file: &[u8], x: &Places, row: usize, k: KeyName) -> Option<[u8; 16]>
     requires { ValueInFile file.now x.now row k }
-    ensures { result ≡ ipv6_answer (ipv6 (bytes_of file.now x.now row k)) }
+    ensures { result ≡ ipv6 (bytes_of file.now x.now row k) }
 {
     ipv6::reading::read_address(value_of(file, x, row, k))
 }
 
-pub fn with_length_at(file: &[u8], x: &Places, row: usize, k: KeyName) -> WithLength
+pub fn with_length_at(file: &[u8], x: &Places, row: usize, k: KeyName) -> Option<WithLength>
     requires { ValueInFile file.now x.now row k }
-    ensures { result ≡ with_length_answer (with_length (bytes_of file.now x.now row k)) }
+    ensures { result ≡ mapped with_length_laid (with_length (bytes_of file.now x.now row k)) }
 {
     ipv6_values::read_with_length(value_of(file, x, row, k))
 }
 
-pub fn mac_at(file: &[u8], x: &Places, row: usize, k: KeyName) -> Mac
+pub fn mac_at(file: &[u8], x: &Places, row: usize, k: KeyName) -> Option<[u8; 6]>
     requires { ValueInFile file.now x.now row k }
-    ensures { result ≡ mac_answer (mac (bytes_of file.now x.now row k)) }
+    ensures { result ≡ mac (bytes_of file.now x.now row k) }
 {
     hex_values::read_mac(value_of(file, x, row, k))
 }
 
-pub fn key_at(file: &[u8], x: &Places, row: usize, k: KeyName) -> PreSharedKey
+pub fn key_at(file: &[u8], x: &Places, row: usize, k: KeyName) -> Option<[u8; 32]>
     requires { ValueInFile file.now x.now row k }
-    ensures { result ≡ pre_shared_key_answer (pre_shared_key_of (bytes_of file.now x.now row k)) }
+    ensures { result ≡ pre_shared_key_of (bytes_of file.now x.now row k) }
 {
     hex_values::read_pre_shared_key(value_of(file, x, row, k))
 }
 
-pub fn ssid_at(file: &[u8], x: &Places, row: usize, k: KeyName) -> Ssid
+pub fn ssid_at(file: &[u8], x: &Places, row: usize, k: KeyName) -> Option<Bounded<32>>
     requires { ValueInFile file.now x.now row k }
-    ensures { result ≡ ssid_answer (ssid (bytes_of file.now x.now row k)) }
+    ensures { result ≡ mapped (bounded 32) (ssid (bytes_of file.now x.now row k)) }
 {
     hex_values::read_ssid(value_of(file, x, row, k))
 }
@@ -175,9 +161,9 @@ pub fn list_at(
 }
 
 // The entries of a list, by their places in the file.
-pub fn entries_at(file: &[u8], x: &Places, row: usize, k: KeyName) -> Entries
+pub fn entries_at(file: &[u8], x: &Places, row: usize, k: KeyName) -> Option<Entries>
     requires { ValueInFile file.now x.now row k }
-    ensures { result ≡ entries_answer (key_slot x.now row k).start (entries (bytes_of file.now x.now row k)) }
+    ensures { result ≡ mapped (entries_laid (key_slot x.now row k).start) (entries (bytes_of file.now x.now row k)) }
 {
     entry_lists::read_entries(value_of(file, x, row, k), start_of(x, row, k))
 }

@@ -4,7 +4,8 @@ use mathlib.Core.Path.{◌≡◌}
 use mathlib.Core.List.{List}
 use Rattle.text.specs.Words.{word}
 use Rattle.text.specs.declared.Dialect.{Dialect}
-use Rattle.named_words.specs.declared.Word.TheVariants.{Wifi, Ethernet, Psk, None}
+use Rattle.named_words.specs.declared.Word.{Word}
+use Rattle.named_words.specs.declared.Word.TheVariants.{Wifi, Ethernet, Psk}
 use Rattle.named_words.specs.declared.WordList.TheVariants as W
 use Rattle.rules.specs.Groups.{service_fault}
 use Rattle.rules.specs.Sections.{Entry, entry_of}
@@ -29,5 +30,5 @@ module _ {d : Dialect} {file x : List ℕ} {b : ℕ} {es : List Entry} (h : RowK
         kept_word d W.ServiceType file (slot (b + key_place N.Type) x) (entry_of (word "Type") es) (row_key N.Type h) Wifi,
         kept_word d W.ServiceType file (slot (b + key_place N.Type) x) (entry_of (word "Type") es) (row_key N.Type h) Ethernet,
         kept_word d W.Security file (slot (b + key_place N.Security) x) (entry_of (word "Security") es) (row_key N.Security h) Psk,
-        kept_word d W.Security file (slot (b + key_place N.Security) x) (entry_of (word "Security") es) (row_key N.Security h) None,
+        kept_word d W.Security file (slot (b + key_place N.Security) x) (entry_of (word "Security") es) (row_key N.Security h) Word.None,
       )

@@ -4,13 +4,14 @@ use native.Mathlib.Omega.{arith}
 use mathlib.Core.Path.{◌≡◌, refl, ap, ap₂, sym, ◌∙◌, subst}
 use mathlib.Core.Bool.{Bool, true, false, cond}
 use mathlib.Core.List.{List, [], ◌∷◌, ◌++◌, reverse, reverse-cons}
-use mathlib.Core.Option.{Option, none, some}
+use Rattle.std.specs.Prelude.{Option, None, Some}
 use borrow.Author.Tests.{eq-eqb, ne_eqb, eqb-true, eqb-false}
 use lib.Dec.{eqb}
 use Rattle.text.specs.Options.{or_else}
 use Rattle.text.specs.declared.Dialect.TheVariants.{ConnMan}
 use Rattle.rules.specs.Sections.{Section, serves, services}
-use Rattle.rules.specs.Faults.{Fault, fault_at}
+use Rattle.rules.specs.Faults.{fault_at}
+use Rattle.rules.specs.declared.Fault.{Fault}
 use Rattle.rules.specs.Groups.{section_fault, service_fault, services_fault}
 use Rattle.rules.proofs.GoodEntries.{serves_service}
 use Rattle.rules.specs.declared.Group.{Group}
@@ -19,10 +20,7 @@ use Rattle.rules.specs.declared.Refusal.{Refusal}
 use Rattle.places.specs.Store.{row_length, Slot, slot}
 use Rattle.places.specs.History.{row_number, base_at, row_after, latest, head_slot}
 use Rattle.places.specs.Holds.{RowKeeps, TableKeeps}
-use Rattle.verdicts.specs.Closing.{slots_rule, slots_fault_at, slots_fault, rule_answer, pending_of}
-use Rattle.verdicts.specs.declared.Rule.{Rule}
-use Rattle.verdicts.specs.declared.Rule.TheVariants as R
-use Rattle.verdicts.specs.declared.Pending.TheVariants as P
+use Rattle.verdicts.specs.Closing.{slots_rule, slots_fault_at, slots_fault}
 use Rattle.places.proofs.RowLaws.{lies, group_at_lem}
 use Rattle.verdicts.proofs.RowRule.{row_rule}
 
@@ -32,7 +30,7 @@ abbrev row_fault : ℕ → List Section → Option Fault
 row_fault r gs = fault_at (head_slot r gs).line (service_fault (latest r gs))
 
 abbrev rows_fault : List Section → ℕ → Option Fault
-rows_fault gs zero = none
+rows_fault gs zero = None
 rows_fault gs (suc n) = or_else (rows_fault gs n) (row_fault (4 + suc n) gs)
 
 module _ {file x : List ℕ} {gs : List Section} (t : TableKeeps ConnMan file x gs) where
@@ -50,12 +48,12 @@ module _ {file x : List ℕ} {gs : List Section} (t : TableKeeps ConnMan file x 
 
 -- the first fault of all services
 abbrev pub all_fault : List Section → Option Fault
-all_fault [] = none
+all_fault [] = None
 all_fault (s ∷ gs) = or_else (all_fault gs) (section_fault s)
 
-or_none : (o : Option Fault) → or_else o none ≡ o
-or_none none = refl
-or_none (some f) = refl
+or_none : (o : Option Fault) → or_else o None ≡ o
+or_none None = refl
+or_none (Some f) = refl
 
 row_other : (s : Section) (gs : List Section) (m : ℕ) → m < services gs → eqb (4 + suc m) (row_after s gs) ≡ false
 row_other s gs m l = ne_eqb (4 + suc m) (row_after s gs) (λ e. go s.group e)
@@ -92,8 +90,8 @@ services_fault_lem {x = x} {gs = gs} t {n} e = ap (slots_fault x) e ∙ rows_fau
 -- ---- by the groups in file order
 
 or_or : (a b c : Option Fault) → or_else a (or_else b c) ≡ or_else (or_else a b) c
-or_or none b c = refl
-or_or (some f) b c = refl
+or_or None b c = refl
+or_or (Some f) b c = refl
 
 fault_last : (a : List Section) (g : Section) → services_fault (a ++ (g ∷ [])) ≡ or_else (services_fault a) (section_fault g)
 fault_last [] g = or_none (section_fault g)
@@ -105,27 +103,16 @@ fault_reverse (g ∷ gs) = ap services_fault (reverse-cons g gs) ∙ fault_last 
 
 -- ---- the loop
 
-fault_kept : (x : List ℕ) {f : Fault} (m n : ℕ) → slots_fault x m ≡ some f → m ≤ n → slots_fault x n ≡ some f
-fault_kept x {f} m zero e l = let z : m ≡ 0 = omega arith in subst (λ (i : ℕ). slots_fault x i ≡ some f) z e
+fault_kept : (x : List ℕ) {f : Fault} (m n : ℕ) → slots_fault x m ≡ Some f → m ≤ n → slots_fault x n ≡ Some f
+fault_kept x {f} m zero e l = let z : m ≡ 0 = omega arith in subst (λ (i : ℕ). slots_fault x i ≡ Some f) z e
 fault_kept x {f} m (suc n) e l = go (eqb m (suc n)) refl (λ k. fault_kept x m n e k)
   where
-    go : (b : Bool) → eqb m (suc n) ≡ b → (m ≤ n → slots_fault x n ≡ some f) → slots_fault x (suc n) ≡ some f
-    go true q h = subst (λ (i : ℕ). slots_fault x i ≡ some f) (eqb-true m (suc n) q) e
+    go : (b : Bool) → eqb m (suc n) ≡ b → (m ≤ n → slots_fault x n ≡ Some f) → slots_fault x (suc n) ≡ Some f
+    go true q h = subst (λ (i : ℕ). slots_fault x i ≡ Some f) (eqb-true m (suc n) q) e
     go false q h = let z : (m ≡ suc n → ⊥) = eqb-false m (suc n) q in rw (h (omega (arith, z, l)))
 
-answer_broken : (o : Option Refusal) {f : Refusal} → rule_answer o ≡ R.Broken f → o ≡ some f
-answer_broken none e = let z : ◌≡◌ {A = ℕ} 0 1 = cc in absurd (omega arith)
-answer_broken (some r) {f} e = let z : r ≡ f = cc in ap some z
-
-answer_obeyed : (o : Option Refusal) {r : Rule} → r ≡ rule_answer o → ((f : Refusal) → r ≡ R.Broken f → ⊥) → o ≡ none
-answer_obeyed none e n = refl
-answer_obeyed (some f) e n = absurd (n f e)
-
-module _ (x : List ℕ) (i : ℕ) (h : slots_fault x i ≡ none) {r : Rule} (q : r ≡ rule_answer (slots_rule x (row_length + row_length * i))) where
-  pub fault_broken : {f : Refusal} → r ≡ R.Broken f → (n : ℕ) → i < n → {m : ℕ} → m ≡ (slot (row_length + row_length * i) x).line → P.At f m ≡ pending_of (slots_fault x n)
+module _ (x : List ℕ) (i : ℕ) (h : slots_fault x i ≡ None) {r : Option Refusal} (q : r ≡ slots_rule x (row_length + row_length * i)) where
+  pub fault_broken : {f : Refusal} → r ≡ Some f → (n : ℕ) → i < n → {m : ℕ} → m ≡ (slot (row_length + row_length * i) x).line → Some (record { refusal = f; line = m }) ≡ slots_fault x n
   fault_broken {f} e n k {m} w =
-      let here : slots_fault x (suc i) ≡ some (record { refusal = f; line = m }) = rw (h, answer_broken (slots_rule x (row_length + row_length * i)) (sym q ∙ e), w) in
-      sym (ap pending_of (fault_kept x (suc i) n here (omega (arith, k))))
-
-  pub fault_next : ((f : Refusal) → r ≡ R.Broken f → ⊥) → slots_fault x (i + 1) ≡ none
-  fault_next n = let s : i + 1 ≡ suc i = omega arith in ap (slots_fault x) s ∙ rw (h, answer_obeyed (slots_rule x (row_length + row_length * i)) q n)
+      let here : slots_fault x (suc i) ≡ Some (record { refusal = f; line = m }) = rw (h, sym q ∙ e, w) in
+      sym (fault_kept x (suc i) n here (omega (arith, k)))

@@ -3,42 +3,39 @@ use Prim.Native.Nat.{ℕ}
 use native.Mathlib.Omega.{arith}
 use mathlib.Core.Path.{◌≡◌, refl, ap, sym, ◌∙◌}
 use mathlib.Core.List.{List, reverse}
-use mathlib.Core.Option.{Option, none, some}
+use Rattle.std.specs.Prelude.{Option, None, Some}
 use Rattle.rules.specs.Reading.{Name, iwd_name, connman_file, groups_fault, verdict}
 use Rattle.rules.specs.Sections.{Section, services, settings}
-use Rattle.rules.specs.Faults.{Fault}
+use Rattle.rules.specs.declared.Fault.{Fault}
 use Rattle.rules.specs.declared.Reading.{Reading}
 use Rattle.rules.specs.declared.Reading.TheVariants.{Accepted}
 use Rattle.places.specs.Holds.{HoldsGroups}
-use Rattle.verdicts.specs.Closing.{pending_of}
-use Rattle.verdicts.specs.Ending.{kind_of_name, name_dialect, slots_groups, end_answer, EndSays}
+use Rattle.verdicts.specs.Ending.{kind_named, name_dialect, slots_groups, end_answer, EndSays}
 use Rattle.verdicts.specs.declared.FileKind.{FileKind}
 use Rattle.places.specs.declared.State.{State}
-use Rattle.verdicts.specs.declared.Pending.{Pending}
-use Rattle.verdicts.specs.declared.Pending.TheVariants as P
 use Rattle.verdicts.proofs.ServicesFault.{services_fault_lem, fault_reverse}
 use Rattle.places.proofs.Backwards.{services_reverse, settings_reverse}
 use Rattle.verdicts.proofs.FileFault.{file_fault_lem}
 
 module _ {file : List ℕ} {st : State} {x : List ℕ} {gs : List Section} where
-  groups_fault_lem : (n : Name) → HoldsGroups (name_dialect n) file st x gs → slots_groups (kind_of_name (some n)) x st.services ≡ pending_of (groups_fault n (reverse gs))
-  groups_fault_lem (iwd_name s) h = ap pending_of (file_fault_lem h.table s)
-  groups_fault_lem connman_file h = ap pending_of (services_fault_lem h.table h.services ∙ sym (fault_reverse gs))
+  groups_fault_lem : (n : Name) → HoldsGroups (name_dialect n) file st x gs → slots_groups (kind_named n) x st.services ≡ groups_fault n (reverse gs)
+  groups_fault_lem (iwd_name s) h = file_fault_lem h.table s
+  groups_fault_lem connman_file h = services_fault_lem h.table h.services ∙ sym (fault_reverse gs)
 
-answered_verdict : (o : Option Fault) (gs : List Section) {n m : ℕ} → n ≡ settings gs → m ≡ services gs → end_answer (pending_of o) n m ≡ verdict o gs
-answered_verdict none gs p q = rw (p, q)
-answered_verdict (some f) gs p q = refl
+answered_verdict : (o : Option Fault) (gs : List Section) {n m : ℕ} → n ≡ settings gs → m ≡ services gs → end_answer o n m ≡ verdict o gs
+answered_verdict None gs p q = rw (p, q)
+answered_verdict (Some f) gs p q = refl
 
-answered_count : (p : Pending) (s v : ℕ) {n m : ℕ} → end_answer p s v ≡ Accepted n m → m ≡ v
-answered_count P.Nothing s v e = cc
-answered_count (P.At r l) s v e = let z : ◌≡◌ {A = ℕ} 0 1 = cc in absurd (omega arith)
+answered_count : (p : Option Fault) (s v : ℕ) {n m : ℕ} → end_answer p s v ≡ Accepted n m → m ≡ v
+answered_count None s v e = cc
+answered_count (Some f) s v e = let z : ◌≡◌ {A = ℕ} 0 1 = cc in absurd (omega arith)
 
-pub ends : (k : FileKind) {st : State} {x : List ℕ} {p : Pending} → p ≡ slots_groups k x st.services → {r : Reading} → r ≡ end_answer p st.settings st.services → EndSays k st x r
+pub ends : (k : FileKind) {st : State} {x : List ℕ} {p : Option Fault} → p ≡ slots_groups k x st.services → {r : Reading} → r ≡ end_answer p st.settings st.services → EndSays k st x r
 ends k {st} {x} {p} f e =
     record {
       reading = λ n q gs h.
           e
-          ∙ ap (λ (t : Pending). end_answer t st.settings st.services) (f ∙ ap (λ (t : FileKind). slots_groups t x st.services) q ∙ groups_fault_lem n h)
+          ∙ ap (λ (t : Option Fault). end_answer t st.settings st.services) (f ∙ ap (λ (t : FileKind). slots_groups t x st.services) q ∙ groups_fault_lem n h)
           ∙ answered_verdict (groups_fault n (reverse gs)) (reverse gs) (h.settings ∙ sym (settings_reverse gs)) (h.services ∙ sym (services_reverse gs));
       counted = λ q. answered_count p st.settings st.services (sym e ∙ q);
     }

@@ -1,26 +1,14 @@
 -- The rules over a service, by the slots of its row in the table of places.
-use Rattle.std.specs.Prelude.{ℕ, zero, suc, ◌+◌, ◌*◌, Bool, List}
-use Rattle.std.proofs.Math.Option.{Option, none, some}
+use Rattle.std.specs.Prelude.{ℕ, zero, suc, ◌+◌, ◌*◌, Bool, List, Option, None}
 use Rattle.text.specs.Options.{or_else}
 use Rattle.rules.specs.Groups.{nameless_by, keyless_by, lacks_by, wireless_by, clashes_by, lack_or_clash}
-use Rattle.rules.specs.Faults.{Fault, fault_at}
+use Rattle.rules.specs.Faults.{fault_at}
+use Rattle.rules.specs.declared.Fault.{Fault}
 use Rattle.rules.specs.declared.Group.TheVariants.{Service}
 use Rattle.rules.specs.declared.Refusal.{Refusal}
 use Rattle.places.specs.Store.{row_length, slot}
 use Rattle.places.specs.KeySlots.{row_has, slot_is}
 use Rattle.places.specs.declared.KeyName.TheVariants as N
-use Rattle.verdicts.specs.declared.Rule.{Rule}
-use Rattle.verdicts.specs.declared.Rule.TheVariants as R
-use Rattle.verdicts.specs.declared.Pending.{Pending}
-use Rattle.verdicts.specs.declared.Pending.TheVariants as P
-
-abbrev pub rule_answer : Option Refusal → Rule
-rule_answer none = R.Obeyed
-rule_answer (some r) = R.Broken r
-
-abbrev pub pending_of : Option Fault → Pending
-pending_of none = P.Nothing
-pending_of (some f) = P.At f.refusal f.line
 
 -- ---- the rules, as rules `Groups` says them, over what the row of a service has
 
@@ -47,5 +35,5 @@ abbrev pub slots_fault_at : List ℕ → ℕ → Option Fault
 slots_fault_at x b = fault_at (slot b x).line (slots_rule x b)
 
 abbrev pub slots_fault : List ℕ → ℕ → Option Fault
-slots_fault x zero = none
+slots_fault x zero = None
 slots_fault x (suc n) = or_else (slots_fault x n) (slots_fault_at x (row_length + row_length * n))

@@ -1,6 +1,5 @@
 -- The rules over an iwd file as a whole, by the slots of its groups' rows in the table of places.
-use Rattle.std.specs.Prelude.{ℕ, Bool, false, not, ◌&&◌, List, eqb}
-use Rattle.std.proofs.Math.Option.{Option}
+use Rattle.std.specs.Prelude.{ℕ, Bool, false, not, ◌&&◌, List, eqb, Option}
 use Rattle.names.specs.declared.Suffix.{Suffix}
 use Rattle.rules.specs.Groups.{is_open, secret_by, addressless_by, unpaired_by, file_lacks_by, file_clashes_by, lack_or_clash}
 use Rattle.rules.specs.declared.Refusal.{Refusal}

@@ -7,26 +7,10 @@ pub mod ending;
 pub mod file_rules;
 
 use names::Suffix;
-use rules::Refusal;
 
-// The first fault of groups as a whole, if any.
-#[derive(Clone, Copy)]
-pub enum Pending {
-    Nothing,
-    At(Refusal, usize),
-}
-
-// Whether the rules over a service or a file are obeyed.
-#[derive(Clone, Copy)]
-pub enum Rule {
-    Obeyed,
-    Broken(Refusal),
-}
-
-// What a file's name says: nothing good, or of which kind the file is.
+// Of which kind a file is, by its name.
 #[derive(Clone, Copy)]
 pub enum FileKind {
-    Misnamed,
     Iwd(Suffix),
     ConnMan,
 }

@@ -44,11 +44,8 @@ pub fn write_placed(
     requires { CountsWithin r }
     ensures { Writes (writing_of (joined r servers) name.old file.old) name.old file.old name.new file.new result }
 {
-    let credential = r.credential;
-    let network = r.name;
-    let used = r.name_len;
-    let suffix = parts::suffix_of(credential);
-    let name_len = names::iwd_name_len(&network[..used], suffix);
+    let suffix = parts::suffix_of(r.credential);
+    let name_len = names::iwd_name_len(&r.name[..r.name_len], suffix);
     if name.len() < name_len {
         return refused(Refusal::ShortBuffer, 0);
     }
@@ -56,7 +53,7 @@ pub fn write_placed(
     if file.len() < file_len {
         return refused(Refusal::ShortBuffer, 0);
     }
-    names::put_iwd_name(name, 0, &network[..used], suffix);
+    names::put_iwd_name(name, 0, &r.name[..r.name_len], suffix);
     groups::put_file(file, r, servers);
     Written {
         answer: Answer::Good,
@@ -68,6 +65,7 @@ pub fn write_placed(
 // Writes the iwd file name of a join record and its file, one into each buffer, in front of what they held. Refuses a record
 // that is malformed (19), one that iwd has no place for (16), and a buffer that is too short (17), in this order; a refusal
 // leaves both buffers as they were.
+#[tactic(auto, using(crate::proofs::Counts::formed_within), unfolding(crate::specs::Writing::writing))]
 pub fn write_iwd(r: JoinRecord, servers: [[u8; 4]; 4], name: &mut [u8], file: &mut [u8]) -> Written
     ensures { Writes (writing r servers name.old file.old) name.old file.old name.new file.new result }
 {

@@ -1,7 +1,6 @@
 -- The lines of a written file stand under the table of greatest lengths, so no file is longer than they come to.
-use Rattle.std.specs.Prelude.{ℕ, ◌+◌, ◌≤◌, ◌≡◌, refl, Bool, true, false, List, [], ◌∷◌, ◌++◌, length, replicate}
+use Rattle.std.specs.Prelude.{ℕ, ◌+◌, ◌≤◌, ◌≡◌, refl, Bool, true, false, List, [], ◌∷◌, ◌++◌, length, replicate, Option, None, Some}
 use Rattle.std.proofs.Common.{arith, sym, subst, inl, inr, length-append}
-use Rattle.std.proofs.Math.Option.{Option, none, some}
 use Rattle.text.specs.OptionLaws.{IfSome}
 use Rattle.text.specs.Words.{word}
 use Rattle.text.specs.declared.Dialect.TheVariants.{Iwd}
@@ -77,19 +76,19 @@ secret_under C.Key p k h g = inl (omega arith, inl (omega (arith, hex_length k, 
 -- whose text has at most so many bytes
 pub gateway_under : (text : List ℕ → List ℕ) (most : ℕ) (g : Option (List ℕ)) → IfSome (λ x. length (text x) ≤ most) g →
     Under (row_lines (gateway_rows text g)) ((word "Gateway=", most) ∷ [])
-gateway_under text most none h = tt
-gateway_under text most (some g) h = inl (omega (arith, h), tt)
+gateway_under text most None h = tt
+gateway_under text most (Some g) h = inl (omega (arith, h), tt)
 
 pub ipv4_gateway_under : (g : Option (List ℕ)) →
     Under (row_lines (gateway_rows dotted g)) ((word "Gateway=", address_max) ∷ [])
-ipv4_gateway_under none = tt
-ipv4_gateway_under (some g) = gateway_under dotted address_max (some g) (dotted_short g)
+ipv4_gateway_under None = tt
+ipv4_gateway_under (Some g) = gateway_under dotted address_max (Some g) (dotted_short g)
 
 -- by its places: an address g has sixteen bytes
 pub ipv6_gateway_under : (h : Bool) (g : List ℕ) → length g ≡ 16 →
     Under (row_lines (gateway_rows canonical (gateway_if h g))) ((word "Gateway=", ipv6_max) ∷ [])
 ipv6_gateway_under false g e = tt
-ipv6_gateway_under true g e = gateway_under canonical ipv6_max (some g) (canonical_short g e)
+ipv6_gateway_under true g e = gateway_under canonical ipv6_max (Some g) (canonical_short g e)
 
 pub numbers_under : (i : Addressing) → Under (row_lines (number_rows i)) number_room
 numbers_under auto = tt
@@ -131,9 +130,9 @@ good_secret_under (key k) g = secret_under C.Key [] k (omega arith) g.long
 good_ipv6_under : (i : Addressing) → GoodIpv6 i → Under (headed_lines (word "IPv6") (ipv6_rows i)) ipv6_room
 good_ipv6_under auto g = tt
 good_ipv6_under off g = ipv6_under M.Off (replicate 16 0) 0 false (replicate 16 0) refl refl
-good_ipv6_under (static a n none) g =
+good_ipv6_under (static a n None) g =
     ipv6_under M.Static a n false (replicate 16 0) (bytes_length 16 a g.address) refl
-good_ipv6_under (static a n (some y)) g =
+good_ipv6_under (static a n (Some y)) g =
     ipv6_under M.Static a n true y (bytes_length 16 a g.address) (bytes_length 16 y g.gateway)
 
 pub file_under : (j : Join) → WellFormed j → Under (block_lines (blocks_of j)) file_room

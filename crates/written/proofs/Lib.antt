@@ -2,5 +2,5 @@
 pub mod LargestLaws
 pub mod LengthLaws
 pub mod TextLaws
+
 -- Which parts a record has
-pub mod Deciding

@@ -1,7 +1,6 @@
 -- Worked cases: document 01's file, of 167 bytes by request 2026-02, records whose file is empty or begins a string with a blank, and
 -- the IPv6 of request 2026-03.
-use Rattle.std.specs.Prelude.{ℕ, ◌≡◌, refl, Bool, true, false, List, [], ◌∷◌, ◌++◌, map, length, replicate}
-use Rattle.std.proofs.Math.Option.{none, some}
+use Rattle.std.specs.Prelude.{ℕ, ◌≡◌, refl, true, false, List, [], ◌∷◌, ◌++◌, map, length, replicate, None, Some}
 use Rattle.text.specs.Bytes.{is_plain}
 use Rattle.text.specs.Words.{word}
 use Rattle.text.specs.Worked.{desk}
@@ -51,12 +50,12 @@ abbrev shop : ℕ → List ℕ
 shop n = 32 ∷ 1 ∷ 13 ∷ 184 ∷ replicate 11 0 ++ n ∷ []
 
 -- "RFC 5952's form"; "Address is written always with its length, then Gateway"
-pub ipv6_file : file_text (addressed auto (static (shop 20) 64 (some (shop 1)))) ≡ word "[IPv6]\nAddress=2001:db8::14/64\nGateway=2001:db8::1\n"
+pub ipv6_file : file_text (addressed auto (static (shop 20) 64 (Some (shop 1)))) ≡ word "[IPv6]\nAddress=2001:db8::14/64\nGateway=2001:db8::1\n"
 unfolding file_text decimal hex_digit group_digits longest canonical
 ipv6_file = refl
 
 -- a length of 128 too
-pub ipv6_length_file : file_text (addressed auto (static (shop 0) 128 (some (replicate 15 0 ++ 1 ∷ [])))) ≡ word "[IPv6]\nAddress=2001:db8::/128\nGateway=::1\n"
+pub ipv6_length_file : file_text (addressed auto (static (shop 0) 128 (Some (replicate 15 0 ++ 1 ∷ [])))) ≡ word "[IPv6]\nAddress=2001:db8::/128\nGateway=::1\n"
 unfolding file_text decimal hex_digit group_digits longest canonical
 ipv6_length_file = refl
 
@@ -69,9 +68,9 @@ pub places : map has_place
     (addressed auto auto
     ∷ addressed off auto
     ∷ addressed auto off
-    ∷ addressed (static (10 ∷ 20 ∷ 0 ∷ 14 ∷ []) 24 none) auto
-    ∷ addressed auto (static (shop 20) 64 none)
-    ∷ addressed auto (static (shop 20) 64 (some (shop 1)))
+    ∷ addressed (static (10 ∷ 20 ∷ 0 ∷ 14 ∷ []) 24 None) auto
+    ∷ addressed auto (static (shop 20) 64 None)
+    ∷ addressed auto (static (shop 20) 64 (Some (shop 1)))
     ∷ [])
     ≡ true ∷ false ∷ true ∷ false ∷ false ∷ true ∷ []
 places = refl

@@ -1,7 +1,6 @@
 -- The records that take the most room, "some record reaches each figure" of request 2026-01: one by its file, and one by its
 -- name. None does both: the longest file has a passphrase, so that its name ends in `.psk`, which is shorter than `.open`.
-use Rattle.std.specs.Prelude.{ℕ, ◌≡◌, true, false, List, [], length, replicate}
-use Rattle.std.proofs.Math.Option.{some}
+use Rattle.std.specs.Prelude.{ℕ, ◌≡◌, true, false, List, [], length, replicate, Some}
 use Rattle.addressing.specs.Addressing.{auto, static}
 use Rattle.records.specs.Record.{Secret, no_secret, passphrase, Join}
 use Rattle.records.specs.Formed.{WellFormed}
@@ -30,10 +29,10 @@ largest_file =
       name = longest_network;
       credential = passphrase (backslashes 63);
       hidden = true;
-      ipv4 = static longest_address 32 (some longest_address);
+      ipv4 = static longest_address 32 (Some longest_address);
       servers = replicate 4 longest_address;
       domain = backslashes 253;
-      ipv6 = static longest_ipv6 128 (some longest_ipv6);
+      ipv6 = static longest_ipv6 128 (Some longest_ipv6);
     }
 
 -- a network and its credential, all else by default

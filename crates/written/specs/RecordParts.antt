@@ -4,7 +4,7 @@ use Rattle.text.specs.Words.{word}
 use Rattle.addresses.specs.Addresses.{dotted, mask_bytes}
 use Rattle.addressing.specs.Addressing.{Addressing, gateway_if, addressing_in}
 use Rattle.addressing.specs.declared.Method.{Method}
-use Rattle.connman_ipv4.specs.declared.Ipv4.{Ipv4}
+use Rattle.addressing.specs.declared.Numbers.{Numbers}
 use Rattle.names.specs.declared.Suffix.{Suffix}
 use Rattle.records.specs.Record.{secret_of}
 use Rattle.records.specs.declared.Credential.{Credential}
@@ -12,14 +12,14 @@ use Rattle.records.specs.declared.JoinRecord.{JoinRecord}
 use Rattle.written.specs.Written.{WrittenRow, gateway_rows, suffix_for}
 
 -- a record's IPv4 by its places, and the IPv4 that they hold
-abbrev pub record_ipv4 : JoinRecord → Ipv4
-record_ipv4 r = record { ok = true; method = r.ipv4; address = r.address; length = r.length; has_gateway = r.has_gateway; gateway = r.gateway }
+abbrev pub record_ipv4 : JoinRecord → Numbers 4
+record_ipv4 r = record { method = r.ipv4; address = r.address; length = r.length; has_gateway = r.has_gateway; gateway = r.gateway }
 
-abbrev pub numbers_in : Ipv4 → Addressing
+abbrev pub numbers_in : Numbers 4 → Addressing
 numbers_in i = addressing_in i.method i.address i.length i.has_gateway i.gateway
 
 -- the settings of one that is static
-abbrev pub static_rows : Ipv4 → List WrittenRow
+abbrev pub static_rows : Numbers 4 → List WrittenRow
 static_rows i = (word "Address", dotted i.address) ∷ (word "Netmask", dotted (mask_bytes i.length)) ∷ gateway_rows dotted (gateway_if i.has_gateway i.gateway)
 
 -- r is what place says of an address by its method m and by h, whether it has a gateway

@@ -1,6 +1,5 @@
 -- The written iwd file, as document 01 says it under "The written iwd file": groups of lines, rendered; and its name.
-use Rattle.std.specs.Prelude.{ℕ, Bool, true, false, ◌&&◌, List, [], ◌∷◌, ◌++◌}
-use Rattle.std.proofs.Math.Option.{Option, none, some}
+use Rattle.std.specs.Prelude.{ℕ, Bool, true, false, ◌&&◌, List, [], ◌∷◌, ◌++◌, Option, None, Some}
 use Rattle.text.specs.Words.{word}
 use Rattle.text.specs.declared.Dialect.TheVariants as D
 use Rattle.escapes.specs.Escapes.{escape}
@@ -55,8 +54,8 @@ secret_rows (key k) = (word "PreSharedKey", hex k) ∷ []
 
 -- "perhaps a gateway", in the text of its family
 abbrev pub gateway_rows : (List ℕ → List ℕ) → Option (List ℕ) → List WrittenRow
-gateway_rows text none = []
-gateway_rows text (some g) = (word "Gateway", text g) ∷ []
+gateway_rows text None = []
+gateway_rows text (Some g) = (word "Gateway", text g) ∷ []
 
 -- "Address, Netmask, Gateway if static"
 abbrev pub number_rows : Addressing → List WrittenRow
@@ -116,8 +115,8 @@ name_text j = file_name j.name (suffix_for j.credential)
 abbrev pub routed : Addressing → Bool
 routed auto = true
 routed off = true
-routed (static a n none) = false
-routed (static a n (some g)) = true
+routed (static a n None) = false
+routed (static a n (Some g)) = true
 
 -- "No place in iwd .. For the writer: IPv4 off, or static without gateway."
 abbrev pub ipv4_placed : Addressing → Bool

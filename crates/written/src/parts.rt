@@ -5,8 +5,7 @@ ghost use Rattle.written.specs.Written.{ipv4_rows, ipv4_placed, ipv6_placed, has
 ghost use Rattle.written.specs.Texts.{some_row};
 ghost use Rattle.written.specs.RecordParts.{record_ipv4, numbers_in, PlacedBy, SuffixOf};
 
-use addressing::Method;
-use connman_ipv4::Ipv4;
+use addressing::{Method, Numbers};
 use names::Suffix;
 use records::{Credential, JoinRecord};
 
@@ -22,15 +21,16 @@ pub fn suffix_of(c: Credential) -> Suffix
 }
 
 // A record's IPv4.
-pub fn numbers(r: JoinRecord) -> Ipv4
+pub fn numbers(r: JoinRecord) -> Numbers<4>
     ensures { result ≡ record_ipv4 r }
 {
-    let method = r.ipv4;
-    let address = r.address;
-    let gateway = r.gateway;
-    Ipv4 {
-        ok: true,
-        method,
+    let JoinRecord {
+        address,
+        gateway,
+        ..
+    } = r;
+    Numbers {
+        method: r.ipv4,
         address,
         length: r.length,
         has_gateway: r.has_gateway,
@@ -49,7 +49,7 @@ pub fn ipv4_placed(method: Method, routed: bool) -> bool
     }
 }
 
-// Whether iwd has a place for an IPv6: it has none for an address without a gateway.
+// The same of an IPv6: it has none for an address without a gateway. It is a rule of its own (request 2026-03), and so a function of its own.
 pub fn ipv6_placed(method: Method, routed: bool) -> bool
     ensures { PlacedBy ipv6_placed method routed result }
 {
@@ -64,25 +64,12 @@ pub fn ipv6_placed(method: Method, routed: bool) -> bool
 pub fn has_place(r: JoinRecord) -> bool
     ensures { result ≡ has_place (joined r []) }
 {
-    let ipv4 = r.ipv4;
-    let ipv6 = r.ipv6;
-    ipv4_placed(ipv4, r.has_gateway) && ipv6_placed(ipv6, r.has_ipv6_gateway)
+    ipv4_placed(r.ipv4, r.has_gateway) && ipv6_placed(r.ipv6, r.has_ipv6_gateway)
 }
 
 // Whether the IPv4 group has a setting.
-pub fn has_ipv4(i: Ipv4, servers: [[u8; 4]; 4], count: usize, domain: &[u8]) -> bool
+pub fn has_ipv4(i: Numbers<4>, servers: [[u8; 4]; 4], count: usize, domain: &[u8]) -> bool
     ensures { result ≡ some_row (ipv4_rows (numbers_in i) (take count servers) domain.now) }
 {
-    let method = i.method;
-    if count != 0 {
-        return true;
-    }
-    if domain.len() != 0 {
-        return true;
-    }
-    match method {
-        Method::Auto => false,
-        Method::Off => false,
-        Method::Static => true,
-    }
+    count != 0 || !domain.is_empty() || i.method == Method::Static
 }

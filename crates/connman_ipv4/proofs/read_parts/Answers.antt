@@ -1,38 +1,31 @@
 -- An address up to a slash, its length up to the next, and a gateway up to the end: one law of proofs/Statics for each return.
-use native.Mathlib.Omega.{arith}
+use Rattle.std.proofs.Common.{sym}
 use Rattle.connman_ipv4.proofs.Statics.{parts_unread, parts_alone, parts_before, parts_apart, parts_unsized, parts_static, parts_unrouted, parts_followed, parts_routed}
-use borrow.Author.Rules.{rules}
 use Rattle.connman_ipv4.proofs.read_parts.Goals as goal
 
-pub returns-then-not-a : goal.returns-then-not-a
-returns-then-not-a c = search parts_unread
+pub returns-in_err-slash : goal.returns-in_err-slash
+returns-in_err-slash c = rw (c.from_residual.ensures, parts_unread _ c.in_err-slash.ensures)
 
 pub returns-then-slash-s : goal.returns-then-slash-s
-returns-then-slash-s c = search parts_alone
+returns-then-slash-s c = rw (parts_alone c.in_ok-slash.ensures c.if-slash-s.true)
 
 pub bounds-s-slash : goal.bounds-s-slash
-bounds-s-slash c = search parts_before
+bounds-s-slash c = parts_before c.in_ok-slash.ensures c.if-slash-s.false
 
 pub returns-then-s-slash-ne47 : goal.returns-then-s-slash-ne47
-returns-then-s-slash-ne47 c = search parts_apart
+returns-then-s-slash-ne47 c = rw (parts_apart c.in_ok-slash.ensures c.if-slash-s.false c.if-s-slash-ne47.true)
 
-pub overflow_add-m : goal.overflow_add-m
-overflow_add-m c = omega (arith, parts_before c.address_at-a.ensures c.if-not-a.false c.if-slash-s.false)
-
-pub find_near-e-requires : goal.find_near-e-requires
-find_near-e-requires c = omega (arith, parts_before c.address_at-a.ensures c.if-not-a.false c.if-slash-s.false)
-
-pub returns-in_default : goal.returns-in_default
-returns-in_default c = search parts_unsized
+pub returns-in_err-length : goal.returns-in_err-length
+returns-in_err-length c = rw (c.from_residual-in_err-length.ensures, parts_unsized c.in_ok-slash.ensures c.if-slash-s.false c.if-s-slash-ne47.false c.find_near-e.ensures (sym c.in_err-length.ensures))
 
 pub returns-then-e-s : goal.returns-then-e-s
-returns-then-e-s c = search parts_static
+returns-then-e-s c = rw (c.numbered.ensures, parts_static c.in_ok-slash.ensures c.if-slash-s.false c.if-s-slash-ne47.false c.find_near-e.ensures (sym c.in_ok-length.ensures) c.if-e-s.true)
 
-pub returns-then-not-g : goal.returns-then-not-g
-returns-then-not-g c = search parts_unrouted
+pub returns-in_err-g : goal.returns-in_err-g
+returns-in_err-g c = rw (c.from_residual-in_err-g.ensures, parts_unrouted c.in_ok-slash.ensures c.if-slash-s.false c.if-s-slash-ne47.false c.find_near-e.ensures (sym c.in_ok-length.ensures) c.if-e-s.false c.in_err-g.ensures)
 
 pub returns-then-g-s : goal.returns-then-g-s
-returns-then-g-s c = search parts_followed
+returns-then-g-s c = rw (parts_followed c.in_ok-slash.ensures c.if-slash-s.false c.if-s-slash-ne47.false c.find_near-e.ensures (sym c.in_ok-length.ensures) c.if-e-s.false c.in_ok-g.ensures c.if-g-s.true)
 
 pub returns : goal.returns
-returns c = search parts_routed
+returns c = rw (c.numbered-2.ensures, parts_routed c.in_ok-slash.ensures c.if-slash-s.false c.if-s-slash-ne47.false c.find_near-e.ensures (sym c.in_ok-length.ensures) c.if-e-s.false c.in_ok-g.ensures c.if-g-s.false)

@@ -1,9 +1,6 @@
-use Rattle.escapes.proofs.Loops.{Sizing, sizing_first, sizing_few, sizing_short, sizing_bad, sizing_turn, sizing_end}
-use native.Mathlib.Omega.{arith}
-use Rattle.text.proofs.ScanLaws.{stop_low}
 use lib.ListN.{length}
 use Prim.Native.Nat.{◌-◌}
-use borrow.Author.Rules.{rules}
+use Rattle.escapes.proofs.Loops.{Sizing}
 use Rattle.escapes.proofs.string_len.Given as goal
 
 abbrev pub invariant-loop-i : goal.invariant-loop-i

@@ -1,6 +1,5 @@
 -- A digit below 10 and one from 10 on, by `digit_low` and `digit_high`.
 use Rattle.hex_digits.proofs.Loops.{digit_low, digit_high}
-use borrow.Author.Rules.{rules}
 use Rattle.hex_digits.proofs.hex_digit.Goals as goal
 
 pub returns-then-n-lt10 : goal.returns-then-n-lt10

@@ -1,8 +1,6 @@
 -- Pairs of hex digits are an even number of them (`unhex_pairs`).
-use mathlib.Core.Path.{sym, ◌∙◌}
 use borrow.Author.Tests.{eq-eqb, ne_eqb}
 use Rattle.hex_digits.specs.Laws.{unhex_pairs}
-use borrow.Author.Rules.{rules}
 use Rattle.hex_digits.proofs.is_hex.Goals as goal
 
 pub returns-then-s-ne0 : goal.returns-then-s-ne0

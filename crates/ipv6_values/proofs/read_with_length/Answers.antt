@@ -1,19 +1,16 @@
 -- One piece or two between slashes.
-use mathlib.Core.Path.{ap, sym, ◌∙◌}
-use Rattle.ipv6_values.specs.Ipv6Values.{with_length}
-use Rattle.ipv6_values.specs.Answers.{with_length_answer}
-use Rattle.ipv6_values.proofs.Lengths.{one_piece, two_pieces, more_pieces}
-use borrow.Author.Rules.{rules}
+use Rattle.std.proofs.Common.{sym}
+use Rattle.ipv6_values.proofs.Lengths.{single_none, single_some, with_two, with_more}
 use Rattle.ipv6_values.proofs.read_with_length.Goals as goal
 
+pub returns-in_err-address : goal.returns-in_err-address
+returns-in_err-address c = rw (c.from_residual.ensures, single_none c.find_near-a.ensures c.if-a-s.true (sym c.in_err-address.ensures))
+
 pub returns-then-a-s : goal.returns-then-a-s
-unfolding with_length
-returns-then-a-s c = c.read_single.ensures ∙ ap with_length_answer (sym (one_piece c.find_near-a.ensures c.if-a-s.true))
+returns-then-a-s c = rw (single_some c.find_near-a.ensures c.if-a-s.true (sym c.in_ok-address.ensures))
 
 pub returns-then-b-s : goal.returns-then-b-s
-unfolding with_length
-returns-then-b-s c = c.read_sized.ensures ∙ ap with_length_answer (sym (two_pieces c.find_near-a.ensures c.if-a-s.false c.find_near-b.ensures c.if-b-s.true))
+returns-then-b-s c = rw (with_more c.find_near-a.ensures c.if-a-s.false c.find_near-b.ensures c.if-b-s.true)
 
 pub returns : goal.returns
-unfolding with_length
-returns c = ap with_length_answer (sym (more_pieces c.find_near-a.ensures c.if-a-s.false c.find_near-b.ensures c.if-b-s.false))
+returns c = rw (with_two c.find_near-a.ensures c.if-a-s.false c.find_near-b.ensures c.if-b-s.false) c.read_sized.ensures

@@ -6,11 +6,11 @@ use Rattle.lines.proofs.form_of.Goals as goal
 pub returns-then-at-line : goal.returns-then-at-line
 returns-then-at-line c = line_blank _ c.blank_end-at.ensures c.if-at-line.true
 
-pub returns-then-first-eq35 : goal.returns-then-first-eq35
-returns-then-first-eq35 c = line_comment _ c.blank_end-at.ensures c.if-at-line.false c.if-first-eq35.true
+pub returns-in-35 : goal.returns-in-35
+returns-in-35 c = line_comment _ c.blank_end-at.ensures c.if-at-line.false c.in-35.is
 
-pub returns-then-first-eq91 : goal.returns-then-first-eq91
-returns-then-first-eq91 c = line_bracket _ c.blank_end-at.ensures c.if-at-line.false c.if-first-eq35.false c.if-first-eq91.true c.header_form.ensures
+pub returns-in-91 : goal.returns-in-91
+returns-in-91 c = line_bracket _ c.blank_end-at.ensures c.if-at-line.false (search rules) c.in-91.is c.header_form.ensures
 
-pub returns : goal.returns
-returns c = line_setting _ c.blank_end-at.ensures c.if-at-line.false c.if-first-eq35.false c.if-first-eq91.false c.setting_form.ensures
+pub returns-in_default : goal.returns-in_default
+returns-in_default c = line_setting _ c.blank_end-at.ensures c.if-at-line.false (search rules) (search rules) c.setting_form.ensures

@@ -13,8 +13,8 @@ returns-then-not-all_of c = search hex_other
 pub returns-then-not-is_hex : goal.returns-then-not-is_hex
 returns-then-not-is_hex c = search hex_odd
 
-pub unhexed_32-bytes-requires : goal.unhexed_32-bytes-requires
-unhexed_32-bytes-requires c = decoded_fits (decoded c.args.h.now c.all_of.ensures (ap not c.if-not-all_of.false) c.is_hex.ensures (ap not c.if-not-is_hex.false)) (search rules)
+pub unhexed-requires : goal.unhexed-requires
+unhexed-requires c = (search rules, decoded_fits (decoded c.args.h.now c.all_of.ensures (ap not c.if-not-all_of.false) c.is_hex.ensures (ap not c.if-not-is_hex.false)) (search rules))
 
 pub returns-then-all_of : goal.returns-then-all_of
 returns-then-all_of c = search (hex_plain (decoded c.args.h.now c.all_of.ensures (ap not c.if-not-all_of.false) c.is_hex.ensures (ap not c.if-not-is_hex.false)))

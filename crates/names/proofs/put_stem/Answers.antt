@@ -4,7 +4,6 @@ use native.Mathlib.Omega.{arith}
 use lib.ListN.{length}
 use Rattle.put.specs.Laws.{then}
 use Rattle.names.proofs.Naming.{stem_plain, stem_hex}
-use borrow.Author.Rules.{rules}
 use Rattle.names.proofs.put_stem.Goals as goal
 
 pub put_text-requires : goal.put_text-requires

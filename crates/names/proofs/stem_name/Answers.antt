@@ -1,6 +1,5 @@
 -- A stem behind `=` is left to `hex_name`; any other gives itself where it is plain and not too long.
 use Rattle.names.proofs.Naming.{stem_empty, stem_in_hex, stem_long, stem_other, stem_good}
-use borrow.Author.Rules.{rules}
 use Rattle.names.proofs.stem_name.Goals as goal
 
 pub returns-then-s-eq0 : goal.returns-then-s-eq0

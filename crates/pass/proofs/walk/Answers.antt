@@ -1,10 +1,7 @@
 -- One line at each turn.
-use Prim.Native.Nat.{◌+◌, ◌-◌}
 use native.Mathlib.Omega.{arith}
-use lib.ListN.{length}
 use Rattle.text.proofs.ScanLaws.{stop_low}
-use Rattle.pass.proofs.Walking.{Running, running_first, running_stop, running_turn, running_comment, running_end}
-use borrow.Author.Rules.{rules}
+use Rattle.pass.proofs.Walking.{running_first, running_stop, running_turn, running_comment, running_end}
 use Rattle.pass.proofs.walk.Goals as goal
 
 pub loop-at-init : goal.loop-at-init
@@ -22,11 +19,11 @@ loop-at-smaller-then-file-at-eq35 c = omega (arith, stop_low c.line_end-end.ensu
 pub loop-at-preserved-then-file-at-eq35 : goal.loop-at-preserved-then-file-at-eq35
 loop-at-preserved-then-file-at-eq35 c = running_comment c.loop-at.invariant c.loop-at-test.true c.line_end-end.ensures c.if-file-at-eq35.true
 
-pub step-stepped-requires : goal.step-stepped-requires
-step-stepped-requires c = let h = c.loop-at.invariant in record { known = h.known; low = stop_low c.line_end-end.ensures; within = c.line_end-end.ensures.within; counted = h.low; small = (h.small, omega (arith, h.high, h.small, c.loop-at-test.true)) }
+pub step-requires : goal.step-requires
+step-requires c = let h = c.loop-at.invariant in record { known = h.known; low = stop_low c.line_end-end.ensures; within = c.line_end-end.ensures.within; counted = h.low; small = (h.small, omega (arith, h.high, h.small, c.loop-at-test.true)) }
 
-pub returns-in-Stops : goal.returns-in-Stops
-returns-in-Stops c = running_stop c.loop-at.invariant c.loop-at-test.true c.line_end-end.ensures c.step-stepped.ensures c.in-Stops.is
+pub returns-in-Err : goal.returns-in-Err
+returns-in-Err c = running_stop c.loop-at.invariant c.loop-at-test.true c.line_end-end.ensures c.step.ensures c.in-Err.is
 
 pub overflow_add-line-in-loop-at : goal.overflow_add-line-in-loop-at
 overflow_add-line-in-loop-at c = let h = c.loop-at.invariant in omega (arith, h.high, h.within, h.small)
@@ -35,7 +32,7 @@ pub loop-at-smaller : goal.loop-at-smaller
 loop-at-smaller c = omega (arith, stop_low c.line_end-end.ensures)
 
 pub loop-at-preserved : goal.loop-at-preserved
-loop-at-preserved c = running_turn c.loop-at.invariant c.loop-at-test.true c.line_end-end.ensures c.step-stepped.ensures c.in-Goes.is
+loop-at-preserved c = running_turn c.loop-at.invariant c.loop-at-test.true c.line_end-end.ensures c.step.ensures c.in-Ok.is
 
 pub returns : goal.returns
 returns c = running_end c.loop-at.invariant c.loop-at-test.false

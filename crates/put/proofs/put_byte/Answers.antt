@@ -1,5 +1,4 @@
 use Rattle.put.specs.Laws.{wrote_byte}
-use borrow.Author.Rules.{rules}
 use Rattle.put.proofs.put_byte.Goals as goal
 
 pub returns : goal.returns

@@ -1,11 +1,6 @@
-use Prim.Native.Nat.{◌-◌}
-use Rattle.text.specs.Laws.{over}
-use Rattle.records.proofs.Forming.{Behind, behind_first, behind_turn, behind_stop, behind_end}
-use borrow.Author.Rules.{rules}
+use Rattle.std.proofs.Common.{◌≡◌, drop}
+use Rattle.records.specs.Formed.{zero_rows}
 use Rattle.records.proofs.are_servers.Given as goal
 
-abbrev pub invariant-loop-i : goal.invariant-loop-i
-invariant-loop-i l = Behind l.n l.servers l.i
-
-abbrev pub decreases-loop-i : goal.decreases-loop-i
-decreases-loop-i l = 4 - l.i
+abbrev pub invariant-loop-server : goal.invariant-loop-server
+invariant-loop-server l = zero_rows (drop l.server-index l.server-items) ≡ zero_rows (drop l.n l.servers)

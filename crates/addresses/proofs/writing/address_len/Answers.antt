@@ -1,5 +1,5 @@
 -- How long an address is: its numbers and three dots (`dotted_length`), which is at most 15 (`dotted_short`).
-use Rattle.std.proofs.Common.{arith, rules}
+use Rattle.std.proofs.Common.{arith}
 use Rattle.addresses.specs.Sizes.{dotted_length, dotted_short}
 use Rattle.addresses.proofs.writing.address_len.Goals as goal
 

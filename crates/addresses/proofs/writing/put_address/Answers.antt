@@ -1,5 +1,5 @@
 -- An address: four writers, one behind another (`then`); the room is that of its parts (`dotted_length`).
-use Rattle.std.proofs.Common.{arith, rules}
+use Rattle.std.proofs.Common.{arith}
 use Rattle.put.specs.Laws.{then}
 use Rattle.addresses.specs.Addresses.{dotted}
 use Rattle.addresses.specs.Sizes.{dotted_length}

@@ -1,5 +1,5 @@
 -- A number in decimal, by how many digits it has (`put_one`, `put_two`, `put_three`).
-use Rattle.std.proofs.Common.{arith, length-set, rules}
+use Rattle.std.proofs.Common.{arith, length-set}
 use Rattle.addresses.specs.Sizes.{decimal_length_one, decimal_length_two, decimal_length_three}
 use Rattle.addresses.proofs.Putting.{put_one, put_two, put_three}
 use Rattle.addresses.proofs.writing.put_decimal.Goals as goal

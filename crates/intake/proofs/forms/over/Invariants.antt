@@ -1,12 +1,7 @@
-use mathlib.Core.Path.{refl}
-use Prim.Native.Nat.{◌-◌}
-use lib.ListN.{length}
-use Rattle.intake.proofs.Forming.{Forming, forming_turn, forming_end}
-use borrow.Author.Rules.{rules}
+-- What is left of the slice goes over the form so far.
+use Rattle.std.proofs.Common.{◌≡◌, drop}
+use Rattle.intake.specs.Forms.{form_from}
 use Rattle.intake.proofs.forms.over.Given as goal
 
-abbrev pub invariant-loop-i : goal.invariant-loop-i
-invariant-loop-i l = Forming l.initial.form l.s l.form l.i
-
-abbrev pub decreases-loop-i : goal.decreases-loop-i
-decreases-loop-i l = length l.s - l.i
+abbrev pub invariant-loop-b : goal.invariant-loop-b
+invariant-loop-b l = form_from l.form (drop l.b-index l.s) ≡ form_from l.initial.form l.s

@@ -1,7 +1,5 @@
 -- The groups one after another (`Grouping`).
-use Prim.Native.Nat.{◌-◌}
-use Rattle.ipv6.proofs.Putting.{Grouping, grouping_first, grouping_turn, grouping_end}
-use borrow.Author.Rules.{rules}
+use Rattle.ipv6.proofs.Putting.{grouping_first, grouping_turn, grouping_end}
 use Rattle.ipv6.proofs.writing.groups_of.Goals as goal
 
 pub loop-i-init : goal.loop-i-init

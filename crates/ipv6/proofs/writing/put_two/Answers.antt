@@ -2,7 +2,6 @@
 use native.Mathlib.Omega.{arith}
 use lib.ListN.{length-set}
 use Rattle.put.specs.Laws.{wrote_two}
-use borrow.Author.Rules.{rules}
 use Rattle.ipv6.proofs.writing.put_two.Goals as goal
 
 pub bounds-out-at-2 : goal.bounds-out-at-2

@@ -1,7 +1,6 @@
 -- A zero more, or none.
 use native.Mathlib.Numerals.{add-one}
 use borrow.Author.Tests.{eq-eqb, ne_eqb}
-use borrow.Author.Rules.{rules}
 use Rattle.ipv6.proofs.writing.zeros_from.Goals as goal
 
 pub returns-then-g-eq0 : goal.returns-then-g-eq0

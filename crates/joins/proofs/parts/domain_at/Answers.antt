@@ -1,11 +1,10 @@
--- The value of the key, read.
-use Prim.Native.Nat.{ℕ}
-use mathlib.Core.List.{List}
-use mathlib.Core.Path.{ap, ◌∙◌}
+-- The string that the key gives, or no bytes.
+use Rattle.std.proofs.Common.{◌∙◌}
 use Rattle.kinds.specs.Kinds.{string}
-use Rattle.joins.specs.Answers.{domain_answer}
+use Rattle.joins.proofs.Choosing.{text_or_none}
 use borrow.Author.Rules.{rules}
 use Rattle.joins.proofs.parts.domain_at.Goals as goal
 
 pub returns : goal.returns
-returns c = c.read_domain.ensures ∙ ap (λ (s : List ℕ). domain_answer (string 1 253 s)) c.value_of.ensures
+unfolding string
+returns c = c.unwrap_or.ensures ∙ rw (c.read_string.ensures, c.value_of.ensures, c.none.ensures) (text_or_none 253 _)

@@ -1,6 +1,5 @@
 -- A short name is iwd's; of a longer one the last seven bytes are compared.
 use Rattle.names.proofs.Asking.{dialect_short, dialect_connman, dialect_iwd}
-use borrow.Author.Rules.{rules}
 use Rattle.names.proofs.dialects.dialect_of.Goals as goal
 
 pub returns-then-name-lt7 : goal.returns-then-name-lt7

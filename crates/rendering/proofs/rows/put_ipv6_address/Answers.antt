@@ -1,24 +1,6 @@
 -- The front, the address, `/`, the length and the end of the line are written in turn (`then`).
-use native.Mathlib.Omega.{arith}
-use lib.ListN.{length-append}
 use Rattle.put.specs.Laws.{then}
-use borrow.Author.Rules.{rules}
 use Rattle.rendering.proofs.rows.put_ipv6_address.Goals as goal
-
-pub put_text-p-requires : goal.put_text-p-requires
-put_text-p-requires c = omega (arith, simp length-append at c.requires)
-
-pub put_address-q-requires : goal.put_address-q-requires
-put_address-q-requires c = omega (arith, simp length-append at c.requires, c.put_text-p.ensures.next, c.put_text-p.ensures.long)
-
-pub put_byte-r-requires : goal.put_byte-r-requires
-put_byte-r-requires c = omega (arith, simp length-append at c.requires, c.put_address-q.ensures.next, c.put_address-q.ensures.long, c.put_text-p.ensures.next, c.put_text-p.ensures.long)
-
-pub put_decimal-s-requires : goal.put_decimal-s-requires
-put_decimal-s-requires c = omega (arith, simp length-append at c.requires, c.put_byte-r.ensures.next, c.put_byte-r.ensures.long, c.put_address-q.ensures.next, c.put_address-q.ensures.long, c.put_text-p.ensures.next, c.put_text-p.ensures.long)
-
-pub put_byte-requires : goal.put_byte-requires
-put_byte-requires c = omega (arith, simp length-append at c.requires, c.put_decimal-s.ensures.next, c.put_decimal-s.ensures.long, c.put_byte-r.ensures.next, c.put_byte-r.ensures.long, c.put_address-q.ensures.next, c.put_address-q.ensures.long, c.put_text-p.ensures.next, c.put_text-p.ensures.long)
 
 pub returns : goal.returns
 returns c = then (then (then c.put_text-p.ensures c.put_address-q.ensures) (then c.put_byte-r.ensures c.put_decimal-s.ensures)) c.put_byte.ensures

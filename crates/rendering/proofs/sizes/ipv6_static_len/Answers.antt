@@ -1,10 +1,8 @@
 -- The address with its length, and the gateway (`ipv6_size`).
 use native.Mathlib.Omega.{arith}
 use Rattle.addresses.specs.Sizes.{decimal_short}
-use Rattle.addressing.specs.Addressing.{gateway_if}
 use Rattle.ipv6.specs.Written.{canonical_short}
 use Rattle.rendering.proofs.Bounds.{ipv6_gateway_short}
-use Rattle.rendering.proofs.GroupTexts.{ipv6_size}
 use borrow.Author.Rules.{rules}
 use Rattle.rendering.proofs.sizes.ipv6_static_len.Goals as goal
 
@@ -16,6 +14,3 @@ overflow_add-result-2 c = omega (arith, canonical_short c.args.a (search rules),
 
 pub overflow_add-result-3 : goal.overflow_add-result-3
 overflow_add-result-3 c = omega (arith, canonical_short c.args.a (search rules), decimal_short c.args.n, ipv6_gateway_short c.args.given c.args.g (search rules), c.address_len-own.ensures, c.decimal_len-digits.ensures, c.ipv6_gateway_len.ensures)
-
-pub returns : goal.returns
-returns c = omega (arith, ipv6_size c.args.a c.args.n (gateway_if c.args.given c.args.g), c.address_len-own.ensures, c.decimal_len-digits.ensures, c.ipv6_gateway_len.ensures)

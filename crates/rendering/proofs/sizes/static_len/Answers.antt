@@ -3,8 +3,6 @@ use native.Mathlib.Omega.{arith}
 use Rattle.addresses.specs.Sizes.{dotted_short}
 use Rattle.addressing.specs.Addressing.{gateway_if}
 use Rattle.rendering.proofs.Bounds.{gateway_short}
-use Rattle.rendering.proofs.RowTexts.{static_size}
-use borrow.Author.Rules.{rules}
 use Rattle.rendering.proofs.sizes.static_len.Goals as goal
 
 pub overflow_add-result : goal.overflow_add-result
@@ -15,6 +13,3 @@ overflow_add-result-2 c = omega (arith, dotted_short c.args.i.address, dotted_sh
 
 pub overflow_add-result-3 : goal.overflow_add-result-3
 overflow_add-result-3 c = omega (arith, dotted_short c.args.i.address, dotted_short c.mask_bytes.result, c.address_len-own.ensures, c.address_len-mask.ensures, gateway_short (gateway_if c.args.i.has_gateway c.args.i.gateway), c.gateway_len.ensures)
-
-pub returns : goal.returns
-returns c = omega (arith, static_size c.args.i c.mask_bytes.ensures, c.address_len-own.ensures, c.address_len-mask.ensures, c.gateway_len.ensures)

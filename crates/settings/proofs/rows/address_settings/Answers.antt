@@ -10,9 +10,6 @@ ipv4_at-requires c = key_in N.Ipv4 c.requires
 pub ipv6_at-requires : goal.ipv6_at-requires
 ipv6_at-requires c = key_in N.Ipv6 c.requires
 
-pub chosen_at-requires : goal.chosen_at-requires
-chosen_at-requires c = c.requires.table
-
 pub mac_at-requires : goal.mac_at-requires
 mac_at-requires c = key_in N.Mac c.requires
 
@@ -24,9 +21,6 @@ entries_at-requires c = key_in N.SearchDomains c.requires
 
 pub entries_at-requires-2 : goal.entries_at-requires-2
 entries_at-requires-2 c = key_in N.Timeservers c.requires
-
-pub line_of-requires : goal.line_of-requires
-line_of-requires c = c.requires.table
 
 pub returns : goal.returns
 returns c = address_typed c.ipv4_at.ensures c.ipv6_at.ensures c.chosen_at.ensures c.mac_at.ensures c.count_at.ensures c.entries_at.ensures c.entries_at-2.ensures c.line_of.ensures

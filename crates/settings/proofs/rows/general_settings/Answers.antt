@@ -4,15 +4,6 @@ use Rattle.settings.proofs.Rowwise.{general_typed}
 use Rattle.values.proofs.KeptValues.{key_in}
 use Rattle.settings.proofs.rows.general_settings.Goals as goal
 
-pub choice_at-requires : goal.choice_at-requires
-choice_at-requires c = c.requires.table
-
-pub choice_at-requires-2 : goal.choice_at-requires-2
-choice_at-requires-2 c = c.requires.table
-
-pub choice_at-requires-3 : goal.choice_at-requires-3
-choice_at-requires-3 c = c.requires.table
-
 pub mac_at-requires : goal.mac_at-requires
 mac_at-requires c = key_in N.AddressOverride c.requires
 

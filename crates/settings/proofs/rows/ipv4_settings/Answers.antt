@@ -19,11 +19,5 @@ netmask_at-requires c = mask_in c.requires
 pub count_at-requires : goal.count_at-requires
 count_at-requires c = key_in N.Dns c.requires
 
-pub line_of-requires : goal.line_of-requires
-line_of-requires c = c.requires.table
-
-pub choice_at-requires : goal.choice_at-requires
-choice_at-requires c = c.requires.table
-
 pub returns : goal.returns
 returns c = ipv4_typed c.address_at.ensures c.address_at-2.ensures c.address_at-3.ensures c.netmask_at.ensures c.count_at.ensures c.line_of.ensures c.choice_at.ensures

@@ -4,9 +4,6 @@ use Rattle.settings.proofs.Rowwise.{ipv6_typed}
 use Rattle.values.proofs.KeptValues.{key_in}
 use Rattle.settings.proofs.rows.ipv6_settings.Goals as goal
 
-pub choice_at-requires : goal.choice_at-requires
-choice_at-requires c = c.requires.table
-
 pub with_length_at-requires : goal.with_length_at-requires
 with_length_at-requires c = key_in N.Ipv6Address c.requires
 

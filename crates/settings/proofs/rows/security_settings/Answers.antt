@@ -4,9 +4,6 @@ use Rattle.settings.proofs.Rowwise.{security_typed}
 use Rattle.values.proofs.KeptValues.{key_in}
 use Rattle.settings.proofs.rows.security_settings.Goals as goal
 
-pub line_of-requires : goal.line_of-requires
-line_of-requires c = c.requires.table
-
 pub key_at-requires : goal.key_at-requires
 key_at-requires c = key_in N.PreSharedKey c.requires
 

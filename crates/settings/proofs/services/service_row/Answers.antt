@@ -1,6 +1,5 @@
 -- Two parts of one row.
 use Rattle.settings.proofs.ServiceFile.{service_typed}
-use borrow.Author.Rules.{rules}
 use Rattle.settings.proofs.services.service_row.Goals as goal
 
 pub returns : goal.returns

@@ -1,6 +1,5 @@
 -- A service's name: its length, its front, its identifier.
 use Rattle.tables.proofs.ServiceNames.{service_short, service_long, service_other, service_name_lem}
-use borrow.Author.Rules.{rules}
 use Rattle.tables.proofs.groups.is_service.Goals as goal
 
 pub returns-then-name-lt9 : goal.returns-then-name-lt9

@@ -1,6 +1,5 @@
 -- Whether the key is the word, by cases.
 use mathlib.Core.Path.{sym, ◌∙◌}
-use borrow.Author.Rules.{rules}
 use Rattle.tables.proofs.keys.place_or.Goals as goal
 
 pub returns-then-equal : goal.returns-then-equal

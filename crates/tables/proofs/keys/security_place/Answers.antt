@@ -1,7 +1,6 @@
 -- One comparison after the other gives the key's place, by the laws of `counting`.
 use Rattle.rules.specs.Tables.{keys_of}
 use Rattle.tables.proofs.Counted.{counting}
-use borrow.Author.Rules.{rules}
 use Rattle.tables.proofs.keys.security_place.Goals as goal
 
 pub returns : goal.returns

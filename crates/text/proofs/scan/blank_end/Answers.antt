@@ -1,16 +1,6 @@
-use mathlib.Core.Path.{sym, ◌∙◌}
-use Rattle.text.proofs.ScanLaws.{scan_none, scan_turn, scan_stop, scan_end}
+use Rattle.text.specs.Bytes.{is_blank}
 use borrow.Author.Rules.{rules}
 use Rattle.text.proofs.scan.blank_end.Goals as goal
 
-pub loop-i-init : goal.loop-i-init
-loop-i-init c = scan_none (search rules)
-
-pub loop-i-preserved : goal.loop-i-preserved
-loop-i-preserved c = scan_turn c.loop-i.invariant (search rules) (sym c.is_blank.ensures ∙ c.if-is_blank.true)
-
-pub returns-else-is_blank : goal.returns-else-is_blank
-returns-else-is_blank c = scan_stop c.loop-i.invariant (search rules) (sym c.is_blank.ensures ∙ c.if-is_blank.false)
-
 pub returns : goal.returns
-returns c = scan_end c.loop-i.invariant (search rules)
+returns c = c.end_of.ensures is_blank (λ x r l e. search rules)

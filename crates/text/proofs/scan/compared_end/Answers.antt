@@ -1,17 +1,6 @@
--- The run of a class goes on byte by byte (`Scan`) to its end.
-use mathlib.Core.Path.{sym, ◌∙◌}
-use Rattle.text.proofs.ScanLaws.{scan_none, scan_turn, scan_stop, scan_end}
+use Rattle.text.specs.Bytes.{member_of}
 use borrow.Author.Rules.{rules}
 use Rattle.text.proofs.scan.compared_end.Goals as goal
 
-pub loop-i-init : goal.loop-i-init
-loop-i-init c = scan_none (search rules)
-
-pub loop-i-preserved : goal.loop-i-preserved
-loop-i-preserved c = scan_turn c.loop-i.invariant (search rules) (sym c.is_compared.ensures ∙ c.if-is_compared.true)
-
-pub returns-else-is_compared : goal.returns-else-is_compared
-returns-else-is_compared c = scan_stop c.loop-i.invariant (search rules) (sym c.is_compared.ensures ∙ c.if-is_compared.false)
-
 pub returns : goal.returns
-returns c = scan_end c.loop-i.invariant (search rules)
+returns c = c.end_of.ensures (member_of c.args.c) (λ x r l e. search rules)

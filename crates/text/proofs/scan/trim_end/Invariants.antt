@@ -1,8 +1,5 @@
 use Rattle.text.proofs.Loops.{Trimming}
 use Rattle.text.proofs.scan.trim_end.Given as goal
 
-abbrev pub invariant-loop-e : goal.invariant-loop-e
-invariant-loop-e l = Trimming l.s l.from l.e
-
-abbrev pub decreases-loop-e : goal.decreases-loop-e
-decreases-loop-e l = l.e
+abbrev pub invariant-loop-i : goal.invariant-loop-i
+invariant-loop-i l = Trimming l.s l.from l.i

@@ -1,6 +1,0 @@
--- By cases of the answer.
-use borrow.Author.Rules.{rules}
-use Rattle.boundary.proofs.answer_layout.answer_number.Goals as goal
-
-pub returns-in-Refused : goal.returns-in-Refused
-returns-in-Refused c = rw (c.number_of.ensures, c.in-Refused.is)

@@ -1,7 +1,0 @@
--- An array of zeros, filled from its front.
-use Rattle.put.proofs.Filling.{padded_by}
-use borrow.Author.Rules.{rules}
-use Rattle.escapes.proofs.string_63.Goals as goal
-
-pub returns : goal.returns
-returns c = padded_by 63 c.put_string.ensures

@@ -1,9 +1,0 @@
--- With an address, or without.
-use borrow.Author.Rules.{rules}
-use Rattle.joins.proofs.parts.numbers_of.Goals as goal
-
-pub returns-then-a : goal.returns-then-a
-returns-then-a c = rw (c.if-a.true, c.or_24.ensures)
-
-pub returns : goal.returns
-returns c = rw c.if-a.false

@@ -1,6 +1,0 @@
--- The rules by the answers over their parts.
-use borrow.Author.Rules.{rules}
-use Rattle.verdicts.proofs.closing.keyless.Goals as goal
-
-pub returns : goal.returns
-returns c = rw (c.both.ensures, c.taken.ensures, c.is_word-psk.ensures)

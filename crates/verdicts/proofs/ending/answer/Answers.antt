@@ -1,9 +1,0 @@
--- No fault, or the first.
-use borrow.Author.Rules.{rules}
-use Rattle.verdicts.proofs.ending.answer.Goals as goal
-
-pub returns-in-Nothing : goal.returns-in-Nothing
-returns-in-Nothing c = rw c.in-Nothing.is
-
-pub returns-in-At : goal.returns-in-At
-returns-in-At c = rw c.in-At.is
