@@ -55,7 +55,8 @@ fn fill_addresses(list: &mut [[u8; 4]; 4], s: &[u8], sep: Separator) -> Option<u
     None
 }
 
-// How many addresses s lists; 0 where it is broken.
+// How many addresses s lists; 0 where it is broken: no list has none, and settings and records keep 0 of an absent one, so that an Option,
+// here and below, would be turned back where it is asked.
 pub fn count_addresses(s: &[u8], sep: Separator) -> usize
     ensures { result ≡ length (or_empty (addresses sep s.now)) }
 {

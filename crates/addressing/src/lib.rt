@@ -17,7 +17,8 @@ pub enum Method {
     Static,
 }
 
-// How a network gets its addresses, of N bytes. What the method does not use is zero.
+// How a network gets its addresses, of N bytes. What the method does not use is zero. Flat, with a flag beside the gateway, as the record
+// (records `laid`) and C's struct have them, into which each field is copied: an option would be laid out twice.
 #[derive(Clone, Copy)]
 pub struct Numbers<const N: usize> {
     pub method: Method,

@@ -1,7 +1,6 @@
 -- What the reading, the lookups, the joins, the writer and the move answer, in the C boundary's structs: document 01's number and line, and what else is given.
 use Rattle.std.specs.Prelude.{ℕ, ◌-◌, ◌≡◌, cond, List, replicate}
 use Rattle.rules.specs.Numbers.{Seen, seen_of, answer_number, answer_line}
-use Rattle.rules.specs.declared.Reading.{Reading}
 use Rattle.rules.specs.declared.Refusal.TheVariants.{Malformed}
 use Rattle.record_layout.specs.Records.{record_at, known, record_in, servers_in}
 use Rattle.record_layout.specs.declared.CRecord.{CRecord}
@@ -13,6 +12,7 @@ use Rattle.boundary.specs.declared.CReading.{CReading}
 use Rattle.boundary.specs.declared.CRecordAnswer.{CRecordAnswer}
 use Rattle.boundary.specs.declared.CText.{CText}
 use Rattle.boundary.specs.declared.CWritten.{CWritten}
+use Rattle.rules.specs.Answering.{Reading}
 
 abbrev pub seen_at : Seen → CReading
 seen_at s =

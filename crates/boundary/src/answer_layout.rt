@@ -1,4 +1,4 @@
-// What the reading, the lookups, the joins, the writer and the move answer.
+// What the reading, the lookups, the joins, the writer and the move answer. Numbers and lines, 0 for none, are those of the C structs.
 ghost use Rattle.std.specs.Prelude.{◌≡◌};
 ghost use Rattle.rules.specs.Numbers.{answer_number, answer_line};
 ghost use Rattle.record_layout.specs.Records.{FitsBytes};
@@ -17,8 +17,8 @@ pub fn answer_number(a: Answer) -> u8
     ensures { result ≡ answer_number a }
 {
     match a {
-        Answer::Good => 0,
-        Answer::Refused(refusal, _) => number_of(refusal),
+        Ok(()) => 0,
+        Err(fault) => number_of(fault.refusal),
     }
 }
 
@@ -27,8 +27,8 @@ pub fn answer_line(a: Answer) -> usize
     ensures { result ≡ answer_line a }
 {
     match a {
-        Answer::Good => 0,
-        Answer::Refused(_, line) => line,
+        Ok(()) => 0,
+        Err(fault) => fault.line,
     }
 }
 
@@ -36,18 +36,18 @@ pub fn reading_at(r: Reading) -> CReading
     ensures { result ≡ reading_at r }
 {
     match r {
-        Reading::Accepted(settings, services) => CReading {
+        Ok(counts) => CReading {
             line: 0,
-            settings,
-            services,
+            settings: counts.settings,
+            services: counts.services,
             number: 0,
             reserved: [0; 7],
         },
-        Reading::Refused(refusal, line) => CReading {
-            line,
+        Err(fault) => CReading {
+            line: fault.line,
             settings: 0,
             services: 0,
-            number: number_of(refusal),
+            number: number_of(fault.refusal),
             reserved: [0; 7],
         },
     }

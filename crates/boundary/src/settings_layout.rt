@@ -1,4 +1,5 @@
-// Typed settings, handed out: those of an iwd file by its groups, and those of a ConnMan service. What is absent gives zeros.
+// Typed settings, handed out: those of an iwd file by its groups, and those of a ConnMan service. What is absent gives zeros,
+// and a code of 0: the fields are the C interface's.
 ghost use Rattle.std.specs.Prelude.{◌≡◌};
 ghost use Rattle.boundary.specs.Settings.{choice_code, chosen_code, general_at, security_at, ipv4_at, ipv6_at, iwd_settings_at, entries_at, network_at, addresses_at, service_settings_at};
 

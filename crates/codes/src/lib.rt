@@ -2,6 +2,7 @@
 //
 // They are the codes of what `kinds` and `records` declare; the header `include/qewaris.h` has them as enumerators. The
 // definitions are in specs/Codes, and that each case comes back from its code in specs/Laws.
+// They are functions and no `From` of the types: the numbers are the C boundary's, of which the crates of the types know nothing.
 #![tactic(auto)]
 
 ghost use Rattle.std.specs.Prelude.{◌≡◌, cond};
@@ -17,7 +18,8 @@ pub fn bit_of(b: bool) -> u8
     u8::from(b)
 }
 
-// A word by its place in its list of words, from 1.
+// A word by its place in its list of words, from 1, as the header has it. It is another number than the table of places keeps
+// (`places::value_codes::word_number`), which goes through all lists.
 pub fn word_code(w: Word) -> u8
     ensures { result ≡ word_code w }
 {
@@ -54,7 +56,8 @@ pub fn method_code(m: Method) -> u8
     }
 }
 
-// Of a method that may be absent.
+// Of a method that may be absent, which is 0 in C's struct. The flag stands beside the method: an absent one is laid out by the numbers of
+// `Method::Auto`, which give C its zeros.
 pub fn given_method_code(given: bool, m: Method) -> u8
     ensures { result ≡ given_method_code given m }
 {

@@ -1,5 +1,5 @@
 -- The three demands hold: the theorems whose types `Demands` gives.
-use Rattle.std.specs.Prelude.{ℕ, ◌≡◌, refl, List, Option, None}
+use Rattle.std.specs.Prelude.{ℕ, ◌≡◌, refl, List, Option, None, Ok, Err}
 use Rattle.std.proofs.Common.{arith, ap, sym, ◌∙◌}
 use Rattle.text.specs.Words.{word}
 use Rattle.text.specs.declared.Dialect.{Dialect}
@@ -11,10 +11,6 @@ use Rattle.rules.specs.Reading.{sections_of, reading}
 use Rattle.rules.specs.Asking.{iwd_entry, service_at, asked, asked_of}
 use Rattle.rules.proofs.Exactly.{every_input_answered, one_answer, answers_exactly}
 use Rattle.rules.proofs.GivenValues.{group_gives, service_gives}
-use Rattle.rules.specs.declared.Answer.{Answer}
-use Rattle.rules.specs.declared.Answer.TheVariants.{Good, Refused}
-use Rattle.rules.specs.declared.Reading.{Reading}
-use Rattle.rules.specs.declared.Reading.TheVariants as R
 use Rattle.rules.specs.declared.Refusal.{Refusal}
 use Rattle.settings.specs.Settings.{iwd_settings, service_settings}
 use Rattle.settings.specs.GivenHolds.{iwd_settings_given, service_settings_given}
@@ -36,25 +32,26 @@ use Rattle.mover.specs.Moves.{moved_if_good, moving_of, moving}
 use Rattle.mover.proofs.Theorem as M
 use Rattle.demands.specs.Demands
 use Rattle.demands.proofs.TableHolds.{settings_answer, service_answer_lem}
+use Rattle.rules.specs.Answering.{Answer, Reading, refused_at}
 
 -- ---- demand 1; `TableHolds` has `demand_1_table`
 
-good_not : {r : Refusal} {l : ℕ} → Good ≡ Refused r l → ⊥
+good_not : {r : Refusal} {l : ℕ} → ◌≡◌ {A = Answer} (Ok tt) (refused_at r l) → ⊥
 good_not e = let z : ◌≡◌ {A = ℕ} 0 1 = cc in omega (arith, z)
 
-unwritten : (w : Writing) (n f : List ℕ) {r : Refusal} {l : ℕ} → (written_answer w).answer ≡ Refused r l →
+unwritten : (w : Writing) (n f : List ℕ) {r : Refusal} {l : ℕ} → (written_answer w).answer ≡ refused_at r l →
     Demands.Unwritten w n f r l
 unwritten (writes a b) n f e = absurd (good_not e)
 unwritten (refuses q m) n f e =
     record { answer = ap (λ (a : Answer). record { answer = a; name_len = 0; file_len = 0 }) e; name = refl; file = refl }
 
-looked : (a : Answer) (o : Option Entry) {r : Refusal} {l : ℕ} → (lookup_of a o).answer ≡ Refused r l →
-    lookup_of a o ≡ record { answer = Refused r l; setting = None }
-looked Good o e = absurd (good_not e)
-looked (Refused q m) o e = ap (λ (a : Answer). record { answer = a; setting = None }) e
+looked : (a : Answer) (o : Option Entry) {r : Refusal} {l : ℕ} → (lookup_of a o).answer ≡ refused_at r l →
+    lookup_of a o ≡ record { answer = refused_at r l; setting = None }
+looked (Ok u) o e = absurd (good_not e)
+looked (Err f) o e = ap (λ (a : Answer). record { answer = a; setting = None }) e
 
-unjoined : (j : Joined) (s : List (List ℕ)) {r : Refusal} {l : ℕ} → (record_answer j).answer ≡ Refused r l →
-    (record_answer j ≡ record { answer = Refused r l; «record» = zero_record }) × (servers_after j s ≡ s)
+unjoined : (j : Joined) (s : List (List ℕ)) {r : Refusal} {l : ℕ} → (record_answer j).answer ≡ refused_at r l →
+    (record_answer j ≡ record { answer = refused_at r l; «record» = zero_record }) × (servers_after j s ≡ s)
 unjoined (J.joined i) s e = absurd (good_not e)
 unjoined (J.refused q m) s e = (ap (λ (a : Answer). record { answer = a; «record» = zero_record }) e, refl)
 
@@ -62,24 +59,24 @@ pub demand_1_refusal : Demands.Demand1Refusal
 unfolding iwd_record iwd_record_servers service_record service_record_servers
 demand_1_refusal (Demands.check d name file) r l e = go (reading d name file) e
   where
-    go : (x : Reading) → asked x ≡ Refused r l →
+    go : (x : Reading) → asked x ≡ refused_at r l →
         seen_of x ≡ record { number = number_of r; line = l; settings = 0; services = 0 }
-    go (R.Accepted n m) q = absurd (good_not q)
-    go (R.Refused s m) q =
+    go (Ok c) q = absurd (good_not q)
+    go (Err f) q =
         ap (λ (a : Answer). record { number = answer_number a; line = answer_line a; settings = 0; services = 0 }) q
 demand_1_refusal (Demands.iwd_settings_lem name file s) r l e = go (asked (reading Iwd name file)) e
   where
-    go : (a : Answer) → (iwd_answer_of a (sections_of Iwd file)).answer ≡ Refused r l →
-        (iwd_answer_of a (sections_of Iwd file) ≡ record { answer = Refused r l; settings = iwd_settings (λ g k. None) }) × (iwd_servers_of a (sections_of Iwd file) s ≡ s)
-    go Good q = absurd (good_not q)
-    go (Refused t m) q = (ap (λ (a : Answer). record { answer = a; settings = iwd_settings (λ g k. None) }) q, refl)
+    go : (a : Answer) → (iwd_answer_of a (sections_of Iwd file)).answer ≡ refused_at r l →
+        (iwd_answer_of a (sections_of Iwd file) ≡ record { answer = refused_at r l; settings = iwd_settings (λ g k. None) }) × (iwd_servers_of a (sections_of Iwd file) s ≡ s)
+    go (Ok u) q = absurd (good_not q)
+    go (Err f) q = (ap (λ (a : Answer). record { answer = a; settings = iwd_settings (λ g k. None) }) q, refl)
 demand_1_refusal (Demands.service_settings_lem name file w s) r l e =
     go (asked_of w (reading ConnMan name file)) (service_at w (sections_of ConnMan file)) e
   where
-    go : (a : Answer) (es : List Entry) → (service_answer_of a es).answer ≡ Refused r l →
-        (service_answer_of a es ≡ record { answer = Refused r l; settings = service_settings (λ k. None) }) × (service_servers_of a es s ≡ s)
-    go Good es q = absurd (good_not q)
-    go (Refused t m) es q = (ap (λ (a : Answer). record { answer = a; settings = service_settings (λ k. None) }) q, refl)
+    go : (a : Answer) (es : List Entry) → (service_answer_of a es).answer ≡ refused_at r l →
+        (service_answer_of a es ≡ record { answer = refused_at r l; settings = service_settings (λ k. None) }) × (service_servers_of a es s ≡ s)
+    go (Ok u) es q = absurd (good_not q)
+    go (Err f) es q = (ap (λ (a : Answer). record { answer = a; settings = service_settings (λ k. None) }) q, refl)
 demand_1_refusal (Demands.iwd_string group key name file) r l e =
     looked (asked (reading Iwd name file)) (entry_of key (entries_in group (sections_of Iwd file))) e
 demand_1_refusal (Demands.global_string key name file) r l e =
@@ -146,8 +143,8 @@ demand_3_key name file w n f x y a h e = good_key_kept name file w n f h e
 -- ---- that Saturday
 
 -- the refusal of a file is the answer of every call that reads it
-all_refuse : (name file : List ℕ) {d : Dialect} {r : Refusal} {l : ℕ} → reading d name file ≡ R.Refused r l →
-    (c : Demands.Call) → Demands.ReadingCall name file d c → Demands.answer_of c ≡ Refused r l
+all_refuse : (name file : List ℕ) {d : Dialect} {r : Refusal} {l : ℕ} → reading d name file ≡ refused_at r l →
+    (c : Demands.Call) → Demands.ReadingCall name file d c → Demands.answer_of c ≡ refused_at r l
 unfolding iwd_record service_record moving
 all_refuse name file e c (Demands.by_check d) = ap asked e
 all_refuse name file e c (Demands.by_iwd_settings s) =

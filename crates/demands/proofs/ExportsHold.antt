@@ -1,6 +1,6 @@
 -- The exported functions answer from document 01's table, and a refusal leaves zeros and unchanged buffers: by the cases of
 -- what is behind each answer.
-use Rattle.std.specs.Prelude.{ℕ, ◌<◌, ◌≡◌, refl, Bool, true, false, cond, List, ◌∷◌, eqb, length, Option, None, Some}
+use Rattle.std.specs.Prelude.{ℕ, ◌<◌, ◌≡◌, refl, Bool, true, false, cond, List, ◌∷◌, eqb, length, Option, None, Some, Ok, Err}
 use Rattle.std.proofs.Common.{arith}
 use Rattle.text.specs.Parts.{lines}
 use Rattle.text.specs.Words.{word}
@@ -15,10 +15,6 @@ use Rattle.rules.specs.Asking.{iwd_entry, service_at, asked, asked_of}
 use Rattle.rules.specs.Tables.{keys_of}
 use Rattle.rules.proofs.EntryPlaces.{EntryStands, group_stands, service_stands}
 use Rattle.rules.specs.AnswerRows.{AnswerRow, bare, placed, has_row, own_rows}
-use Rattle.rules.specs.declared.Answer.{Answer}
-use Rattle.rules.specs.declared.Answer.TheVariants.{Good, Refused}
-use Rattle.rules.specs.declared.Reading.{Reading}
-use Rattle.rules.specs.declared.Reading.TheVariants as R
 use Rattle.rules.specs.declared.Refusal.{Refusal}
 use Rattle.rules.specs.declared.Refusal.TheVariants as N
 use Rattle.settings.specs.Asked.{iwd_answer_of, iwd_servers_of, service_answer_of, service_servers_of}
@@ -35,6 +31,7 @@ use Rattle.demands.specs.Demands.{service_refusals, writer_rows}
 use Rattle.demands.proofs.TableHolds.{InRows, asked_given, asked_service_given, write_given, demand_1_table}
 use Rattle.demands.specs.Exports as E
 use Rattle.demands.specs.Exports.{Answered, export_number, reads, says, iwd_settings_lem, service_settings_lem, joins, wrote, zeroed, ExportedTable, ExportedRefusal}
+use Rattle.rules.specs.Answering.{Answer, Reading}
 
 -- the number of a refusal is not 0
 pub refusal_number : (r : Refusal) → eqb (number_of r) 0 ≡ false
@@ -62,8 +59,8 @@ refusal_number N.Malformed = refl
 
 reading_given : (k : ℕ) (rs : List AnswerRow) (r : Reading) → InRows k rs (asked r) →
     has_row k rs (reading_at r).number (reading_at r).line ≡ true
-reading_given k rs (R.Accepted n m) h = h
-reading_given k rs (R.Refused r l) h = h
+reading_given k rs (Ok c) h = h
+reading_given k rs (Err f) h = h
 
 -- the number and the line of a lookup are those of a row
 abbrev TextInRows : List ℕ → List AnswerRow → Lookup → Type 0
@@ -72,10 +69,10 @@ TextInRows file rs k =
 
 text_given : (file : List ℕ) (rs : List AnswerRow) (a : Answer) (o : Option Entry) →
     InRows (length (lines file)) (bare 0 ∷ rs) a → IfSome (EntryStands file) o → TextInRows file rs (lookup_of a o)
-text_given file rs Good None h e = rw (inside {x = 0} 0 (length (lines file)) (omega arith) (omega arith))
-text_given file rs Good (Some x) h e =
+text_given file rs (Ok u) None h e = rw (inside {x = 0} 0 (length (lines file)) (omega arith) (omega arith))
+text_given file rs (Ok u) (Some x) h e =
     rw (inside {x = x.line} 0 (length (lines file)) (omega arith) (between_high {x = x.line} 1 (length (lines file)) e.line))
-text_given file rs (Refused r l) o h e = rw (refusal_number r) (rw (refusal_number r) at h)
+text_given file rs (Err f) o h e = rw (refusal_number f.refusal) (rw (refusal_number f.refusal) at h)
 
 known_given : (b : Bool) (w : Writing) → InRows 0 writer_rows (written_answer w).answer →
     InRows 0 writer_rows (written_answer (cond b w (refuses N.Malformed 0))).answer
@@ -120,24 +117,24 @@ abbrev RefusalZero : Answered → Type 0
 RefusalZero x = 0 < export_number x → x ≡ zeroed x
 
 reading_zeros : (r : Reading) → RefusalZero (reads (reading_at r))
-reading_zeros (R.Accepted n m) h = absurd (omega arith)
-reading_zeros (R.Refused r l) h = refl
+reading_zeros (Ok c) h = absurd (omega arith)
+reading_zeros (Err f) h = refl
 
 text_zeros : (a : Answer) (o : Option Entry) → RefusalZero (says (text_at (lookup_place (lookup_of a o))))
-text_zeros Good o h = absurd (omega arith)
-text_zeros (Refused r l) o h = refl
+text_zeros (Ok u) o h = absurd (omega arith)
+text_zeros (Err f) o h = refl
 
 iwd_zeros : (a : Answer) (gs : List Section) →
     RefusalZero (iwd_settings_lem (iwd_settings_at (iwd_answer_of a gs) (iwd_servers_of a gs lent_servers)))
 unfolding keys_of
-iwd_zeros Good gs h = absurd (omega arith)
-iwd_zeros (Refused r l) gs h = refl
+iwd_zeros (Ok u) gs h = absurd (omega arith)
+iwd_zeros (Err f) gs h = refl
 
 service_zeros : (a : Answer) (es : List Entry) →
     RefusalZero (service_settings_lem (service_settings_at (service_answer_of a es) (service_servers_of a es lent_servers)))
 unfolding keys_of
-service_zeros Good es h = absurd (omega arith)
-service_zeros (Refused r l) es h = refl
+service_zeros (Ok u) es h = absurd (omega arith)
+service_zeros (Err f) es h = refl
 
 record_zeros : (j : Joined) → RefusalZero (joins (record_answer_at (record_answer j) (servers_after j lent_servers)))
 record_zeros (J.joined j) h = absurd (omega arith)

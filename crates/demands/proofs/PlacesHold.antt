@@ -1,5 +1,5 @@
 -- Each place that is answered lies in the file, and the value stands there: of a string, and of each entry of a list.
-use Rattle.std.specs.Prelude.{ℕ, zero, suc, ◌+◌, ◌-◌, ◌≤◌, ◌<◌, ◌≡◌, refl, Bool, true, false, cond, List, [], ◌∷◌, ◌++◌, eqb, length, map, take, drop, get_or, replicate, Option, None, Some}
+use Rattle.std.specs.Prelude.{ℕ, zero, suc, ◌+◌, ◌-◌, ◌≤◌, ◌<◌, ◌≡◌, refl, Bool, true, false, cond, List, [], ◌∷◌, ◌++◌, eqb, length, map, take, drop, get_or, replicate, Option, None, Some, Ok, Err}
 use Rattle.std.proofs.Common.{arith, ap, ap₂, sym, ◌∙◌, subst, true≢false, eq-eqb, take-append-drop, drop-drop}
 use Rattle.std.proofs.lemmas.Option.{same_Some, none-some}
 use Rattle.text.specs.Bytes.{is_entry_byte}
@@ -19,8 +19,6 @@ use Rattle.rules.specs.Asking.{iwd_entry, service_at, read_as, entry_start, aske
 use Rattle.rules.specs.Tables.{keys_of}
 use Rattle.rules.proofs.EntryPlaces.{EntryStands, group_stands, service_stands}
 use Rattle.rules.specs.Numbers.{number_of, answer_number}
-use Rattle.rules.specs.declared.Answer.{Answer}
-use Rattle.rules.specs.declared.Answer.TheVariants.{Good, Refused}
 use Rattle.settings.specs.Asked.{service_answer_of, service_servers_of}
 use Rattle.lookups.specs.Lookups.{lookup_of, group_lookup, service_lookup, lookup_place}
 use Rattle.joins.specs.Joins.{service_setting}
@@ -29,16 +27,17 @@ use Rattle.boundary.specs.Answers.{text_at}
 use Rattle.boundary.specs.Settings.{place_length, entries_at, service_settings_at}
 use Rattle.demands.specs.Exports.{StringStands, EntryAt, ListStands, entries_of, Lists, ExportedStrings, ExportedLists}
 use Rattle.demands.proofs.ExportsHold.{refusal_number}
+use Rattle.rules.specs.Answering.{Answer}
 
 -- ---- strings
 
 string_stands : (file : List ℕ) (a : Answer) (o : Option Entry) → IfSome (EntryStands file) o →
     StringStands file (lookup_of a o) (text_at (lookup_place (lookup_of a o)))
-string_stands file Good None h = record { within = omega arith; value = refl }
-string_stands file Good (Some e) h =
+string_stands file (Ok u) None h = record { within = omega arith; value = refl }
+string_stands file (Ok u) (Some e) h =
     let q : e.start + length e.value - e.start ≡ length e.value = omega arith in
     record { within = omega (arith, h.within); value = ap (λ (n : ℕ). part e.start (e.start + n) file) q ∙ h.value }
-string_stands file (Refused r l) o h = record { within = omega arith; value = refl }
+string_stands file (Err f) o h = record { within = omega arith; value = refl }
 
 group_string : (d : Dialect) (name file group key : List ℕ) →
     StringStands file (group_lookup d group key name file) (text_at (lookup_place (group_lookup d group key name file)))
@@ -150,5 +149,5 @@ exported_lists name file w e = go (asked_of w (reading ConnMan name file)) e
 
     go : (a : Answer) → answer_number (service_answer_of a (service_at w (sections_of ConnMan file))).answer ≡ 0 →
         Lists file w (service_settings_at (service_answer_of a (service_at w (sections_of ConnMan file))) (service_servers_of a (service_at w (sections_of ConnMan file)) lent_servers))
-    go Good e = record { search_domains_lem = stands (word "SearchDomains"); timeservers = stands (word "Timeservers") }
-    go (Refused r l) e = absurd (true≢false (sym (eq-eqb (number_of r) 0 e) ∙ refusal_number r))
+    go (Ok u) e = record { search_domains_lem = stands (word "SearchDomains"); timeservers = stands (word "Timeservers") }
+    go (Err f) e = absurd (true≢false (sym (eq-eqb (number_of f.refusal) 0 e) ∙ refusal_number f.refusal))

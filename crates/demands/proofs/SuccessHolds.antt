@@ -1,5 +1,5 @@
 -- An exported function answers 0 exactly when what is asked for is there; and what the two that write leave is read back.
-use Rattle.std.specs.Prelude.{ℕ, ◌<◌, ◌≡◌, refl, Bool, true, false, cond, ◌↔◌, List, length, drop, replicate, Option, None, Some}
+use Rattle.std.specs.Prelude.{ℕ, ◌<◌, ◌≡◌, refl, Bool, true, false, cond, ◌↔◌, List, length, drop, replicate, Option, None, Some, Ok, Err}
 use Rattle.std.proofs.Common.{arith, ap, ap₂, sym, ◌∙◌, subst, true≢false, eq-eqb}
 use Rattle.std.proofs.Math.Seq.{take-append_seam, drop-append_seam}
 use Rattle.text.specs.Laws.{inside}
@@ -12,10 +12,6 @@ use Rattle.rules.specs.Reading.{sections_of, reading}
 use Rattle.rules.specs.Asking.{iwd_entry, service_at, asked, asked_of}
 use Rattle.rules.proofs.Exactly.{accepted_exactly}
 use Rattle.rules.specs.GoodAnswers.{asked_reading, asked_service}
-use Rattle.rules.specs.declared.Answer.{Answer}
-use Rattle.rules.specs.declared.Answer.TheVariants.{Good, Refused}
-use Rattle.rules.specs.declared.Reading.{Reading}
-use Rattle.rules.specs.declared.Reading.TheVariants as R
 use Rattle.rules.specs.declared.Refusal.TheVariants.{NoService, Malformed}
 use Rattle.lookups.specs.Lookups.{lookup_of}
 use Rattle.records.specs.Record.{Join, joined}
@@ -41,13 +37,14 @@ use Rattle.demands.proofs.TableHolds.{settings_answer, service_answer_lem, looku
 use Rattle.demands.specs.Exports as E
 use Rattle.demands.specs.Exports.{WritableBytes, Joinable, new_name, new_file, OldBehind, ExportedSuccess, ExportedWrite, ExportedMove}
 use Rattle.demands.proofs.ExportsHold.{refusal_number}
+use Rattle.rules.specs.Answering.{Answer, Reading, refused_at}
 
 -- ---- 0, and nothing else, is the number of what is good
 
-number_good : (a : Answer) → answer_number a ≡ 0 → a ≡ Good
-number_good Good e = refl
-number_good (Refused r l) e =
-    let z : true ≡ false = sym (eq-eqb (number_of r) 0 e) ∙ refusal_number r in absurd (true≢false z)
+number_good : (a : Answer) → answer_number a ≡ 0 → a ≡ Ok tt
+number_good (Ok u) e = refl
+number_good (Err f) e =
+    let z : true ≡ false = sym (eq-eqb (number_of f.refusal) 0 e) ∙ refusal_number f.refusal in absurd (true≢false z)
 
 -- said of a number that is another
 of_number : {A : Type 0} {n m : ℕ} → n ≡ m → (A ↔ (m ≡ 0)) → A ↔ (n ≡ 0)
@@ -56,8 +53,8 @@ of_number e h = (λ a. e ∙ h.0 a, λ z. h.1 (sym e ∙ z))
 -- ---- a file, and a service of it
 
 reading_number : (r : Reading) → (reading_at r).number ≡ answer_number (asked r)
-reading_number (R.Accepted n m) = refl
-reading_number (R.Refused r l) = refl
+reading_number (Ok c) = refl
+reading_number (Err f) = refl
 
 file_success : (d : Dialect) (name file : List ℕ) →
     ObeysTheRules d name file ↔ (answer_number (asked (reading d name file)) ≡ 0)
@@ -73,7 +70,7 @@ service_success name file w = (there, found)
     there : Service name file w → answer_number (asked_of w (reading ConnMan name file)) ≡ 0
     there s =
         ap (λ (r : Reading). answer_number (asked_of w r)) s.accepted
-        ∙ ap (λ (b : Bool). answer_number (cond b Good (Refused NoService 0))) (inside {x = w} 1 s.services s.low s.high)
+        ∙ ap (λ (b : Bool). answer_number (cond b (Ok tt) (refused_at NoService 0))) (inside {x = w} 1 s.services s.low s.high)
 
     found : answer_number (asked_of w (reading ConnMan name file)) ≡ 0 → Service name file w
     found e =
@@ -84,9 +81,9 @@ service_success name file w = (there, found)
 
 record_number : (a : Answer) (o : Option ℕ) (j : Join) →
     answer_number (record_answer (J.joined_if_good a (or_no_place o j))).answer ≡ 0 → (answer_number a ≡ 0) × (o ≡ None)
-record_number Good None j e = (refl, refl)
-record_number Good (Some l) j e = absurd (omega (arith, e))
-record_number (Refused r l) o j e = absurd (true≢false (sym (eq-eqb (number_of r) 0 e) ∙ refusal_number r))
+record_number (Ok u) None j e = (refl, refl)
+record_number (Ok u) (Some l) j e = absurd (omega (arith, e))
+record_number (Err f) o j e = absurd (true≢false (sym (eq-eqb (number_of f.refusal) 0 e) ∙ refusal_number f.refusal))
 
 record_success : (name file : List ℕ) (w : ℕ) →
     Joinable name file w ↔ (answer_number (service_record name file w).answer ≡ 0)

@@ -1,5 +1,5 @@
 -- Every answer of an entry point has a number and a line of its rows of document 01's table.
-use Rattle.std.specs.Prelude.{ℕ, ◌≡◌, Bool, true, false, cond, ◌||◌, List, [], ◌∷◌, ◌++◌, leb, length, Option, None, Some}
+use Rattle.std.specs.Prelude.{ℕ, ◌≡◌, Bool, true, false, cond, ◌||◌, List, [], ◌∷◌, ◌++◌, leb, length, Option, None, Some, Ok, Err}
 use Rattle.std.proofs.Common.{arith}
 use Rattle.std.proofs.Math.Path.{refl}
 use Rattle.std.proofs.Math.Bool.{not}
@@ -26,10 +26,6 @@ use Rattle.rules.specs.Asking.{iwd_entry, service_at, read_as, entry_line, asked
 use Rattle.rules.proofs.EntryPlaces.{is_line, EntryStands, service_stands}
 use Rattle.rules.specs.AnswerRows.{AnswerRow, bare, lined, is_row, has_row, own_rows}
 use Rattle.rules.proofs.AnswerRowLaws.{has_row_append, reading_has_row}
-use Rattle.rules.specs.declared.Answer.{Answer}
-use Rattle.rules.specs.declared.Answer.TheVariants.{Good, Refused}
-use Rattle.rules.specs.declared.Reading.{Reading}
-use Rattle.rules.specs.declared.Reading.TheVariants as R
 use Rattle.rules.specs.declared.Refusal.{Refusal}
 use Rattle.rules.specs.declared.Refusal.TheVariants.{NoService}
 use Rattle.settings.specs.Asked.{iwd_answer_of, service_answer_of}
@@ -46,6 +42,8 @@ use Rattle.names.specs.Names.{network_of}
 use Rattle.mover.specs.Moves.{line_if, line_given, unplaced, least, earliest, or_unplaced, moved_if_good, moving}
 use Rattle.demands.specs.Demands as D
 use Rattle.demands.specs.Demands.{service_rows, service_record_rows, writer_rows, move_rows, Demand1Table}
+use Rattle.rules.specs.AnsweringLaws.{same_refusal}
+use Rattle.rules.specs.Answering.{Answer, Reading, refused_at}
 
 -- ---- an answer and its rows
 
@@ -59,16 +57,16 @@ either_true false b e = e
 
 -- good, or refused with a row of rs
 answer_given : (k : ℕ) (rs : List AnswerRow) (a : Answer) →
-    ((r : Refusal) (l : ℕ) → a ≡ Refused r l → has_row k rs (number_of r) l ≡ true) → InRows k (bare 0 ∷ rs) a
-answer_given k rs Good h = refl
-answer_given k rs (Refused r l) h =
-    either_true (is_row k (number_of r) l (bare 0)) (has_row k rs (number_of r) l) (h r l refl)
+    ((r : Refusal) (l : ℕ) → a ≡ refused_at r l → has_row k rs (number_of r) l ≡ true) → InRows k (bare 0 ∷ rs) a
+answer_given k rs (Ok u) h = refl
+answer_given k rs (Err f) h =
+    either_true (is_row k (number_of f.refusal) f.line (bare 0)) (has_row k rs (number_of f.refusal) f.line) (h f.refusal f.line refl)
 
 -- ---- a file
 
-asked_refused : (x : Reading) {r : Refusal} {l : ℕ} → asked x ≡ Refused r l → x ≡ R.Refused r l
-asked_refused (R.Accepted n m) e = let z : ◌≡◌ {A = ℕ} 0 1 = cc in absurd (omega arith)
-asked_refused (R.Refused q m) {r} {l} e = let a : q ≡ r = cc in let b : m ≡ l = cc in rw (a, b)
+asked_refused : (x : Reading) {r : Refusal} {l : ℕ} → asked x ≡ refused_at r l → x ≡ refused_at r l
+asked_refused (Ok c) e = let z : ◌≡◌ {A = ℕ} 0 1 = cc in absurd (omega arith)
+asked_refused (Err f) {r} {l} e = let s = same_refusal {A = Unit} {r = f.refusal} {l = f.line} e in rw (s.0, s.1)
 
 pub asked_given : (d : Dialect) (name file : List ℕ) →
     InRows (length (lines file)) (bare 0 ∷ own_rows d) (asked (reading d name file))
@@ -81,14 +79,14 @@ pub asked_service_given : (name file : List ℕ) (w : ℕ) →
     InRows (length (lines file)) service_rows (asked_of w (reading ConnMan name file))
 asked_service_given name file w = go (reading ConnMan name file) (asked_given ConnMan name file)
   where
-    count : (b : Bool) → InRows (length (lines file)) service_rows (cond b Good (Refused NoService 0))
+    count : (b : Bool) → InRows (length (lines file)) service_rows (cond b (Ok tt) (refused_at NoService 0))
     count true = refl
     count false = refl
 
     go : (x : Reading) → InRows (length (lines file)) (bare 0 ∷ own_rows ConnMan) (asked x) →
         InRows (length (lines file)) service_rows (asked_of w x)
-    go (R.Accepted n m) h = count (between 1 m w)
-    go (R.Refused r l) h = has_row_append (length (lines file)) (bare 0 ∷ own_rows ConnMan) (bare 18 ∷ []) (number_of r) l h
+    go (Ok c) h = count (between 1 c.services w)
+    go (Err f) h = has_row_append (length (lines file)) (bare 0 ∷ own_rows ConnMan) (bare 18 ∷ []) (number_of f.refusal) f.line h
 
 module _ (file : List ℕ) where
   -- a line of the file, by its number
@@ -180,9 +178,9 @@ module _ (file : List ℕ) where
 record_given : (k : ℕ) (a : Answer) (o : Option ℕ) (j : Join) → InRows k service_rows a →
     IfSome (λ l. between 1 k l ≡ true) o →
     InRows k service_record_rows (record_answer (J.joined_if_good a (or_no_place o j))).answer
-record_given k Good None j h p = refl
-record_given k Good (Some l) j h p = rw p
-record_given k (Refused r l) o j h p = has_row_append k service_rows (lined 16 ∷ []) (number_of r) l h
+record_given k (Ok u) None j h p = refl
+record_given k (Ok u) (Some l) j h p = rw p
+record_given k (Err f) o j h p = has_row_append k service_rows (lined 16 ∷ []) (number_of f.refusal) f.line h
 
 -- of a record that has a place: 0 or 17, without a line
 room_given : (k : ℕ) (rs : List AnswerRow) → has_row k rs 0 0 ≡ true → has_row k rs 17 0 ≡ true → (j : Join) (n f : List ℕ) →
@@ -196,10 +194,10 @@ room_given k rs x y j n f = go (writing_of j n f) (room_is j n f)
 move_given : (k : ℕ) (a : Answer) (o : Option ℕ) (j : Join) (n f : List ℕ) → InRows k service_rows a →
     IfSome (λ l. between 1 k l ≡ true) o →
     InRows k move_rows (written_answer (moved_if_good a (or_unplaced o (writing_of j n f)))).answer
-move_given k Good None j n f h p = room_given k move_rows refl refl j n f
-move_given k Good (Some l) j n f h p = rw p
-move_given k (Refused r l) o j n f h p =
-    has_row_append k service_record_rows (bare 17 ∷ []) (number_of r) l (has_row_append k service_rows (lined 16 ∷ []) (number_of r) l h)
+move_given k (Ok u) None j n f h p = room_given k move_rows refl refl j n f
+move_given k (Ok u) (Some l) j n f h p = rw p
+move_given k (Err fault) o j n f h p =
+    has_row_append k service_record_rows (bare 17 ∷ []) (number_of fault.refusal) fault.line (has_row_append k service_rows (lined 16 ∷ []) (number_of fault.refusal) fault.line h)
 
 pub write_given : (r : JoinRecord) (s : List (List ℕ)) (n f : List ℕ) →
     InRows 0 writer_rows (written_answer (writing r s n f)).answer
@@ -213,20 +211,20 @@ write_given r s n f = go (writing r s n f) (writing_is r s n f)
 -- ---- every call
 
 pub settings_answer : (a : Answer) (gs : List Section) → (iwd_answer_of a gs).answer ≡ a
-settings_answer Good gs = refl
-settings_answer (Refused r l) gs = refl
+settings_answer (Ok u) gs = refl
+settings_answer (Err f) gs = refl
 
 pub service_answer_lem : (a : Answer) (es : List Entry) → (service_answer_of a es).answer ≡ a
-service_answer_lem Good es = refl
-service_answer_lem (Refused r l) es = refl
+service_answer_lem (Ok u) es = refl
+service_answer_lem (Err f) es = refl
 
 pub lookup_answer : (a : Answer) (o : Option Entry) → (lookup_of a o).answer ≡ a
-lookup_answer Good o = refl
-lookup_answer (Refused r l) o = refl
+lookup_answer (Ok u) o = refl
+lookup_answer (Err f) o = refl
 
 pub joined_answer : (a : Answer) (j : Join) → (record_answer (J.joined_if_good a (J.joined j))).answer ≡ a
-joined_answer Good j = refl
-joined_answer (Refused r l) j = refl
+joined_answer (Ok u) j = refl
+joined_answer (Err f) j = refl
 
 pub demand_1_table : Demand1Table
 unfolding iwd_record service_record moving

@@ -1,7 +1,7 @@
 -- The three demands, and what was asked after them: the words of the person who asked, and under them what is proved. Here
 -- stand only definitions and the types of the theorems, over the definitions that the contracts of the entry points cite;
 -- `DemandsHold` and `RoomHolds` have the proofs, and `Exports` says the demands of the exported functions.
-use Rattle.std.specs.Prelude.{ℕ, ◌-◌, ◌≤◌, ◌<◌, ◌≡◌, true, false, List, [], ◌∷◌, ◌++◌, ◌↔◌, length, take, None, Some}
+use Rattle.std.specs.Prelude.{ℕ, ◌-◌, ◌≤◌, ◌<◌, ◌≡◌, true, false, List, [], ◌∷◌, ◌++◌, ◌↔◌, length, take, None, Some, Ok}
 use Rattle.text.specs.Parts.{lines}
 use Rattle.text.specs.Words.{word}
 use Rattle.text.specs.declared.Dialect.{Dialect}
@@ -15,12 +15,8 @@ use Rattle.rules.specs.Asking.{iwd_entry, service_at, asked}
 use Rattle.rules.specs.FileRules.{AcceptedFile, Answers}
 use Rattle.rules.specs.ListedValues.{value_of}
 use Rattle.rules.proofs.GivenValues.{Gives, service_entry}
-use Rattle.rules.specs.declared.Answer.{Answer}
-use Rattle.rules.specs.declared.Answer.TheVariants.{Good, Refused}
 use Rattle.rules.specs.declared.Group.{Group}
 use Rattle.rules.specs.declared.Group.TheVariants.{Service}
-use Rattle.rules.specs.declared.Reading.{Reading}
-use Rattle.rules.specs.declared.Reading.TheVariants as R
 use Rattle.rules.specs.declared.Refusal.{Refusal}
 use Rattle.settings.specs.Settings.{iwd_settings, service_settings}
 use Rattle.settings.specs.Given.{IwdGiven, ServiceGiven}
@@ -41,6 +37,7 @@ use Rattle.joins.specs.Saturday.{FaultyPassphrase}
 use Rattle.mover.specs.Moves.{moving}
 use Rattle.mover.specs.Demand.{Movable, Moved}
 use Rattle.mover.proofs.GoodMoves.{KeyKept}
+use Rattle.rules.specs.Answering.{Answer, Reading, accepted_with, refused_at}
 
 -- ==== 1. "Whatever bytes, name, service number, record or buffers come in, each entry point ends with an answer from
 -- document 01's table. A refusal gives its number and line, zeros for all else, and changes no byte of any lent buffer."
@@ -121,7 +118,7 @@ Demand1Table = (c : Call) → has_row (call_lines c) (call_rows c) (answer_numbe
 
 -- a refusal of the writer or the move: its number and line, no new bytes, and both buffers as they were
 pub record Unwritten (w : Writing) (n f : List ℕ) (r : Refusal) (l : ℕ) : Type 0 where
-  pub answer : written_answer w ≡ record { answer = Refused r l; name_len = 0; file_len = 0 }
+  pub answer : written_answer w ≡ record { answer = refused_at r l; name_len = 0; file_len = 0 }
   pub name : name_after w n ≡ n
   pub file : file_after w f ≡ f
 
@@ -131,28 +128,28 @@ abbrev pub Zeroed : Call → Refusal → ℕ → Type 0
 Zeroed (check d name file) r l =
     seen_of (reading d name file) ≡ record { number = number_of r; line = l; settings = 0; services = 0 }
 Zeroed (iwd_settings_lem name file s) r l =
-    (iwd_answered name file ≡ record { answer = Refused r l; settings = iwd_settings (λ g k. None) })
+    (iwd_answered name file ≡ record { answer = refused_at r l; settings = iwd_settings (λ g k. None) })
     × (iwd_servers_after name file s ≡ s)
 Zeroed (service_settings_lem name file w s) r l =
-    (service_answered name file w ≡ record { answer = Refused r l; settings = service_settings (λ k. None) })
+    (service_answered name file w ≡ record { answer = refused_at r l; settings = service_settings (λ k. None) })
     × (service_servers_after name file w s ≡ s)
 Zeroed (iwd_string group key name file) r l =
-    iwd_lookup group key name file ≡ record { answer = Refused r l; setting = None }
+    iwd_lookup group key name file ≡ record { answer = refused_at r l; setting = None }
 Zeroed (global_string key name file) r l =
-    global_lookup key name file ≡ record { answer = Refused r l; setting = None }
+    global_lookup key name file ≡ record { answer = refused_at r l; setting = None }
 Zeroed (service_string w key name file) r l =
-    service_lookup w key name file ≡ record { answer = Refused r l; setting = None }
+    service_lookup w key name file ≡ record { answer = refused_at r l; setting = None }
 Zeroed (iwd_record_lem name file s) r l =
-    (iwd_record name file ≡ record { answer = Refused r l; «record» = zero_record })
+    (iwd_record name file ≡ record { answer = refused_at r l; «record» = zero_record })
     × (iwd_record_servers name file s ≡ s)
 Zeroed (service_record_lem name file w s) r l =
-    (service_record name file w ≡ record { answer = Refused r l; «record» = zero_record })
+    (service_record name file w ≡ record { answer = refused_at r l; «record» = zero_record })
     × (service_record_servers name file w s ≡ s)
 Zeroed (write q s n f) r l = Unwritten (writing q s n f) n f r l
 Zeroed (move name file w n f) r l = Unwritten (moving name file w n f) n f r l
 
 abbrev pub Demand1Refusal : Type 0
-Demand1Refusal = (c : Call) (r : Refusal) (l : ℕ) → answer_of c ≡ Refused r l → Zeroed c r l
+Demand1Refusal = (c : Call) (r : Refusal) (l : ℕ) → answer_of c ≡ refused_at r l → Zeroed c r l
 
 -- ==== 2. "A file is accepted exactly when every line, and then every group, obeys 01's rules; else the first offending
 -- line is named. Accepted settings have the values those rules give. A well-formed record that iwd has a place for,
@@ -181,7 +178,7 @@ pub record ObeysTheRules (d : Dialect) (name file : List ℕ) : Type 0 where
 abbrev pub Demand2GroupValues : Type 0
 Demand2GroupValues =
     (d : Dialect) (name file : List ℕ) (n m : ℕ)
-    → reading d name file ≡ R.Accepted n m
+    → reading d name file ≡ accepted_with n m
     → (group : List ℕ) (g : Group)
     → group_of d group ≡ Some g
     → (key : List ℕ)
@@ -191,7 +188,7 @@ Demand2GroupValues =
 abbrev pub Demand2ServiceValues : Type 0
 Demand2ServiceValues =
     (name file : List ℕ) (n m : ℕ)
-    → reading ConnMan name file ≡ R.Accepted n m
+    → reading ConnMan name file ≡ accepted_with n m
     → (w : ℕ) (key : List ℕ)
     → Gives ConnMan (kind_of Service key) (service_entry (sections_of ConnMan file) w key)
     (value_of Service (service_entry (sections_of ConnMan file) w) key)
@@ -200,13 +197,13 @@ Demand2ServiceValues =
 abbrev pub Demand2IwdFields : Type 0
 Demand2IwdFields =
     (name file : List ℕ)
-    → (iwd_answered name file).answer ≡ Good
+    → (iwd_answered name file).answer ≡ Ok tt
     → IwdGiven (sections_of Iwd file) (iwd_answered name file).settings
 
 abbrev pub Demand2ServiceFields : Type 0
 Demand2ServiceFields =
     (name file : List ℕ) (w : ℕ)
-    → (service_answered name file w).answer ≡ Good
+    → (service_answered name file w).answer ≡ Ok tt
     → ServiceGiven (service_at w (sections_of ConnMan file)) (service_answered name file w).settings
 
 -- a struct that is formed, with a place in iwd, and buffers with room; `Arrays` is what the struct's types say of its
@@ -224,8 +221,8 @@ pub record RecordReadsBack (r : JoinRecord) (s : List (List ℕ)) (n f : List �
   pub file : List ℕ
   pub written : writing r s n f ≡ writes name file
   pub count : ℕ
-  pub accepted : reading Iwd name file ≡ R.Accepted count 0
-  pub struct : iwd_record name file ≡ record { answer = Good; «record» = r }
+  pub accepted : reading Iwd name file ≡ accepted_with count 0
+  pub struct : iwd_record name file ≡ record { answer = Ok tt; «record» = r }
   pub servers : (old : List (List ℕ)) → iwd_record_servers name file old ≡ s
 
 abbrev pub Demand2RoundTrip : Type 0
@@ -265,7 +262,7 @@ abbrev pub Demand3Key : Type 0
 Demand3Key =
     (name file : List ℕ) (w : ℕ) (n f x y : List ℕ) (a : Written)
     → Writes (moving name file w n f) n f x y a
-    → a.answer ≡ Good
+    → a.answer ≡ Ok tt
     → KeyKept name file w x y a
 
 -- ==== 2026-01. "We want it shown that no record the writer accepts ever needs more than 858 bytes for the file and 70 for
@@ -334,7 +331,7 @@ pub record AllRefuse (d : Dialect) (name file : List ℕ) (n : ℕ) : Type 0 whe
   pub refusal : Refusal
   pub line : ℕ
   pub early : line ≤ n
-  pub answers : (c : Call) → ReadingCall name file d c → answer_of c ≡ Refused refusal line
+  pub answers : (c : Call) → ReadingCall name file d c → answer_of c ≡ refused_at refusal line
   pub zeros : (c : Call) → ReadingCall name file d c → Zeroed c refusal line
 
 -- a file of either kind whose line n, wherever it stands, is a Passphrase line with broken text, a bad escape, or not 8 to 63 bytes once

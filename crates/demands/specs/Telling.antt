@@ -4,9 +4,8 @@ use Rattle.std.specs.Prelude.{ℕ, ◌≡◌, List}
 use Rattle.text.specs.declared.Dialect.{Dialect}
 use Rattle.rules.specs.Numbers.{seen_of, answer_number, answer_line}
 use Rattle.rules.specs.Reading.{reading}
-use Rattle.rules.specs.declared.Answer.{Answer}
-use Rattle.rules.specs.declared.Reading.{Reading}
 use Rattle.demands.specs.Demands.{Call, answer_of}
+use Rattle.rules.specs.Answering.{Answer, Reading}
 
 -- the reading r of a file: the definition's, and its number, line and counts
 pub record Checks (d : Dialect) (name file : List ℕ) (r : Reading) : Type 0 where

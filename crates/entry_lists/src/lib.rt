@@ -11,7 +11,7 @@ ghost use Rattle.entry_lists.specs.Places.{entries_laid};
 
 use text::{Place, scan};
 
-// A list of 1 to 4 entries by their places; those behind the last are 0..0.
+// A list of 1 to 4 entries by their places; those behind the last are 0..0. An array with its count, since nothing is kept on a heap.
 #[derive(Clone, Copy)]
 pub struct Entries {
     pub count: usize,

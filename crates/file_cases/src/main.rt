@@ -10,7 +10,6 @@
 ghost use Rattle.std.specs.Prelude.{◌≤◌, length, IfOk};
 
 use intake::streams;
-use rules::{Answer, Reading};
 use std::io;
 use std::io::{Read, Write};
 use written::buffers;
@@ -18,10 +17,8 @@ use written::buffers;
 fn check<W: Write>(out: &mut W, name: &[u8], file: &[u8]) -> io::Result<()> {
     let read = qewaris::check(names::dialects::dialect_of(name), name, file);
     match read {
-        Reading::Accepted(settings, services) => {
-            streams::say_numbers(out, b"accepted ", settings, services)
-        }
-        Reading::Refused(refusal, line) => streams::say_refused(out, refusal, line),
+        Ok(counts) => { streams::say_numbers(out, b"accepted ", counts.settings, counts.services) }
+        Err(fault) => streams::say_refused(out, fault.refusal, fault.line),
     }
 }
 
@@ -55,14 +52,14 @@ fn move_service<W: Write>(out: &mut W, file: &[u8], service: usize) -> io::Resul
     );
     let answer = written.answer;
     match answer {
-        Answer::Good => say_moved(
+        Ok(()) => say_moved(
             out,
             &name_out,
             written.name_len,
             &file_out,
             written.file_len,
         ),
-        Answer::Refused(refusal, line) => streams::say_refused(out, refusal, line),
+        Err(fault) => streams::say_refused(out, fault.refusal, fault.line),
     }
 }
 
@@ -95,15 +92,11 @@ fn byte_of(written: u8) -> u8 {
 fn decode(out: &mut [u8], s: &[u8]) -> usize
     ensures { result ≤ length out.new }
 {
-    let mut i = 0;
-    while i < s.len() {
-        if out.len() <= i {
-            return i;
-        }
+    let n = s.len().min(out.len());
+    for i in 0..n {
         out[i] = byte_of(s[i]);
-        i += 1;
     }
-    i
+    n
 }
 
 // A line, with its answer where it is a case.

@@ -43,7 +43,7 @@ fn after_suffix(n: usize, b: u8) -> Form
     Form::Broken
 }
 
-// The form with one more byte.
+// The form with one more byte. A `match` over the four states: each is left in its own way, and a suffix has its length with it.
 fn after(f: Form, b: u8) -> Form
     ensures { result ≡ form_after f b }
 {

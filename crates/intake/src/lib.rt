@@ -39,11 +39,18 @@ pub struct Input {
     pub rest: NamedFile,
 }
 
-// How reading goes, and what is kept: whether it is over, and whether all that is asked for has come in.
+// How reading goes: more is asked for, all that is asked for has come in, or it was cut off.
+#[derive(Clone, Copy, PartialEq, Eq)]
+pub enum Progress {
+    More,
+    Whole,
+    CutOff,
+}
+
+// How reading goes, and what is kept.
 #[derive(Clone, Copy)]
 pub struct ReadInput {
-    pub over: bool,
-    pub whole: bool,
+    pub progress: Progress,
     pub kept: Input,
 }
 

@@ -4,7 +4,8 @@ ghost use Rattle.intake.specs.Number.{service_number};
 
 use text::classes;
 
-// The number that 1 to 3 decimal digits write, and 0 for any other line.
+// The number that 1 to 3 decimal digits write, and 0 for any other line, in document 01's words: "anything but 1 to 3 decimal digits counts
+// as 0".
 pub fn service_number(line: &[u8]) -> usize
     ensures { result ≡ service_number line.now }
 {

@@ -1,7 +1,7 @@
 // Input and output: the whole input into its buffers, and what a program answers.
 //
-// Where reading fails nothing is whole, so that no file is judged that was cut off. What is written is no part of a contract, so
-// each `say` says only that it answers nothing, or the error of a write, before which some of the bytes may have been written.
+// Where reading fails nothing is whole, so that no file is judged that was cut off. Each `say` promises the bytes that it writes where
+// it answers Ok; before the error of a write some of them may have been written.
 ghost use Rattle.std.specs.Prelude.{◌≡◌, ◌++◌, ◌∷◌, [], IfOk, OnOk};
 ghost use Rattle.std.specs.Fmt.{decimal};
 ghost use Rattle.std.specs.Io.KnownBytes.{Appends};
@@ -9,7 +9,7 @@ ghost use Rattle.text.specs.Words.{word};
 ghost use Rattle.rules.specs.Numbers.{number_of};
 ghost use Rattle.intake.specs.Input.{SomeInput};
 
-use crate::{FileBuffer, Input, NameBuffer, NumberBuffer, ReadInput, keeping};
+use crate::{FileBuffer, Input, NameBuffer, NumberBuffer, Progress, ReadInput, keeping};
 use rules::Refusal;
 use std::io;
 use std::io::{Read, Write};
@@ -45,7 +45,8 @@ pub fn say_numbers<W: Write>(
 // The line of a refusal.
 pub fn say_refused<W: Write>(out: &mut W, refusal: Refusal, line: usize) -> io::Result<()>
     ensures ok { IfOk result (λ r. r ≡ tt) }
-    ensures bytes { OnOk result (Appends (W.contents out.old) (W.contents out.new) (word "refused " ++ decimal (number_of refusal) ++ 32 ∷ decimal line ++ 10 ∷ [])) }
+    ensures bytes { OnOk result (Appends (W.contents out.old) (W.contents out.new)
+        (word "refused " ++ decimal (number_of refusal) ++ 32 ∷ decimal line ++ 10 ∷ [])) }
 {
     let number = tables::numbers::number_of(refusal);
     write!(out, "refused {number} {line}\n")
@@ -76,24 +77,23 @@ fn read_part<R: Read>(
     let mut buf = [0u8; 65536];
     let Ok(n) = input.read(&mut buf) else {
         return ReadInput {
-            over: true,
-            whole: false,
+            progress: Progress::CutOff,
             kept,
         };
     };
-    let more = keeping::take(number, name, file, kept, &buf[0..n]);
-    let over = is_over(n, more);
+    let kept = keeping::take(number, name, file, kept, &buf[0..n]);
     ReadInput {
-        over,
-        whole: over,
-        kept: more,
+        progress: progress(n, kept),
+        kept,
     }
 }
 
-// Whether a part of n bytes was the last that is asked for: the input has ended, or the file is too long.
-fn is_over(n: usize, k: Input) -> bool {
-    let rest = k.rest;
-    n == 0 || rest.file == 16385
+// How reading goes after a part of n bytes: it was the last that is asked for where the input has ended, or the file is too long.
+fn progress(n: usize, k: Input) -> Progress {
+    if n == 0 || k.rest.file == 16385 {
+        return Progress::Whole;
+    }
+    Progress::More
 }
 
 // Reads the input into the three buffers, as far as it is asked for. An input that is not numbered has no line with a number
@@ -110,14 +110,13 @@ pub fn read_input<R: Read>(
     let mut kept = keeping::nothing(!numbered);
     for _ in 0..u64::MAX {
         let read = read_part(input, number, name, file, kept);
-        if read.over {
+        if read.progress != Progress::More {
             return read;
         }
         kept = read.kept;
     }
     ReadInput {
-        over: true,
-        whole: false,
+        progress: Progress::CutOff,
         kept,
     }
 }

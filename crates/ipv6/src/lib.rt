@@ -14,7 +14,8 @@ struct Group {
     value: Option<u16>,
 }
 
-// A run of zero groups: the place of the first, and how many they are.
+// A run of zero groups: the place of the first, and how many they are. Where there is none it has none, and stands at 8: a run of one is not
+// shortened either, so that an Option would be one question more.
 #[derive(Clone, Copy)]
 struct Run {
     start: usize,

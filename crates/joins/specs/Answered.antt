@@ -48,11 +48,11 @@ use Rattle.rules.proofs.Acceptance.{accepted_obeys}
 use Rattle.rules.specs.GoodAnswers.{asked_reading}
 use Rattle.rules.proofs.GoodValues.{GoodValue, group_value_lem, service_value}
 use Rattle.rules.proofs.GivenValues.{read_holds, entry_given}
-use Rattle.rules.specs.declared.Reading.TheVariants.{Accepted}
 use Rattle.records.specs.Record.{Join}
 use Rattle.records.specs.Formed.{GoodPassphrase, GoodKey, GoodSecret, GoodIpv4, GoodIpv6, GoodServers, GoodDomain, WellFormed}
 use Rattle.joins.specs.Joins.{joined, secret_from, static_or_dhcp, static_or_auto, unless_off, name_from, iwd_ipv6, iwd_join, service_join, wired, foreign, no_record, network_name, iwd_joined, service_setting, service_joined}
 use Rattle.joins.specs.Joining.{or_false_lem, joined_good, service_joining}
+use Rattle.rules.specs.Answering.{accepted_with}
 
 -- ---- what is read from a setting
 
@@ -117,7 +117,7 @@ network_formed name None q {k} e = absurd (none-some k e)
 network_formed name (Some x) q e = network_bytes name q
 
 -- of an accepted file
-module _ (name file : List ℕ) {n m : ℕ} (a : reading D.Iwd name file ≡ Accepted n m) where
+module _ (name file : List ℕ) {n m : ℕ} (a : reading D.Iwd name file ≡ accepted_with n m) where
   iwd_secret_formed : GoodSecret (iwd_join (network_name (network_of name)) (iwd_entry (sections_of D.Iwd file))).credential
   unfolding group_of keys_of
   iwd_secret_formed =
@@ -271,7 +271,7 @@ service_ipv6_formed at =
     or_auto_formed 16 128 (read_as connman_ipv6 at) (read_holds GoodIpv6 connman_ipv6 at (λ e q x r. connman_ipv6_good e.value r))
 
 -- of service w of an accepted file
-module _ (name file : List ℕ) (w : ℕ) {n m : ℕ} (a : reading D.ConnMan name file ≡ Accepted n m) where
+module _ (name file : List ℕ) (w : ℕ) {n m : ℕ} (a : reading D.ConnMan name file ≡ accepted_with n m) where
   service_secret_formed : GoodSecret (service_join (service_setting w file)).credential
   unfolding keys_of
   service_secret_formed =

@@ -1,5 +1,5 @@
 -- What a service's record that is answered rests on: an accepted file, and a service that obeys the rules over a group.
-use Rattle.std.specs.Prelude.{ℕ, zero, suc, ◌≤◌, ◌≡◌, refl, Bool, true, false, cond, ◌||◌, List, [], ◌∷◌, Option, None, Some}
+use Rattle.std.specs.Prelude.{ℕ, zero, suc, ◌≤◌, ◌≡◌, refl, Bool, true, false, cond, ◌||◌, List, [], ◌∷◌, Option, None, Some, Ok, Err}
 use Rattle.std.proofs.Common.{arith, sym, ◌∙◌, subst, true≢false}
 use Rattle.std.proofs.lemmas.Option.{none-some, same_Some}
 use Rattle.text.specs.Options.{or_else}
@@ -13,13 +13,12 @@ use Rattle.rules.specs.Reading.{Name, connman_file, name_in, groups_fault, secti
 use Rattle.rules.specs.Asking.{first_or, service_at, asked_of}
 use Rattle.rules.proofs.Acceptance.{obeys_accepted, accepted_obeys}
 use Rattle.rules.specs.GoodAnswers.{asked_service}
-use Rattle.rules.specs.declared.Answer.{Answer}
-use Rattle.rules.specs.declared.Answer.TheVariants as A
-use Rattle.rules.specs.declared.Reading.TheVariants.{Accepted}
 use Rattle.rules.specs.declared.Refusal.{Refusal}
 use Rattle.rules.specs.declared.Refusal.TheVariants.{Missing, Contradiction}
 use Rattle.records.specs.Record.{Join}
 use Rattle.joins.specs.Joins.{joined, service_join, no_record, or_no_place, joined_if_good, service_setting, service_joined}
+use Rattle.rules.specs.AnsweringLaws.{same_counts}
+use Rattle.rules.specs.Answering.{Answer, accepted_with}
 
 -- ---- the statement
 
@@ -32,7 +31,7 @@ pub record ServiceObeys (es : List Entry) : Type 0 where
 pub record Joining (name file : List ℕ) (w : ℕ) (j : Join) : Type 0 where
   pub settings : ℕ
   pub services : ℕ
-  pub accepted : reading D.ConnMan name file ≡ Accepted settings services
+  pub accepted : reading D.ConnMan name file ≡ accepted_with settings services
   pub obeys : ServiceObeys (service_at w (sections_of D.ConnMan file))
   pub record_given : no_record (service_setting w file) ≡ None
   pub is : service_join (service_setting w file) ≡ j
@@ -81,16 +80,15 @@ faultless_obeys es e = go (lacks es) refl (clashes es) refl e
     go false p false q e = record { lacking = p; clashing = q }
 
 -- the count of an accepted file is that of its services
-counted : (name file : List ℕ) {n m : ℕ} → reading D.ConnMan name file ≡ Accepted n m →
+counted : (name file : List ℕ) {n m : ℕ} → reading D.ConnMan name file ≡ accepted_with n m →
     services (sections_of D.ConnMan file) ≡ m
 counted name file {n} {m} a =
-    let q : Accepted (settings (sections_of D.ConnMan file)) (services (sections_of D.ConnMan file)) ≡ Accepted n m = sym (obeys_accepted D.ConnMan name file (accepted_obeys D.ConnMan name file a)) ∙ a in
-    cc
+    (same_counts (sym (obeys_accepted D.ConnMan name file (accepted_obeys D.ConnMan name file a)) ∙ a)).1
 
 connman_kind : (name : List ℕ) (k : Name) → name_in D.ConnMan name ≡ Some k → connman_file ≡ k
 connman_kind name k e = same_Some connman_file k (only_some (connman_name name) (Some connman_file) e).1
 
-accepted_services : (name file : List ℕ) {n m : ℕ} → reading D.ConnMan name file ≡ Accepted n m →
+accepted_services : (name file : List ℕ) {n m : ℕ} → reading D.ConnMan name file ≡ accepted_with n m →
     services_fault (sections_of D.ConnMan file) ≡ None
 accepted_services name file a =
     let o = accepted_obeys D.ConnMan name file a in
@@ -99,10 +97,10 @@ accepted_services name file a =
 -- ---- the service whose record is answered
 
 pub joined_good : (a : Answer) (o : Option ℕ) (i : Join) {j : Join} → joined_if_good a (or_no_place o i) ≡ joined j →
-    (a ≡ A.Good) × (i ≡ j) × (o ≡ None)
-joined_good A.Good None i {j} e = (refl, cc, refl)
-joined_good A.Good (Some l) i e = let z : ◌≡◌ {A = ℕ} 0 1 = cc in absurd (omega arith)
-joined_good (A.Refused r l) o i e = let z : ◌≡◌ {A = ℕ} 0 1 = cc in absurd (omega arith)
+    (a ≡ Ok tt) × (i ≡ j) × (o ≡ None)
+joined_good (Ok u) None i {j} e = (refl, cc, refl)
+joined_good (Ok u) (Some l) i e = let z : ◌≡◌ {A = ℕ} 0 1 = cc in absurd (omega arith)
+joined_good (Err f) o i e = let z : ◌≡◌ {A = ℕ} 0 1 = cc in absurd (omega arith)
 
 pub service_joining : (name file : List ℕ) (w : ℕ) {j : Join} → service_joined name file w ≡ joined j →
     Joining name file w j

@@ -1,6 +1,6 @@
 -- The join record of an iwd file and of a ConnMan service, as document 01 says it under "The join record". A value is
 -- asked for by its group and key; which kind reads it stands in the table of keys.
-use Rattle.std.specs.Prelude.{ℕ, Bool, true, false, cond, ◌||◌, List, [], replicate, Option, None, Some}
+use Rattle.std.specs.Prelude.{ℕ, Bool, true, false, cond, ◌||◌, List, [], replicate, Option, None, Some, Ok, Err}
 use Rattle.text.specs.Words.{word}
 use Rattle.text.specs.Options.{only, or_else, or_empty}
 use Rattle.text.specs.declared.Dialect.TheVariants as D
@@ -20,12 +20,11 @@ use Rattle.rules.specs.declared.Group.TheVariants as G
 use Rattle.rules.specs.Reading.{sections_of, reading}
 use Rattle.rules.specs.declared.Refusal.{Refusal}
 use Rattle.rules.specs.declared.Refusal.TheVariants.{NoPlace}
-use Rattle.rules.specs.declared.Answer.{Answer}
-use Rattle.rules.specs.declared.Answer.TheVariants.{Good, Refused}
 use Rattle.records.specs.Record.{Secret, no_secret, passphrase, key, Join, laid, laid_servers}
 use Rattle.records.specs.declared.Credential.TheVariants as C
 use Rattle.records.specs.declared.JoinRecord.{JoinRecord}
 use Rattle.joins.specs.declared.RecordAnswer.{RecordAnswer}
+use Rattle.rules.specs.Answering.{Answer, refused_at}
 
 -- ---- what an absent value means
 
@@ -156,8 +155,8 @@ network_name None = []
 network_name (Some x) = x.name
 
 abbrev pub joined_if_good : Answer → Joined → Joined
-joined_if_good Good j = j
-joined_if_good (Refused r l) j = refused r l
+joined_if_good (Ok u) j = j
+joined_if_good (Err f) j = refused f.refusal f.line
 
 abbrev pub or_no_place : Option ℕ → Join → Joined
 or_no_place None j = joined j
@@ -206,8 +205,8 @@ zero_record =
 
 -- "Every answer but 0 leaves all lent buffers unchanged and all other result fields zero."
 abbrev pub record_answer : Joined → RecordAnswer
-record_answer (joined j) = record { answer = Good; «record» = laid j }
-record_answer (refused r l) = record { answer = Refused r l; «record» = zero_record }
+record_answer (joined j) = record { answer = Ok tt; «record» = laid j }
+record_answer (refused r l) = record { answer = refused_at r l; «record» = zero_record }
 
 abbrev pub servers_after : Joined → List (List ℕ) → List (List ℕ)
 servers_after (joined j) old = laid_servers j

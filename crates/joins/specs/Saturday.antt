@@ -11,10 +11,10 @@ use Rattle.lines.specs.Lines.{setting, line_of}
 use Rattle.kinds.specs.Kinds as K
 use Rattle.rules.specs.Sections.{Entry}
 use Rattle.rules.specs.Reading.{reading}
-use Rattle.rules.specs.declared.Reading.TheVariants.{Refused}
 use Rattle.rules.specs.declared.Refusal.{Refusal}
 use Rattle.records.specs.Record.{Join, passphrase}
 use Rattle.joins.specs.Joins.{needs_key}
+use Rattle.rules.specs.Answering.{refused_at}
 
 -- ---- a faulty Passphrase line
 
@@ -45,7 +45,7 @@ pub record FaultyPassphrase (d : Dialect) (file : List ℕ) (n : ℕ) : Type 0 w
 pub record RefusedBy (d : Dialect) (name file : List ℕ) (n : ℕ) : Type 0 where
   pub refusal : Refusal
   pub line : ℕ
-  pub is : reading d name file ≡ Refused refusal line
+  pub is : reading d name file ≡ refused_at refusal line
   pub early : line ≤ n
 
 -- ---- a good Passphrase line

@@ -18,7 +18,7 @@ use records::JoinRecord;
 use rules::Group;
 use text::Dialect;
 
-// Lays the parts of a record out.
+// Lays the parts of a record out: field by field, since the record is flat (`JoinRecord`).
 fn assemble(
     name: Bounded<32>,
     login: Login,

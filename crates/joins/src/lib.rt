@@ -12,7 +12,8 @@ use put::Bounded;
 use records::{Credential, JoinRecord};
 use rules::Answer;
 
-// The answer, and the record where it is good; a refused answer's record is all zero.
+// The answer, and the record where it is good; a refused answer's record is all zero. No Result: document 01 wants "all other result fields
+// zero" of a refusal, and demands `Demand1Refusal` says it of this record.
 #[derive(Clone, Copy)]
 pub struct RecordAnswer {
     pub answer: Answer,

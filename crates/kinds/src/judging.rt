@@ -9,7 +9,8 @@ ghost use Rattle.kinds.specs.Judging.{kept_at, string_judgement, is_free_text, b
 use crate::{Broken, Kind, Value};
 use text::{Dialect, Place};
 
-// A value that is kept by its place, if its kind is good.
+// A value that is kept by its place, if its kind is good. It is told by a yes or no, since the readers of its kinds
+// find values of many types.
 fn kept(good: bool, at: Place) -> Result<Value, Broken>
     ensures { result ≡ kept_at at good }
 {
@@ -27,7 +28,7 @@ fn string_judgement(length: Option<usize>, low: u8, high: u8, at: Place) -> Resu
     kept(n <= high as usize, at)
 }
 
-// The value v by its kind alone.
+// The value v by its kind alone. A `match`: the readers answer different types, so that no table of functions could hold them.
 fn judge_kind(d: Dialect, kind: Kind, v: &[u8], at: Place) -> Result<Value, Broken>
     ensures { result ≡ judgement_at at (kind_judged d kind v.now) }
 {
@@ -60,12 +61,7 @@ fn judge_kind(d: Dialect, kind: Kind, v: &[u8], at: Place) -> Result<Value, Brok
 fn is_free_text(kind: Kind) -> bool
     ensures { result ≡ is_free_text kind }
 {
-    match kind {
-        Kind::Entries => true,
-        Kind::Passphrase => true,
-        Kind::Text(_, _) => true,
-        _ => false,
-    }
+    matches!(kind, Kind::Entries | Kind::Passphrase | Kind::Text(_, _))
 }
 
 // Why the value v is not good, which breaks its kind: broken text goes before that.

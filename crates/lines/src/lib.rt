@@ -32,10 +32,7 @@ fn is_extension(d: Dialect, line: &[u8], from: usize) -> bool
     requires { from ≤ length line.now }
     ensures { Begins d line.now from result }
 {
-    match d {
-        Dialect::Iwd => from < line.len() && line[from] == 64,
-        Dialect::ConnMan => false,
-    }
+    matches!(d, Dialect::Iwd) && from < line.len() && line[from] == 64
 }
 
 // The line whose bracket is at a place.

@@ -1,12 +1,10 @@
 -- The lookups by a key of the table of places; the seven of `Lookups` are these, by their keys.
-use Rattle.std.specs.Prelude.{ℕ, ◌+◌, ◌≡◌, true, false, List, length}
+use Rattle.std.specs.Prelude.{ℕ, ◌+◌, ◌≡◌, true, false, List, length, Ok, Err}
 use Rattle.text.specs.Parts.{part}
 use Rattle.text.specs.declared.Dialect.{Dialect}
 use Rattle.rules.specs.Numbers.{number_of}
 use Rattle.rules.specs.Sections.{serves}
 use Rattle.rules.specs.ListedValues.{group_dialect}
-use Rattle.rules.specs.declared.Answer.{Answer}
-use Rattle.rules.specs.declared.Answer.TheVariants.{Good, Refused}
 use Rattle.rules.specs.declared.Group.{Group}
 use Rattle.rules.specs.declared.Group.TheVariants.{Service}
 use Rattle.places.specs.Store.{Slot}
@@ -14,6 +12,7 @@ use Rattle.places.specs.Keys.{key_group, key_kind}
 use Rattle.places.specs.Holds.{is_text}
 use Rattle.places.specs.declared.KeyName.{KeyName}
 use Rattle.lookups.specs.declared.TextPlace.{TextPlace}
+use Rattle.rules.specs.Answering.{Answer}
 
 -- a key whose values are texts, of a group that stands once in a file of its dialect
 pub record StandsOnce (d : Dialect) (g : Group) (k : KeyName) : Type 0 where
@@ -39,5 +38,5 @@ slot_place file s =
 
 -- a place, or the refusal
 abbrev pub answered_place : Answer → TextPlace → TextPlace
-answered_place Good p = p
-answered_place (Refused r l) p = record { number = number_of r; line = l; start = 0; end = 0 }
+answered_place (Ok u) p = p
+answered_place (Err f) p = record { number = number_of f.refusal; line = f.line; start = 0; end = 0 }

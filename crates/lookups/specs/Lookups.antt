@@ -1,5 +1,5 @@
 -- The string lookups: "For a string setting, its value is handed back as the stretch of the lent file where it stands, still escaped; an absent one is the empty stretch, line 0."
-use Rattle.std.specs.Prelude.{ℕ, ◌+◌, ◌≤◌, ◌≡◌, List, [], length, Option, None, Some}
+use Rattle.std.specs.Prelude.{ℕ, ◌+◌, ◌≤◌, ◌≡◌, List, [], length, Option, None, Some, Ok, Err}
 use Rattle.text.specs.Parts.{part}
 use Rattle.text.specs.Words.{word}
 use Rattle.text.specs.declared.Dialect.{Dialect}
@@ -8,9 +8,8 @@ use Rattle.rules.specs.Numbers.{answer_number}
 use Rattle.rules.specs.Sections.{Entry, entry_of}
 use Rattle.rules.specs.Reading.{sections_of, reading}
 use Rattle.rules.specs.Asking.{iwd_entry, service_at, entry_line, entry_start, asked, asked_of}
-use Rattle.rules.specs.declared.Answer.{Answer}
-use Rattle.rules.specs.declared.Answer.TheVariants.{Good, Refused}
 use Rattle.lookups.specs.declared.TextPlace.{TextPlace}
+use Rattle.rules.specs.Answering.{Answer, refused_at}
 
 -- what a lookup answers: the refusal, or that it is good and then the setting, if the file gives it
 pub record Lookup : Type 0 where
@@ -19,8 +18,8 @@ pub record Lookup : Type 0 where
 
 -- a refusal gives no setting
 abbrev pub lookup_of : Answer → Option Entry → Lookup
-lookup_of Good o = record { answer = Good; setting = o }
-lookup_of (Refused r l) o = record { answer = Refused r l; setting = None }
+lookup_of (Ok u) o = record { answer = Ok tt; setting = o }
+lookup_of (Err f) o = record { answer = refused_at f.refusal f.line; setting = None }
 
 -- ---- the lookups, by the name and the bytes of a file
 
@@ -43,8 +42,8 @@ service_lookup w key name file = lookup_of (asked_of w (reading ConnMan name fil
 
 -- the refusal's line, or the setting's; "an absent one is .. line 0"
 abbrev pub lookup_line : Answer → Option Entry → ℕ
-lookup_line Good o = entry_line o
-lookup_line (Refused r l) o = l
+lookup_line (Ok u) o = entry_line o
+lookup_line (Err f) o = f.line
 
 -- "the stretch of the lent file where it stands"; "an absent one is the empty stretch"
 abbrev pub stretch : List ℕ → Option Entry → List ℕ

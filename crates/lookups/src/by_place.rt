@@ -1,5 +1,8 @@
 // The string lookups by place: where the value of a string setting stands in the lent file.
 //
+// They stand beside those that hand back "the stretch of the lent file where it stands" (document 01), since C cannot take a slice back. Each
+// key has a function of its own there and here: it names the key, and the header has its name.
+//
 // None of the seven lookups has a `requires`. A refusal gives its number and line and the place from 0 to 0; a setting
 // that is absent gives zeros.
 ghost use Rattle.std.specs.Prelude.{◌≡◌, ◌≤◌};
@@ -41,14 +44,14 @@ fn answered_place(
     n: usize,
     k: KeyName,
 ) -> TextPlace
-    requires { answer ≡ Answer.Good → (n ≤ 8) × ValueInFile file.now x.now (base g n) k }
+    requires { answer ≡ Ok tt → (n ≤ 8) × ValueInFile file.now x.now (base g n) k }
     ensures { result ≡ answered_place answer (slot_place file.now (key_slot x.now (base g n) k)) }
 {
     match answer {
-        Answer::Good => value_place(file, x, base_of(g, n), k),
-        Answer::Refused(refusal, at) => TextPlace {
-            number: tables::numbers::number_of(refusal),
-            line: at,
+        Ok(()) => value_place(file, x, base_of(g, n), k),
+        Err(fault) => TextPlace {
+            number: tables::numbers::number_of(fault.refusal),
+            line: fault.line,
             start: 0,
             end: 0,
         },
@@ -65,7 +68,7 @@ pub fn group_place(d: Dialect, name: &[u8], file: &[u8], g: Group, k: KeyName) -
     answered_place(answer, file, &places, g, 0, k)
 }
 
-// The place of a key of a service, by its number, from 1.
+// The place of a key of a service, by its number, from 1. It stands beside group_place, since a number may be refused, with 18.
 pub fn service_place(name: &[u8], file: &[u8], service: usize, k: KeyName) -> TextPlace
     requires { ServiceText k }
     ensures { ValuePlace file.now (service_lookup service (key_word k) name.now file.now) result }

@@ -1,18 +1,15 @@
 -- The move's answers, one law for each return: what is answered of the service by its number, and what its lines say.
-use Prim.Native.Nat.{ℕ, ◌≤◌, ◌<◌}
+use Prim.Native.Nat.{ℕ}
 use mathlib.Core.Path.{◌≡◌, refl, ap, ap₂, sym, ◌∙◌, subst}
 use mathlib.Core.List.{List}
-use Rattle.std.specs.Prelude.{Option}
+use Rattle.std.specs.Prelude.{Option, None, Some, Ok}
 use Rattle.text.specs.declared.Dialect.TheVariants.{ConnMan}
 use Rattle.addresses.specs.Addresses.{addresses, rows}
 use Rattle.addresses.specs.declared.Separator.TheVariants.{Comma}
 use Rattle.rules.specs.Tables.{keys_of}
 use Rattle.rules.specs.Sections.{entry_of}
 use Rattle.rules.specs.Asking.{asked_of}
-use Rattle.rules.specs.declared.Answer.{Answer}
-use Rattle.rules.specs.declared.Answer.TheVariants.{Good, Refused}
 use Rattle.rules.specs.declared.Group.TheVariants as G
-use Rattle.rules.specs.declared.Reading.{Reading}
 use Rattle.rules.specs.declared.Refusal.{Refusal}
 use Rattle.rules.specs.declared.Refusal.TheVariants.{NoPlace}
 use Rattle.places.specs.History.{base}
@@ -32,10 +29,10 @@ use Rattle.writer.specs.declared.Written.{Written}
 use Rattle.joins.specs.Joins.{service_join}
 use Rattle.mover.specs.Moves.{unplaced, earliest, or_unplaced, moving}
 use Rattle.mover.specs.Demand.{Moves}
-use Rattle.mover.specs.Places.{RowLine, MovesBy}
+use Rattle.mover.specs.Places.{MovesBy}
 use Rattle.mover.proofs.Theorem.{demand_3}
 use Rattle.mover.proofs.Sizes.{join_within}
-use Rattle.mover.proofs.Lines.{line_some, line_none}
+use Rattle.rules.specs.Answering.{Answer, Reading, refused_at}
 
 -- a refusal leaves both buffers as they were
 refusal_writes : {r : Refusal} {l : ℕ} {n f : List ℕ} {a : Written} → a ≡ written_answer (refuses r l) → Writes (refuses r l) n f n f a
@@ -46,17 +43,17 @@ refusal_writes p = record { answer = p; name = refl; file = refl }
 pub record_within : {file x : List ℕ} {b : ℕ} {j : JoinRecord} → RowOf ConnMan file x b G.Service → RowGives ConnMan file x b G.Service (λ at. laid (service_join at)) j → CountsWithin j
 record_within h t = subst CountsWithin (sym (t.is h.settings h.row)) (join_within (λ k. entry_of k h.settings))
 
-module _ {file t : List ℕ} {b l : ℕ} (u : RowLine file t b (λ at. earliest (unplaced at)) l) (n f : List ℕ) where
-  pub found_unplaced : 0 < l → {a : Written} → a ≡ written_answer (refuses NoPlace l) → MovesBy file t b n f n f a
-  found_unplaced g {a} p = record { is = λ es h. subst (λ (o : Option ℕ). Writes (or_unplaced o (writing_of (service_join (λ k. entry_of k es)) n f)) n f n f a) (sym (line_some l g) ∙ u.is es h) (refusal_writes p) }
+module _ {file t : List ℕ} {b : ℕ} {o : Option ℕ} (u : RowGives ConnMan file t b G.Service (λ at. earliest (unplaced at)) o) (n f : List ℕ) where
+  pub found_unplaced : {l : ℕ} → o ≡ Some l → {a : Written} → a ≡ written_answer (refuses NoPlace l) → MovesBy file t b n f n f a
+  found_unplaced e {a} p = record { is = λ es h. subst (λ (o : Option ℕ). Writes (or_unplaced o (writing_of (service_join (λ k. entry_of k es)) n f)) n f n f a) (sym e ∙ u.is es h) (refusal_writes p) }
 
-  pub found_placed : l ≤ 0 → {j : JoinRecord} → RowGives ConnMan file t b G.Service (λ at. laid (service_join at)) j → {s : List (List ℕ)} → s ≡ rows (addresses Comma (bytes_of file t b N.Nameservers)) → {x y : List ℕ} {a : Written} → Writes (writing_of (joined j s) n f) n f x y a → MovesBy file t b n f x y a
+  pub found_placed : o ≡ None → {j : JoinRecord} → RowGives ConnMan file t b G.Service (λ at. laid (service_join at)) j → {s : List (List ℕ)} → s ≡ rows (addresses Comma (bytes_of file t b N.Nameservers)) → {x y : List ℕ} {a : Written} → Writes (writing_of (joined j s) n f) n f x y a → MovesBy file t b n f x y a
   unfolding keys_of
-  found_placed g {j} v {s} p {x} {y} {a} w =
+  found_placed e {j} v {s} p {x} {y} {a} w =
       record {
         is = λ es h.
             let i : joined j s ≡ service_join (λ k. entry_of k es) = ap₂ joined (v.is es h) (p ∙ ap rows (row_read N.Nameservers h (addresses Comma) (addresses_none Comma))) ∙ joined_laid (service_join (λ k. entry_of k es)) in
-            subst (λ (o : Option ℕ). Writes (or_unplaced o (writing_of (service_join (λ k. entry_of k es)) n f)) n f x y a) (sym (line_none l g) ∙ u.is es h)
+            subst (λ (o : Option ℕ). Writes (or_unplaced o (writing_of (service_join (λ k. entry_of k es)) n f)) n f x y a) (sym e ∙ u.is es h)
             (subst (λ (z : Join). Writes (writing_of z n f) n f x y a) i w);
       }
 
@@ -66,16 +63,16 @@ moves : {name file : List ℕ} {w : ℕ} {n f x y : List ℕ} {a : Written} → 
 moves h = record { is = h; demand = λ m. demand_3 m h }
 
 module _ {name file : List ℕ} (w : ℕ) {t : List ℕ} {q : Reading} (h : ReadsFile ConnMan name file t q) {b : Answer} (s : b ≡ asked_of w q) (n f : List ℕ) where
-  good_writes : b ≡ Good → {i : ℕ} → i ≡ base G.Service w → {x y : List ℕ} {a : Written} → MovesBy file t i n f x y a → Writes (moving name file w n f) n f x y a
+  good_writes : b ≡ Ok tt → {i : ℕ} → i ≡ base G.Service w → {x y : List ℕ} {a : Written} → MovesBy file t i n f x y a → Writes (moving name file w n f) n f x y a
   unfolding moving
   good_writes e at p = rw (service_answer_lem h w s e) (p.is _ (found_row w h s e at))
 
-  pub move_good : b ≡ Good → {i : ℕ} → i ≡ base G.Service w → {x y : List ℕ} {a : Written} → MovesBy file t i n f x y a → Moves name file w n f x y a
+  pub move_good : b ≡ Ok tt → {i : ℕ} → i ≡ base G.Service w → {x y : List ℕ} {a : Written} → MovesBy file t i n f x y a → Moves name file w n f x y a
   move_good e at p = moves (good_writes e at p)
 
-  refused_writes : {r : Refusal} {l : ℕ} → b ≡ Refused r l → {a : Written} → a ≡ written_answer (refuses r l) → Writes (moving name file w n f) n f n f a
+  refused_writes : {r : Refusal} {l : ℕ} → b ≡ refused_at r l → {a : Written} → a ≡ written_answer (refuses r l) → Writes (moving name file w n f) n f n f a
   unfolding moving
   refused_writes e p = rw (service_answer_lem h w s e) (refusal_writes p)
 
-  pub move_refused : {r : Refusal} {l : ℕ} → b ≡ Refused r l → {a : Written} → a ≡ written_answer (refuses r l) → Moves name file w n f n f a
+  pub move_refused : {r : Refusal} {l : ℕ} → b ≡ refused_at r l → {a : Written} → a ≡ written_answer (refuses r l) → Moves name file w n f n f a
   move_refused e p = moves (refused_writes e p)

@@ -1,6 +1,6 @@
 -- Which refusals a move gives: 16 exactly where a line of the service is on the list, 19 never, nor 17 into ample buffers;
 -- and a move that answers 0 is one that demand 3 speaks of.
-use Rattle.std.specs.Prelude.{ℕ, ◌≤◌, ◌≡◌, refl, Bool, true, false, cond, List, [], Option, None, Some}
+use Rattle.std.specs.Prelude.{ℕ, ◌≤◌, ◌≡◌, refl, Bool, true, false, cond, List, [], Option, None, Some, Ok, Err}
 use Rattle.std.proofs.Common.{arith, ap, sym, ◌∙◌}
 use Rattle.text.specs.Bytes.{between}
 use Rattle.text.specs.Laws.{between_low, between_high}
@@ -8,9 +8,6 @@ use Rattle.text.specs.declared.Dialect.TheVariants as D
 use Rattle.rules.specs.Asking.{asked_of}
 use Rattle.rules.specs.Reading.{reading}
 use Rattle.rules.proofs.Refusals.{reading_number}
-use Rattle.rules.specs.declared.Answer.TheVariants as A
-use Rattle.rules.specs.declared.Reading.{Reading}
-use Rattle.rules.specs.declared.Reading.TheVariants as R
 use Rattle.rules.specs.declared.Refusal.{Refusal}
 use Rattle.rules.specs.declared.Refusal.TheVariants.{NoPlace, NoService, Malformed}
 use Rattle.records.specs.Record.{Join}
@@ -22,12 +19,13 @@ use Rattle.mover.specs.Moves.{unplaced, earliest, or_unplaced, moved_if_good, mo
 use Rattle.mover.specs.Demand.{Service, Movable}
 use Rattle.mover.specs.Earliest.{earliest_none}
 use Rattle.mover.proofs.Theorem.{moving_service, move_well_formed}
+use Rattle.rules.specs.Answering.{Answer, Reading, accepted_with, refused_at}
 
 -- ---- what a move is, case by case
 
 -- the file's own refusal; 18; 16 at the earliest line on the list; or what the writer answers of the service's record
 pub data MoveIs (name file : List ℕ) (w : ℕ) (n f : List ℕ) : Writing → Type 0 where
-  file_refused : {r : Refusal} {l : ℕ} → reading D.ConnMan name file ≡ R.Refused r l →
+  file_refused : {r : Refusal} {l : ℕ} → reading D.ConnMan name file ≡ refused_at r l →
       MoveIs name file w n f (refuses r l)
   no_service : MoveIs name file w n f (refuses NoService 0)
   no_place : {l : ℕ} → Service name file w → earliest (unplaced (service_setting w file)) ≡ Some l →
@@ -44,18 +42,18 @@ move_is name file w n f = go (reading D.ConnMan name file) refl
     listed s None q = placed s (earliest_none (unplaced (service_setting w file)) q)
     listed s (Some l) q = no_place s q
 
-    service : (k m : ℕ) → reading D.ConnMan name file ≡ R.Accepted k m → between 1 m w ≡ true → Service name file w
+    service : (k m : ℕ) → reading D.ConnMan name file ≡ accepted_with k m → between 1 m w ≡ true → Service name file w
     service k m q b =
         record { settings = k; services = m; accepted = q; low = between_low {x = w} 1 m b; high = between_high {x = w} 1 m b }
 
     go : (r : Reading) → reading D.ConnMan name file ≡ r →
         MoveIs name file w n f (moved_if_good (asked_of w r) (moving_of (service_setting w file) n f))
-    go (R.Refused r k) q = file_refused q
-    go (R.Accepted k m) q = numbered (between 1 m w) refl
+    go (Err f) q = file_refused q
+    go (Ok c) q = numbered (between 1 c.services w) refl
       where
-        numbered : (b : Bool) → between 1 m w ≡ b →
-            MoveIs name file w n f (moved_if_good (cond b A.Good (A.Refused NoService 0)) (moving_of (service_setting w file) n f))
-        numbered true b = listed (service k m q b) (earliest (unplaced (service_setting w file))) refl
+        numbered : (b : Bool) → between 1 c.services w ≡ b →
+            MoveIs name file w n f (moved_if_good (cond b (Ok tt) (refused_at NoService 0)) (moving_of (service_setting w file) n f))
+        numbered true b = listed (service c.settings c.services q b) (earliest (unplaced (service_setting w file))) refl
         numbered false b = no_service
 
 -- ---- 16, 17 and 19
@@ -99,20 +97,20 @@ module _ (name file : List ℕ) (w : ℕ) (n f : List ℕ) where
 
 -- ---- a move that answers 0 is one that demand 3 speaks of
 
-refused_good : {P : Type 0} {r : Refusal} {l : ℕ} → A.Refused r l ≡ A.Good → P
+refused_good : {P : Type 0} {r : Refusal} {l : ℕ} → ◌≡◌ {A = Answer} (refused_at r l) (Ok tt) → P
 refused_good e = let z : ◌≡◌ {A = ℕ} 0 1 = cc in absurd (omega arith)
 
 pub good_movable : (name file : List ℕ) (w : ℕ) (n f : List ℕ) {x y : List ℕ} {a : Written} →
-    Writes (moving name file w n f) n f x y a → a.answer ≡ A.Good → Movable name file w n f
+    Writes (moving name file w n f) n f x y a → a.answer ≡ Ok tt → Movable name file w n f
 good_movable name file w n f {a = a} h e =
     go (moving name file w n f) (move_is name file w n f) (sym (ap (λ (v : Written). v.answer) h.answer) ∙ e)
   where
     roomed : Service name file w → unplaced (service_setting w file) ≡ [] → (m : Writing) →
-        RoomIs (service_join (service_setting w file)) n f m → (written_answer m).answer ≡ A.Good → Movable name file w n f
+        RoomIs (service_join (service_setting w file)) n f m → (written_answer m).answer ≡ Ok tt → Movable name file w n f
     roomed s p m (enough a b) e = record { service = s; placed = p; name_room = a; file_room_lem = b }
     roomed s p m short e = refused_good e
 
-    go : (m : Writing) → MoveIs name file w n f m → (written_answer m).answer ≡ A.Good → Movable name file w n f
+    go : (m : Writing) → MoveIs name file w n f m → (written_answer m).answer ≡ Ok tt → Movable name file w n f
     go m (file_refused q) e = refused_good e
     go m no_service e = refused_good e
     go m (no_place s q) e = refused_good e

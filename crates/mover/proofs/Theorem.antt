@@ -1,5 +1,5 @@
 -- Demand 3: the move of a service that holds nothing on the list writes a file whose record is the service's.
-use Rattle.std.specs.Prelude.{ℕ, ◌≡◌, Bool, true, cond, List, [], length, take, drop, Option, None, Some}
+use Rattle.std.specs.Prelude.{ℕ, ◌≡◌, Bool, true, cond, List, [], length, take, drop, Option, None, Some, Ok}
 use Rattle.std.proofs.Math.Path.{ap, sym}
 use Rattle.std.proofs.Common.{ap₂, ◌∙◌}
 use Rattle.std.proofs.Math.Seq.{take-append_seam}
@@ -9,8 +9,6 @@ use Rattle.text.specs.Words.{word}
 use Rattle.text.specs.declared.Dialect.TheVariants as D
 use Rattle.rules.specs.Asking.{entry_line, asked_of}
 use Rattle.rules.specs.Reading.{reading}
-use Rattle.rules.specs.declared.Answer.{Answer}
-use Rattle.rules.specs.declared.Answer.TheVariants as A
 use Rattle.rules.specs.declared.Refusal.TheVariants.{NoService}
 use Rattle.records.specs.Record.{Join, laid, laid_servers}
 use Rattle.records.specs.Formed.{WellFormed}
@@ -26,12 +24,13 @@ use Rattle.round_trip.specs.RoundTrip.{written_accepted, round_trip}
 use Rattle.mover.specs.Moves.{unplaced, or_unplaced, moved_if_good, moving_of, moving}
 use Rattle.mover.specs.Demand.{Service, Movable, Moved}
 use Rattle.mover.specs.Earliest.{none_earliest, unplaced_none}
+use Rattle.rules.specs.Answering.{Answer, refused_at}
 
 -- ---- a service of an accepted file
 
 module _ {name file : List ℕ} {w : ℕ} (s : Service name file w) where
-  service_asked : asked_of w (reading D.ConnMan name file) ≡ A.Good
-  service_asked = ap (asked_of w) s.accepted ∙ ap (λ (b : Bool). cond b A.Good (A.Refused NoService 0)) (inside {x = w} 1 s.services s.low s.high)
+  service_asked : asked_of w (reading D.ConnMan name file) ≡ Ok tt
+  service_asked = ap (asked_of w) s.accepted ∙ ap (λ (b : Bool). cond b (Ok tt) (refused_at NoService 0)) (inside {x = w} 1 s.services s.low s.high)
 
   -- neither the file's own refusals nor 18
   pub moving_service : (n f : List ℕ) → moving name file w n f ≡ moving_of (service_setting w file) n f

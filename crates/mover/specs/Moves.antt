@@ -1,6 +1,6 @@
 -- What the move of a ConnMan service to iwd answers: the file's own refusals, "18 next, then 16, then 17", or the file
 -- name and the file of the service's record.
-use Rattle.std.specs.Prelude.{ℕ, Bool, true, false, cond, not, List, [], ◌∷◌, ◌++◌, leb, Option, None, Some}
+use Rattle.std.specs.Prelude.{ℕ, Bool, true, false, cond, not, List, [], ◌∷◌, ◌++◌, leb, Option, None, Some, Ok, Err}
 use Rattle.text.specs.Words.{word}
 use Rattle.text.specs.Options.{is_some}
 use Rattle.text.specs.declared.Dialect.TheVariants as D
@@ -8,11 +8,10 @@ use Rattle.rules.specs.Sections.{Entry}
 use Rattle.rules.specs.Asking.{entry_line, asked_of}
 use Rattle.rules.specs.Reading.{reading}
 use Rattle.rules.specs.declared.Refusal.TheVariants.{NoPlace}
-use Rattle.rules.specs.declared.Answer.{Answer}
-use Rattle.rules.specs.declared.Answer.TheVariants.{Good, Refused}
 use Rattle.writer.specs.Writing.{Writing, refuses, writing_of}
 use Rattle.written.specs.Written.{ipv4_placed, ipv6_placed}
 use Rattle.joins.specs.Joins.{wired, foreign, service_join, service_setting}
+use Rattle.rules.specs.Answering.{Answer}
 
 -- ---- what iwd has no place for; at gives the service's setting with a key
 
@@ -55,8 +54,8 @@ or_unplaced None m = m
 or_unplaced (Some l) m = refuses NoPlace l
 
 abbrev pub moved_if_good : Answer → Writing → Writing
-moved_if_good Good m = m
-moved_if_good (Refused r l) m = refuses r l
+moved_if_good (Ok u) m = m
+moved_if_good (Err f) m = refuses f.refusal f.line
 
 -- 16 before 17; n is the buffer of the name, f that of the file
 abbrev pub moving_of : (List ℕ → Option Entry) → List ℕ → List ℕ → Writing

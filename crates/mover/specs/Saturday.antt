@@ -7,9 +7,6 @@ use Rattle.std.proofs.Common.{◌∙◌}
 use Rattle.text.specs.declared.Dialect.TheVariants as D
 use Rattle.rules.specs.Asking.{asked_of}
 use Rattle.rules.specs.Reading.{reading}
-use Rattle.rules.specs.declared.Answer.TheVariants as A
-use Rattle.rules.specs.declared.Reading.{Reading}
-use Rattle.rules.specs.declared.Reading.TheVariants.{Refused}
 use Rattle.rules.specs.declared.Refusal.{Refusal}
 use Rattle.writer.specs.Writing.{Writing, refuses, written_answer, name_after, file_after, Writes}
 use Rattle.writer.specs.declared.Written.{Written}
@@ -18,12 +15,13 @@ use Rattle.joins.specs.Saturday.{FaultyPassphrase}
 use Rattle.record_answers.specs.Refused.{ServiceRefuses, refused_service}
 use Rattle.joins.specs.SaturdayHolds.{faulty_refused}
 use Rattle.mover.specs.Moves.{moved_if_good, moving_of, moving}
+use Rattle.rules.specs.Answering.{Reading, refused_at}
 
 -- ---- the statement
 
 -- a refused move: its number and line, no new bytes, and the buffers x and y as they were, n and f
 pub record Unmoved (r : Refusal) (l : ℕ) (n f x y : List ℕ) (a : Written) : Type 0 where
-  pub answer : a ≡ record { answer = A.Refused r l; name_len = 0; file_len = 0 }
+  pub answer : a ≡ record { answer = refused_at r l; name_len = 0; file_len = 0 }
   pub name : x ≡ n
   pub file : y ≡ f
 
@@ -36,13 +34,13 @@ pub record ConnManRefuses (name file : List ℕ) (n : ℕ) : Type 0 where
   pub refusal : Refusal
   pub line : ℕ
   pub early : line ≤ n
-  pub read : reading D.ConnMan name file ≡ Refused refusal line
+  pub read : reading D.ConnMan name file ≡ refused_at refusal line
   pub service : (w : ℕ) → ServiceRefuses name file w refusal line
   pub move : (w : ℕ) → MoveRefuses name file w refusal line
 
 -- ---- it holds
 
-module _ (name file : List ℕ) {r : Refusal} {l : ℕ} (e : reading D.ConnMan name file ≡ Refused r l) (w : ℕ) where
+module _ (name file : List ℕ) {r : Refusal} {l : ℕ} (e : reading D.ConnMan name file ≡ refused_at r l) (w : ℕ) where
   refused_moving : (n f : List ℕ) → moving name file w n f ≡ refuses r l
   unfolding moving
   refused_moving n f = ap (λ (q : Reading). moved_if_good (asked_of w q) (moving_of (service_setting w file) n f)) e

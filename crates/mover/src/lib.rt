@@ -13,7 +13,7 @@ ghost use Rattle.mover.specs.Places.{MovesBy};
 use addresses::Separator;
 use places::rows::base_of;
 use places::{KeyName, PLACES, Places};
-use rules::{Answer, Group, Refusal};
+use rules::{Group, Refusal};
 use tables::asking;
 use text::Dialect;
 use writer::Written;
@@ -29,8 +29,7 @@ fn move_found(
     requires { RowOf Dialect.ConnMan file.now x.now row Group.Service }
     ensures { MovesBy file.now x.now row name_out.old file_out.old name_out.new file_out.new result }
 {
-    let line = unplaced::unplaced_line(file, x, row);
-    if 0 < line {
+    if let Some(line) = unplaced::unplaced_line(file, x, row) {
         return writer::refused(Refusal::NoPlace, line);
     }
     let mut servers = [[0u8; 4]; 4];
@@ -61,10 +60,10 @@ pub fn move_service(
     let reading = pass::read(Dialect::ConnMan, name, file, &mut x);
     let answer = asking::asked_of(service, reading);
     match answer {
-        Answer::Good => {
+        Ok(()) => {
             let row = base_of(Group::Service, service);
             move_found(file, &x, row, name_out, file_out)
         }
-        Answer::Refused(refusal, line) => writer::refused(refusal, line),
+        Err(fault) => writer::refused(fault.refusal, fault.line),
     }
 }

@@ -84,7 +84,7 @@ fn stem_name(s: &[u8]) -> Option<Bounded<32>>
     Some(Bounded::of(s))
 }
 
-// The suffix that s is.
+// The suffix that s is: two words, asked one by one as `named_words` asks them.
 fn read_suffix(s: &[u8]) -> Option<Suffix>
     ensures { result ≡ named s.now suffixes }
 {

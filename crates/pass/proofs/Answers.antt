@@ -14,8 +14,6 @@ use Rattle.text.specs.declared.Dialect.{Dialect}
 use Rattle.text.specs.declared.Dialect.TheVariants.{Iwd, ConnMan}
 use Rattle.names.specs.Names.{Network, network_of, connman_name}
 use Rattle.rules.specs.Reading.{Name, iwd_name, connman_file, grown, sections_of, name_in, reading_of, reading}
-use Rattle.rules.specs.declared.Reading.{Reading}
-use Rattle.rules.specs.declared.Reading.TheVariants.{Accepted, Refused}
 use Rattle.rules.specs.declared.Fault.{Fault}
 use Rattle.rules.specs.declared.Refusal.{Refusal}
 use Rattle.rules.specs.declared.Refusal.TheVariants.{Size, FileName}
@@ -25,6 +23,7 @@ use Rattle.verdicts.specs.declared.FileKind.{FileKind}
 use Rattle.places.specs.declared.State.{State}
 use Rattle.pass.specs.Pass.{WalkIs, Walks, ReadsKind, ReadsFile}
 use Rattle.places.specs.Store.{file_limit, table_length}
+use Rattle.rules.specs.Answering.{Reading, accepted_with, refused_at}
 
 -- ---- the kind of a name
 
@@ -44,7 +43,7 @@ no_kind : (o : Option Name) → kind_of_name o ≡ None → o ≡ None
 no_kind None e = refl
 no_kind (Some n) e = absurd (none-some (kind_named n) (sym e))
 
-refused_accepted : {A : Type 0} {f : Refusal} {l n m : ℕ} → Refused f l ≡ Accepted n m → A
+refused_accepted : {A : Type 0} {f : Refusal} {l n m : ℕ} → refused_at f l ≡ accepted_with n m → A
 refused_accepted e = let z : ◌≡◌ {A = ℕ} 0 1 = cc in absurd (omega arith)
 
 -- ---- a file whose size is allowed and whose name is a file's
@@ -53,14 +52,14 @@ module _ {d : Dialect} {file : List ℕ} {x : List ℕ} {r : Result State Fault}
   walked : {q : Result State Fault} → r ≡ q → WalkIs d file x q
   walked e = subst (WalkIs d file x) e h.is
 
-  pub walked_held : {st : State} → r ≡ Ok st → (length x ≡ table_length) × (st.services ≤ 8)
-  walked_held e = ((walked e).1.table.long, (walked e).1.spans.few)
+  pub walked_few : {st : State} → r ≡ Ok st → st.services ≤ 8
+  walked_few e = (walked e).1.spans.few
 
   module _ {k : FileKind} where
-    pub kind_stopped : {f : Fault} → r ≡ Err f → ReadsKind k d file x (Refused f.refusal f.line)
+    pub kind_stopped : {f : Fault} → r ≡ Err f → ReadsKind k d file x (Err f)
     kind_stopped {f} e = record { is = λ name q. go (name_in d name) q; found = λ q. refused_accepted q; few = λ q. refused_accepted q }
       where
-        go : (o : Option Name) → kind_of_name o ≡ Some k → Refused f.refusal f.line ≡ reading_of d o file
+        go : (o : Option Name) → kind_of_name o ≡ Some k → Err f ≡ reading_of d o file
         go None q = absurd (none-some k q)
         go (Some n) q = rw (walked e)
 
@@ -80,12 +79,12 @@ module _ {d : Dialect} {file : List ℕ} {x : List ℕ} {r : Result State Fault}
 -- ---- any file
 
 module _ {d : Dialect} (name : List ℕ) {file : List ℕ} where
-  pub reads_large : {y : List ℕ} → file_limit < length file → y ≡ replicate table_length 0 → ReadsFile d name file y (Refused Size 0)
+  pub reads_large : {y : List ℕ} → file_limit < length file → y ≡ replicate table_length 0 → ReadsFile d name file y (refused_at Size 0)
   unfolding reading
   reads_large l e = record { is = rw (lt-leb (length file) file_limit l); found = λ q. refused_accepted q; few = λ q. refused_accepted q; left = λ q. e }
 
   module _ (l : length file ≤ file_limit) {o : Option FileKind} (e : o ≡ kind_of_name (name_in d name)) where
-    pub reads_misnamed : o ≡ None → {y : List ℕ} → y ≡ replicate table_length 0 → ReadsFile d name file y (Refused FileName 0)
+    pub reads_misnamed : o ≡ None → {y : List ℕ} → y ≡ replicate table_length 0 → ReadsFile d name file y (refused_at FileName 0)
     unfolding reading
     reads_misnamed q v = record { is = rw (le-leb (length file) file_limit l, no_kind (name_in d name) (sym e ∙ q)); found = λ z. refused_accepted z; few = λ z. refused_accepted z; left = λ z. v }
 
@@ -94,8 +93,8 @@ module _ {d : Dialect} (name : List ℕ) {file : List ℕ} where
       unfolding reading
       is_reading = rw (le-leb (length file) file_limit l) (h.is name (sym e ∙ w))
 
-      pub reads_accepted : {n m : ℕ} → r ≡ Accepted n m → ReadsFile d name file y r
+      pub reads_accepted : {n m : ℕ} → r ≡ accepted_with n m → ReadsFile d name file y r
       reads_accepted q = record { is = is_reading; found = λ z. h.found z; few = λ z. h.few z; left = λ z. refused_accepted (sym z ∙ q) }
 
-      pub reads_refused : {f : Refusal} {i : ℕ} → r ≡ Refused f i → {z : List ℕ} → z ≡ replicate table_length 0 → ReadsFile d name file z r
+      pub reads_refused : {f : Refusal} {i : ℕ} → r ≡ refused_at f i → {z : List ℕ} → z ≡ replicate table_length 0 → ReadsFile d name file z r
       reads_refused q v = record { is = is_reading; found = λ z. refused_accepted (sym q ∙ z); few = λ z. refused_accepted (sym q ∙ z); left = λ z. v }

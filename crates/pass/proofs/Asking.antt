@@ -4,7 +4,7 @@ use native.Mathlib.Omega.{arith}
 use mathlib.Core.Path.{◌≡◌, ap, sym, ◌∙◌, subst}
 use mathlib.Core.Bool.{false}
 use mathlib.Core.List.{List}
-use Rattle.std.specs.Prelude.{Some}
+use Rattle.std.specs.Prelude.{Some, Ok}
 use Rattle.text.specs.declared.Dialect.{Dialect}
 use Rattle.text.specs.declared.Dialect.TheVariants.{ConnMan}
 use Rattle.rules.specs.Tables.{group_of}
@@ -15,14 +15,12 @@ use Rattle.rules.specs.ListedValues.{group_name}
 use Rattle.rules.specs.GoodAnswers.{asked_reading, asked_service}
 use Rattle.rules.specs.declared.Group.{Group}
 use Rattle.rules.specs.declared.Group.TheVariants.{Service}
-use Rattle.rules.specs.declared.Answer.{Answer}
-use Rattle.rules.specs.declared.Answer.TheVariants.{Good}
-use Rattle.rules.specs.declared.Reading.{Reading}
 use Rattle.places.specs.History.{base}
 use Rattle.places.specs.Holds.{RowKeeps}
 use Rattle.places.proofs.GroupRows.{group_row}
 use Rattle.places.proofs.Values.{numbered_service, numbered_row}
 use Rattle.pass.specs.Pass.{Found, ReadsFile}
+use Rattle.rules.specs.Answering.{Answer, Reading}
 
 -- ---- the rows after a reading
 
@@ -35,16 +33,16 @@ found_service {file} {y} f w few = subst (λ (es : List Entry). RowKeeps ConnMan
 -- ---- the answers
 
 module _ {d : Dialect} {name file : List ℕ} {y : List ℕ} {r : Reading} (h : ReadsFile d name file y r) {a : Answer} where
-  pub file_found : a ≡ asked r → a ≡ Good → Found d file y
+  pub file_found : a ≡ asked r → a ≡ Ok tt → Found d file y
   file_found e g = h.found (asked_reading r (sym e ∙ g)).1.1
 
   module _ (w : ℕ) (e : a ≡ asked_of w r) where
-    pub service_found : a ≡ Good → Found d file y
+    pub service_found : a ≡ Ok tt → Found d file y
     service_found g = h.found (asked_service w r (sym e ∙ g)).is
 
     pub service_answer_lem : {b : Answer} → a ≡ b → asked_of w (reading d name file) ≡ b
     service_answer_lem g = ap (asked_of w) (sym h.is) ∙ sym e ∙ g
 
     -- the number of a service that is answered
-    pub service_few : a ≡ Good → (1 ≤ w) × (w ≤ 8)
+    pub service_few : a ≡ Ok tt → (1 ≤ w) × (w ≤ 8)
     service_few g = let s = asked_service w r (sym e ∙ g) in (s.low, omega (arith, s.high, h.few s.is))

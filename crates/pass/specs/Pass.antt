@@ -4,8 +4,6 @@ use Rattle.text.specs.Parts.{lines}
 use Rattle.text.specs.declared.Dialect.{Dialect}
 use Rattle.rules.specs.Sections.{Section}
 use Rattle.rules.specs.Reading.{line_fault, grown, sections_of, name_in, reading_of, reading}
-use Rattle.rules.specs.declared.Reading.{Reading}
-use Rattle.rules.specs.declared.Reading.TheVariants.{Accepted, Refused}
 use Rattle.rules.specs.declared.Fault.{Fault}
 use Rattle.rules.specs.declared.Refusal.{Refusal}
 use Rattle.places.specs.Holds.{TableKeeps, HoldsGroups}
@@ -13,6 +11,7 @@ use Rattle.places.specs.declared.State.{State}
 use Rattle.verdicts.specs.Ending.{kind_of_name}
 use Rattle.verdicts.specs.declared.FileKind.{FileKind}
 use Rattle.places.specs.Store.{table_length}
+use Rattle.rules.specs.Answering.{Reading, accepted_with, refused_at}
 
 -- no line is faulty, and the state and the table hold of the groups of the whole file; or the first faulty line
 abbrev pub WalkIs : Dialect → List ℕ → List ℕ → Result State Fault → Type 0
@@ -32,12 +31,12 @@ pub record Found (d : Dialect) (file : List ℕ) (y : List ℕ) : Type 0 where
 -- of a file whose size is allowed and whose name says the kind k
 pub record ReadsKind (k : FileKind) (d : Dialect) (file : List ℕ) (y : List ℕ) (r : Reading) : Type 0 where
   pub is : (name : List ℕ) → kind_of_name (name_in d name) ≡ Some k → r ≡ reading_of d (name_in d name) file
-  pub found : {n m : ℕ} → r ≡ Accepted n m → Found d file y
-  pub few : {n m : ℕ} → r ≡ Accepted n m → m ≤ 8
+  pub found : {n m : ℕ} → r ≡ accepted_with n m → Found d file y
+  pub few : {n m : ℕ} → r ≡ accepted_with n m → m ≤ 8
 
 -- of any file; the table was empty before, and "Every answer but 0 leaves all lent buffers unchanged"
 pub record ReadsFile (d : Dialect) (name file : List ℕ) (y : List ℕ) (r : Reading) : Type 0 where
   pub is : r ≡ reading d name file
-  pub found : {n m : ℕ} → r ≡ Accepted n m → Found d file y
-  pub few : {n m : ℕ} → r ≡ Accepted n m → m ≤ 8
-  pub left : {f : Refusal} {l : ℕ} → r ≡ Refused f l → y ≡ replicate table_length 0
+  pub found : {n m : ℕ} → r ≡ accepted_with n m → Found d file y
+  pub few : {n m : ℕ} → r ≡ accepted_with n m → m ≤ 8
+  pub left : {f : Refusal} {l : ℕ} → r ≡ refused_at f l → y ≡ replicate table_length 0

@@ -63,6 +63,7 @@ fn walk(d: Dialect, file: &[u8], x: &mut Places) -> Result<State, Fault>
             line += 1;
             continue;
         }
+        // A `match`: with `map_err` and `?` two goals stayed open, through the contract of the closure that takes the line along.
         match reader::steps::step(d, file, x, st, at, end, line) {
             Ok(next) => {
                 st = next;
@@ -83,10 +84,8 @@ fn read_kind(kind: FileKind, d: Dialect, file: &[u8], x: &mut Places) -> Reading
     requires empty { x.old ≡ replicate table_length 0 }
     ensures { ReadsKind kind d file.now x.new result }
 {
-    match walk(d, file, x) {
-        Ok(st) => verdicts::ending::ending(kind, x, st),
-        Err(fault) => Reading::Refused(fault.refusal, fault.line),
-    }
+    let st = walk(d, file, x)?;
+    verdicts::ending::ending(kind, x, st)
 }
 
 // Reads a file, and leaves where its settings stand, those of each service in a row of their own, in the table. A refusal
@@ -96,15 +95,21 @@ pub fn read(d: Dialect, name: &[u8], file: &[u8], x: &mut Places) -> Reading
     ensures { ReadsFile d name.now file.now x.new result }
 {
     if FILE_LIMIT < file.len() {
-        return Reading::Refused(Refusal::Size, 0);
+        return Err(Fault {
+            refusal: Refusal::Size,
+            line: 0,
+        });
     }
     let Some(kind) = kind_of(d, name) else {
-        return Reading::Refused(Refusal::FileName, 0);
+        return Err(Fault {
+            refusal: Refusal::FileName,
+            line: 0,
+        });
     };
     let reading = read_kind(kind, d, file, x);
     match reading {
-        Reading::Accepted(_, _) => reading,
-        Reading::Refused(_, _) => {
+        Ok(_) => reading,
+        Err(_) => {
             *x = [0; PLACES];
             reading
         }

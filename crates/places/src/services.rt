@@ -1,6 +1,5 @@
 // Services: whether a name was given before.
-ghost use Rattle.std.specs.Prelude.{◌≡◌, length};
-ghost use Rattle.places.specs.Store.{table_length};
+ghost use Rattle.std.specs.Prelude.{◌≡◌};
 ghost use Rattle.places.specs.Holds.{Spans, among};
 
 use crate::store::value_at;
@@ -8,7 +7,6 @@ use crate::{NAMES, Places};
 
 // Whether a name is that of one of the first n services.
 pub fn service_named(file: &[u8], x: &Places, n: usize, name: &[u8]) -> bool
-    requires long { length x.now ≡ table_length }
     requires spans { Spans file.now x.now n }
     ensures { result ≡ among file.now x.now n name.now }
 {

@@ -3,9 +3,9 @@
 //
 // Nine rows of slots: in an iwd file one for each group, in a ConnMan file one for `global` and one for each of eight services;
 // behind them the places of the services' names.
-ghost use Rattle.std.specs.Prelude.{◌≡◌, ◌+◌, ◌<◌, length};
+ghost use Rattle.std.specs.Prelude.{◌≡◌, ◌+◌, ◌<◌};
 ghost use Rattle.text.specs.Parts.{part};
-ghost use Rattle.places.specs.Store.{slot_count, table_length, slot, stored, FitsSlot, SlotIn};
+ghost use Rattle.places.specs.Store.{slot_count, slot, stored, FitsSlot, SlotIn};
 
 use crate::{CODES, ENDS, LINES, Places};
 
@@ -18,7 +18,7 @@ pub fn wide(n: u16) -> usize
 
 // Puts a place, its line and a code into a slot.
 pub fn put_slot(x: &mut Places, i: usize, start: usize, end: usize, line: usize, code: u16)
-    requires { (length x.old ≡ table_length) × (i < slot_count) × FitsSlot start end line }
+    requires { (i < slot_count) × FitsSlot start end line }
     ensures { x.new ≡ stored i (record { start = start; end = end; line = line; code = code }) x.old }
 {
     x[i] = start as u16;

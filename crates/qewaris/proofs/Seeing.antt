@@ -5,10 +5,9 @@ use mathlib.Core.List.{List}
 use Rattle.text.specs.declared.Dialect.{Dialect}
 use Rattle.rules.specs.Numbers.{seen_of, answer_number, answer_line}
 use Rattle.rules.specs.Reading.{reading}
-use Rattle.rules.specs.declared.Answer.{Answer}
-use Rattle.rules.specs.declared.Reading.{Reading}
 use Rattle.demands.specs.Demands.{Call, answer_of}
 use Rattle.demands.specs.Telling.{Checks, TellsAnswer}
+use Rattle.rules.specs.Answering.{Answer, Reading}
 
 pub checks : (d : Dialect) (name file : List ℕ) {r : Reading} → r ≡ reading d name file → Checks d name file r
 checks d name file e = record { is = e; seen = ap seen_of e }

@@ -1,6 +1,7 @@
 // The C boundary: the entry points with the structs of `boundary` and `record_layout`.
 //
-// They only translate: each calls the entry point of its name and lays out what it answers. Crate `qewaris_c` hands them to C and
+// They only translate: each calls the entry point of its name and lays out what it answers. C knows no generics, so that each has a name and
+// a function of its own, those that are alike too. Crate `qewaris_c` hands them to C and
 // Rust, and `include/qewaris.h` declares them there. None has a `requires`; a record that is brought in with a code that there is
 // not is refused with 19.
 ghost use Rattle.std.specs.Prelude.{◌≡◌};

@@ -2,7 +2,8 @@
 //
 // None of them has a `requires`: whatever bytes come in, each answers as document 01's table says. `check` reads a file,
 // `typed` gives its settings, `strings` the bytes of its strings, `joined` its join record, `is_well_formed` judges a record,
-// and `files` writes the iwd file of a record or of a ConnMan service. What they promise together is in specs/Demands.
+// and `files` writes the iwd file of a record or of a ConnMan service. These are functions over those of the crates below, since their
+// contracts add what a caller sees of an answer (`TellsAnswer`). What they promise together is in specs/Demands.
 // `exports` has the same with the structs of the C boundary, which crate `qewaris_c` hands to programs in C and Rust.
 #![tactic(auto)]
 

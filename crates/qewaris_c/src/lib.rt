@@ -1,6 +1,7 @@
 // The static library: the functions that programs in C and Rust call. `include/qewaris.h` declares them.
 //
-// Each is the function of its name in `qewaris`, in `exports` or `version`, and has its contract. A slice comes from C as a pointer
+// Each is the function of its name in `qewaris`, in `exports` or `version`, and has its contract. The header declares each by its name, so
+// that each is a function here. A slice comes from C as a pointer
 // and a length; a null pointer with length 0 is an empty one.
 #![tactic(auto)]
 

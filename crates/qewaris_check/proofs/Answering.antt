@@ -9,7 +9,6 @@ use Rattle.text.specs.Parts.{part}
 use Rattle.names.specs.Names.{name_max}
 use Rattle.names.specs.Dialects.{dialect_of}
 use Rattle.rules.specs.Reading.{reading}
-use Rattle.rules.specs.declared.Reading.{Reading}
 use Rattle.intake.specs.declared.Form.{Form}
 use Rattle.intake.specs.declared.NamedFile.{NamedFile}
 use Rattle.intake.specs.Input.{KeepsFile}
@@ -17,6 +16,7 @@ use Rattle.intake.specs.Enough.{reading_front, parted_first, parted_behind}
 use Rattle.intake.proofs.Fronts.{front_whole, front_part}
 use Rattle.qewaris_check.specs.Answers.{checked_input, long_answer}
 use Rattle.qewaris_check.specs.Enough.{long_answer_lem}
+use Rattle.rules.specs.Answering.{Reading}
 
 module _ (i : List ℕ) {name file : List ℕ} {k : NamedFile} (h : KeepsFile i name file k) (m : 16384 < length file) where
   kept_file : reading (dialect_of h.line) h.line (part 0 k.file file) ≡ checked_input i

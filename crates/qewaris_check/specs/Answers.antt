@@ -4,10 +4,10 @@ use Rattle.text.specs.Words.{word}
 use Rattle.text.specs.declared.Dialect.TheVariants.{Iwd, ConnMan}
 use Rattle.names.specs.Dialects.{dialect_of}
 use Rattle.rules.specs.Reading.{reading}
-use Rattle.rules.specs.declared.Reading.{Reading}
 use Rattle.intake.specs.declared.Form.{Form}
 use Rattle.intake.specs.Forms.{complete}
 use Rattle.intake.specs.Input.{first_line, behind_line}
+use Rattle.rules.specs.Answering.{Reading}
 
 -- "a first line with the file name, then the file"
 abbrev pub checked_input : List ℕ → Reading

@@ -10,7 +10,7 @@ ghost use Rattle.rules.specs.Reading.{reading};
 ghost use Rattle.intake.specs.Input.{KeepsFile};
 ghost use Rattle.qewaris_check.specs.Answers.{checked_input, long_answer};
 
-use intake::{FileBuffer, Form, NameBuffer, NamedFile, forms, streams};
+use intake::{FileBuffer, Form, NameBuffer, NamedFile, Progress, forms, streams};
 use rules::Reading;
 use std::io;
 use std::io::Write;
@@ -18,8 +18,8 @@ use text::Dialect;
 
 fn say_reading<W: Write>(out: &mut W, r: Reading) -> io::Result<()> {
     match r {
-        Reading::Accepted(settings, _) => { write!(out, "accepted {settings}\n") }
-        Reading::Refused(refusal, line) => streams::say_refused(out, refusal, line),
+        Ok(counts) => { write!(out, "accepted {}\n", counts.settings) }
+        Err(fault) => streams::say_refused(out, fault.refusal, fault.line),
     }
 }
 
@@ -58,7 +58,7 @@ fn main(rt: HostRuntime) -> io::Result<()> {
     let mut name = [0u8; 129];
     let mut file = [0u8; 16385];
     let input = streams::read_input(&mut rt.stdin(), &mut number, &mut name, &mut file, false);
-    if input.whole {
+    if input.progress == Progress::Whole {
         say_reading(&mut rt.stdout(), check_kept(input.kept.rest, &name, &file))?;
     }
     Ok(())

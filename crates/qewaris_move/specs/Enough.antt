@@ -6,7 +6,6 @@ use Rattle.text.specs.Words.{word}
 use Rattle.text.specs.declared.Dialect.TheVariants.{ConnMan}
 use Rattle.rules.specs.Reading.{reading}
 use Rattle.rules.specs.Asking.{asked_of}
-use Rattle.rules.specs.declared.Reading.{Reading}
 use Rattle.rules.specs.declared.Refusal.TheVariants.{Size}
 use Rattle.writer.specs.Writing.{refuses}
 use Rattle.joins.specs.Joins.{service_setting}
@@ -16,6 +15,7 @@ use Rattle.intake.specs.Forms.{form_from, complete}
 use Rattle.intake.specs.Laws.{form_connman}
 use Rattle.rules.proofs.Acceptance.{reading_large}
 use Rattle.intake.specs.Enough.{reading_name}
+use Rattle.rules.specs.Answering.{Reading}
 
 module _ (w : ℕ) (n f : List ℕ) where
   -- a name counts only by the reading

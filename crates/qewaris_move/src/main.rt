@@ -13,8 +13,7 @@ ghost use Rattle.intake.specs.Forms.{form_from};
 ghost use Rattle.intake.specs.Input.{KeepsInput};
 ghost use Rattle.qewaris_move.specs.Answers.{moved_input, Sayable};
 
-use intake::{FileBuffer, Form, Input, NumberBuffer, forms, numbers, streams};
-use rules::Answer;
+use intake::{FileBuffer, Form, Input, NumberBuffer, Progress, forms, numbers, streams};
 use std::io;
 use std::io::Write;
 use writer::Written;
@@ -26,8 +25,8 @@ fn say_written<W: Write>(out: &mut W, w: Written, name: &NewName, file: &NewFile
     requires { Sayable name.now file.now w }
 {
     match w.answer {
-        Answer::Good => streams::say_file(out, &name[..w.name_len], &file[..w.file_len]),
-        Answer::Refused(refusal, line) => streams::say_refused(out, refusal, line),
+        Ok(()) => streams::say_file(out, &name[..w.name_len], &file[..w.file_len]),
+        Err(fault) => streams::say_refused(out, fault.refusal, fault.line),
     }
 }
 
@@ -69,7 +68,7 @@ fn main(rt: HostRuntime) -> io::Result<()> {
     let mut name = [0u8; 129];
     let mut file = [0u8; 16385];
     let input = streams::read_input(&mut rt.stdin(), &mut number, &mut name, &mut file, true);
-    if input.whole {
+    if input.progress == Progress::Whole {
         let mut name_out = buffers::for_name();
         let mut file_out = buffers::for_file();
         let written = move_kept(input.kept, &number, &file, &mut name_out, &mut file_out);

@@ -23,12 +23,12 @@ use Rattle.kinds.specs.declared.Broken.TheVariants as B
 use Rattle.lines.specs.Lines.{setting}
 use Rattle.rules.specs.Tables.{keys_of, kind_of}
 use Rattle.rules.specs.Sections.{Entry, Section, given, entry_of}
-use Rattle.rules.specs.Faults.{fault, key_fault, value_fault}
+use Rattle.rules.specs.Faults.{fault, key_fault, value_fault, broken_of}
 use Rattle.tables.specs.KeyPlaces.{at_place, at_place_zero, at_place_named, key_names, listed_key}
 use Rattle.rules.specs.declared.Group.{Group}
 use Rattle.tables.specs.declared.Listed.{Listed}
 use Rattle.rules.specs.declared.Refusal.{Refusal}
-use Rattle.rules.specs.declared.Refusal.TheVariants.{NoGroup, UnknownKey, RepeatedKey, ValueText, ValueKind}
+use Rattle.rules.specs.declared.Refusal.TheVariants.{NoGroup, UnknownKey, RepeatedKey}
 use Rattle.places.specs.Store.{lines_from, slot}
 use Rattle.places.specs.History.{name_base, base_at, row_after, current_of}
 use Rattle.places.specs.Holds.{RowKeeps, RowsKeep}
@@ -83,15 +83,10 @@ missed (Some b) e {f} q = let z : ◌≡◌ {A = ℕ} 0 1 = cc in absurd (omega 
 kind_placed : (g : Group) (k : List ℕ) {x : Kind} → kind_of g k ≡ Some x → place k (key_names g) ≡ 0 → ⊥
 kind_placed g k {x} e z = none-some x (sym (at_place_zero (keys_of g)) ∙ ap (λ (p : ℕ). at_place p (keys_of g)) (sym z) ∙ at_place_named k (keys_of g) ∙ e)
 
-text_broken : (p : Place) (y : Judged) → judgement_at p y ≡ Err B.Text → y ≡ broken_text
-text_broken p (good t) e = let z : ◌≡◌ {A = ℕ} 0 1 = cc in absurd (omega arith)
-text_broken p broken_text e = refl
-text_broken p broken_kind e = let z : ◌≡◌ {A = ℕ} 0 1 = cc in absurd (omega arith)
-
-kind_broken : (p : Place) (y : Judged) → judgement_at p y ≡ Err B.Kind → y ≡ broken_kind
-kind_broken p (good t) e = let z : ◌≡◌ {A = ℕ} 0 1 = cc in absurd (omega arith)
-kind_broken p broken_text e = let z : ◌≡◌ {A = ℕ} 0 1 = cc in absurd (omega arith)
-kind_broken p broken_kind e = refl
+value_faulty : (p : Place) (y : Judged) {b : Broken} → judgement_at p y ≡ Err b → value_fault y ≡ Some (broken_of b)
+value_faulty p (good t) e = let z : ◌≡◌ {A = ℕ} 0 1 = cc in absurd (omega arith)
+value_faulty p broken_text {b} e = let w : B.Text ≡ b = cc in ap (λ (r : Broken). Some (broken_of r)) w
+value_faulty p broken_kind {b} e = let w : B.Kind ≡ b = cc in ap (λ (r : Broken). Some (broken_of r)) w
 
 value_good : (p : Place) (y : Judged) {v : Value} → judgement_at p y ≡ Ok v → value_fault y ≡ None
 value_good p (good t) e = refl
@@ -141,11 +136,8 @@ module _ (d : Dialect) (file x : List ℕ) (c : Current) (key value : Place) whe
         judging : (gs : List Section) → c ≡ current_of gs → RowsKeep d file x gs → fault d gs (setting (part_at file key) (part_at file value)) ≡ value_fault (judged d listed.kind (part_at file value))
         judging gs e rows = faulty gs e ∙ rw (known.1, whether gs (row_in_force gs (head gs e q) rows) (eq-eqb _ 0 l))
 
-        pub setting_text : j ≡ Err B.Text → SettingSays d file x c key value (Err ValueText)
-        setting_text v = record { says = λ gs e rows. judging gs e rows ∙ ap value_fault (text_broken value (judged d listed.kind (part_at file value)) (sym s ∙ v)) }
-
-        pub setting_kind : j ≡ Err B.Kind → SettingSays d file x c key value (Err ValueKind)
-        setting_kind v = record { says = λ gs e rows. judging gs e rows ∙ ap value_fault (kind_broken value (judged d listed.kind (part_at file value)) (sym s ∙ v)) }
+        pub setting_faulty : {b : Broken} → j ≡ Err b → SettingSays d file x c key value (Err (broken_of b))
+        setting_faulty v = record { says = λ gs e rows. judging gs e rows ∙ value_faulty value (judged d listed.kind (part_at file value)) (sym s ∙ v) }
 
         pub setting_good : {v : Value} → j ≡ Ok v → SettingSays d file x c key value (Ok (Setting (b + listed.place) v))
         setting_good v =

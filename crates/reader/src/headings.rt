@@ -1,10 +1,9 @@
 // Headers: whether one may stand after the lines before it.
-ghost use Rattle.std.specs.Prelude.{◌≡◌, ◌<◌, length};
+ghost use Rattle.std.specs.Prelude.{◌≡◌};
 ghost use Rattle.rules.specs.Tables.{group_of};
 ghost use Rattle.rules.specs.Sections.{serves};
 ghost use Rattle.places.specs.Holds.{Spans};
 ghost use Rattle.reader.specs.Headings.{slots_named, slots_open, slots_heading};
-ghost use Rattle.places.specs.Store.{table_length};
 
 use places::rows::base_of;
 use places::services::service_named;
@@ -21,7 +20,6 @@ pub fn is_service(g: Group) -> bool
 
 // Whether a group was named before.
 fn was_named(file: &[u8], x: &Places, services: usize, name: &[u8], g: Group) -> bool
-    requires long { length x.now ≡ table_length }
     requires spans { Spans file.now x.now services }
     ensures { result ≡ slots_named file.now x.now services name.now g }
 {
@@ -40,7 +38,6 @@ fn open_group(
     name: &[u8],
     g: Group,
 ) -> Result<Group, Refusal>
-    requires long { length x.now ≡ table_length }
     requires spans { Spans file.now x.now services }
     ensures { result ≡ slots_open file.now x.now services name.now g }
 {
@@ -61,7 +58,6 @@ pub fn heading(
     services: usize,
     name: &[u8],
 ) -> Result<Group, Refusal>
-    requires long { length x.now ≡ table_length }
     requires spans { Spans file.now x.now services }
     ensures { result ≡ slots_heading file.now x.now services name.now (group_of d name.now) }
 {

@@ -3,11 +3,9 @@ ghost use Rattle.std.specs.Prelude.{◌≡◌, ◌+◌, ◌≤◌, length};
 ghost use Rattle.text.specs.Parts.{Inside, part};
 ghost use Rattle.reader.specs.Says.{CurrentRow, SettingSays};
 ghost use Rattle.reader.specs.Steps.{LineSays};
-ghost use Rattle.rules.specs.Faults.{break_of};
 
 use crate::Line;
-use kinds::Broken;
-use lines::{Break, Form};
+use lines::Form;
 use places::{Current, LINES, Places};
 use rules::Refusal;
 use text::{Dialect, Place};
@@ -36,11 +34,8 @@ pub fn setting_line(
     if x[LINES + i] != 0 {
         return Err(Refusal::RepeatedKey);
     }
-    match kinds::judging::judge(d, listed.kind, file, value) {
-        Ok(v) => Ok(Line::Setting(i, v)),
-        Err(Broken::Text) => Err(Refusal::ValueText),
-        Err(Broken::Kind) => Err(Refusal::ValueKind),
-    }
+    let v = kinds::judging::judge(d, listed.kind, file, value)?;
+    Ok(Line::Setting(i, v))
 }
 
 // A place in the part of the file that starts at start, as a place in the file.
@@ -51,17 +46,6 @@ fn moved(file: &[u8], p: Place, start: usize) -> Place
     Place {
         start: start + p.start,
         end: start + p.end,
-    }
-}
-
-// The refusal of a line that breaks a rule by itself.
-fn refusal_of(b: Break) -> Refusal
-    ensures { result ≡ break_of b }
-{
-    match b {
-        Break::Unrecognized => Refusal::Unrecognized,
-        Break::Extension => Refusal::Extension,
-        Break::BadHeader => Refusal::BadHeader,
     }
 }
 
@@ -79,15 +63,14 @@ pub fn line_at(
     requires rows { CurrentRow x.now current }
     ensures { LineSays d file.now x.now current start (part start end file.now) result }
 {
-    match lines::form_of(d, &file[start..end]) {
-        Ok(Form::Blank) => Ok(Line::Blank),
-        Ok(Form::Comment) => Ok(Line::Comment),
-        Ok(Form::Header(name)) => Ok(Line::Header(moved(file, name, start))),
-        Ok(Form::Setting(key, value)) => {
+    match lines::form_of(d, &file[start..end])? {
+        Form::Blank => Ok(Line::Blank),
+        Form::Comment => Ok(Line::Comment),
+        Form::Header(name) => Ok(Line::Header(moved(file, name, start))),
+        Form::Setting(key, value) => {
             let k = moved(file, key, start);
             let v = moved(file, value, start);
             setting_line(d, file, x, current, k, v)
         }
-        Err(b) => Err(refusal_of(b)),
     }
 }

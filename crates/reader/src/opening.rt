@@ -3,7 +3,7 @@ ghost use Rattle.std.specs.Prelude.{◌≡◌, false, ◌&&◌, ◌≤◌, ◌<�
 ghost use Rattle.text.specs.Parts.{Inside, part_at};
 ghost use Rattle.lines.specs.Lines.{header};
 ghost use Rattle.rules.specs.Sections.{serves};
-ghost use Rattle.places.specs.Store.{table_length, FitsSlot};
+ghost use Rattle.places.specs.Store.{FitsSlot};
 ghost use Rattle.reader.specs.Steps.{Opened, Known, StepSays};
 
 use crate::headings::{heading, is_service};
@@ -15,7 +15,6 @@ use text::{Dialect, Place};
 
 // Stores a good header, and returns what is known after it. Of a service the place of its name is stored too.
 fn opened(x: &mut Places, st: State, g: Group, start: usize, name: Place, line: usize) -> State
-    requires long { length x.old ≡ table_length }
     requires few { st.services ≤ 8 }
     requires room { (serves g && leb 8 st.services) ≡ false }
     requires header { FitsSlot start start line }

@@ -8,7 +8,6 @@ use lib.ListN.{length, take, drop, replicate, length-append}
 use lib.Seq.{take-append_seam}
 use Rattle.addresses.specs.Addresses.{no_address}
 use Rattle.rules.specs.declared.Refusal.{Refusal}
-use Rattle.rules.specs.declared.Answer.TheVariants.{Good, Refused}
 use Rattle.records.specs.Formed.{Arrays}
 use Rattle.records.specs.declared.JoinRecord.{JoinRecord}
 use Rattle.writer.specs.Writing.{Writing, writes, refuses, writing, on_front, Writes}
@@ -19,6 +18,8 @@ use Rattle.comparing.specs.Same.{same_record, same_servers}
 use Rattle.comparing.specs.SameLaws.{same_record_refl, same_servers_refl}
 use Rattle.reading_back.specs.Back.{is_good, same_answer, read_same, RoundTrips}
 use Rattle.comparing.proofs.Agreeing.{differs, agrees}
+use Rattle.rules.specs.Answering.{refused_at}
+use Rattle.std.specs.Prelude.{Ok}
 
 -- ---- an answer x and its servers t, which are y and u, against a record and servers
 
@@ -26,10 +27,10 @@ module _ {x y : RecordAnswer} {t u : List (List ℕ)} (w : (x ≡ y) × (t ≡ u
   there : same_answer x t r s ≡ same_answer y u r s
   there = ap₂ (λ (p : RecordAnswer) (q : List (List ℕ)). same_answer p q r s) w.0 w.1
 
-  pub answer_refused : {k : Refusal} {l : ℕ} → x.answer ≡ Refused k l → false ≡ same_answer y u r s
+  pub answer_refused : {k : Refusal} {l : ℕ} → x.answer ≡ refused_at k l → false ≡ same_answer y u r s
   answer_refused e = differs _ (ap is_good e) ∙ there
 
-  module _ (e : x.answer ≡ Good) {p : Bool} (is : p ≡ same_record x.«record» r) where
+  module _ (e : x.answer ≡ Ok tt) {p : Bool} (is : p ≡ same_record x.«record» r) where
     pub record_differs : p ≡ false → p ≡ same_answer y u r s
     record_differs k = k ∙ agrees _ (ap is_good e) (differs _ (sym is ∙ k)) ∙ there
 
@@ -56,7 +57,7 @@ record Texts (w : Writing) (n f x y : List ℕ) (a : Written) : Type 0 where
   in_name_lem : x ≡ on_front name n
   in_file_lem : y ≡ on_front file f
 
-texts : (w : Writing) {n f x y : List ℕ} {a : Written} → Writes w n f x y a → a.answer ≡ Good → Texts w n f x y a
+texts : (w : Writing) {n f x y : List ℕ} {a : Written} → Writes w n f x y a → a.answer ≡ Ok tt → Texts w n f x y a
 texts (writes p q) h e =
     record {
       name = p;
@@ -67,13 +68,13 @@ texts (writes p q) h e =
       in_name_lem = h.name;
       in_file_lem = h.file;
     }
-texts (refuses k l) h e = let g : Good ≡ Refused k l = sym e ∙ ap (λ (z : Written). z.answer) h.answer in let z : ◌≡◌ {A = ℕ} 0 1 = cc in absurd (omega arith)
+texts (refuses k l) h e = let g : (Ok tt) ≡ refused_at k l = sym e ∙ ap (λ (z : Written). z.answer) h.answer in let z : ◌≡◌ {A = ℕ} 0 1 = cc in absurd (omega arith)
 
 module _ (r : JoinRecord) (s : List (List ℕ)) (t : Arrays r s) {n f x y : List ℕ} {a : Written} (w : Writes (writing r s n f) n f x y a) where
-  pub back_refused : {k : Refusal} {l : ℕ} → a.answer ≡ Refused k l → RoundTrips r s n f x y (record { written = a; same = false })
+  pub back_refused : {k : Refusal} {l : ℕ} → a.answer ≡ refused_at k l → RoundTrips r s n f x y (record { written = a; same = false })
   back_refused e = record { writes = w; compared = rw e; same = rw e }
 
-  module _ (e : a.answer ≡ Good) where
+  module _ (e : a.answer ≡ Ok tt) where
     abbrev these : Texts (writing r s n f) n f x y a
     these = texts (writing r s n f) w e
 

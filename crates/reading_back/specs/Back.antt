@@ -1,19 +1,18 @@
 -- What is answered when a record is written and read back.
-use Rattle.std.specs.Prelude.{ℕ, ◌≡◌, Bool, true, false, ◌&&◌, List, take, replicate}
+use Rattle.std.specs.Prelude.{ℕ, ◌≡◌, Bool, true, false, ◌&&◌, List, take, replicate, Ok, Err}
 use Rattle.addresses.specs.Addresses.{no_address}
-use Rattle.rules.specs.declared.Answer.{Answer}
-use Rattle.rules.specs.declared.Answer.TheVariants.{Good, Refused}
 use Rattle.records.specs.declared.JoinRecord.{JoinRecord}
 use Rattle.writer.specs.Writing.{writing, Writes}
 use Rattle.joins.specs.Joins.{iwd_record, iwd_record_servers}
 use Rattle.joins.specs.declared.RecordAnswer.{RecordAnswer}
 use Rattle.comparing.specs.Same.{same_record, same_servers}
 use Rattle.reading_back.specs.declared.Back.{Back}
+use Rattle.rules.specs.Answering.{Answer}
 
 -- an answer and its servers, against a record and servers; a refusal has no record
 abbrev pub is_good : Answer → Bool
-is_good Good = true
-is_good (Refused r l) = false
+is_good (Ok u) = true
+is_good (Err f) = false
 
 abbrev pub same_answer : RecordAnswer → List (List ℕ) → JoinRecord → List (List ℕ) → Bool
 same_answer x t r s = is_good x.answer && (same_record x.«record» r && same_servers t s)

@@ -7,10 +7,9 @@ ghost use Rattle.std.specs.Prelude.{◌≡◌};
 ghost use Rattle.reading_back.specs.Back.{read_same, RoundTrips};
 
 use records::JoinRecord;
-use rules::Answer;
 use writer::Written;
 
-// What was written, and whether it reads back as the record that was written.
+// What was written, and whether it reads back as the record that was written. A yes or no of a refusal too, for which `RoundTrips` says no.
 #[derive(Clone, Copy)]
 pub struct Back {
     pub written: Written,
@@ -25,11 +24,11 @@ fn is_record(name: &[u8], file: &[u8], r: JoinRecord, servers: [[u8; 4]; 4]) -> 
     let answered = record_answers::iwd_record(name, file, &mut read);
     let answer = answered.answer;
     match answer {
-        Answer::Good => {
+        Ok(()) => {
             let record = answered.record;
             comparing::same_record(record, r) && comparing::same_servers(read, servers)
         }
-        Answer::Refused(_, _) => false,
+        Err(_) => false,
     }
 }
 
@@ -42,13 +41,13 @@ pub fn reads_back(r: JoinRecord, servers: [[u8; 4]; 4], name: &mut [u8], file: &
     let written = writer::write_iwd(r, servers, name, file);
     let answer = written.answer;
     match answer {
-        Answer::Good => {
+        Ok(()) => {
             let name_len = written.name_len;
             let file_len = written.file_len;
             let same = is_record(&name[..name_len], &file[..file_len], r, servers);
             Back { written, same }
         }
-        Answer::Refused(_, _) => Back {
+        Err(_) => Back {
             written,
             same: false,
         },

@@ -16,10 +16,11 @@ use joins::{RecordAnswer, joining, parts};
 use places::rows::base_of;
 use places::{KeyName, PLACES, Places};
 use records::{Credential, JoinRecord};
-use rules::{Answer, Group, Reading, Refusal};
+use rules::{Fault, Group, Refusal};
 use tables::asking;
 use text::Dialect;
 
+// Written out: arrays of 63 and of 253 bytes have no Default.
 fn zero_record() -> JoinRecord
     ensures { result ≡ zero_record }
 {
@@ -47,21 +48,21 @@ fn zero_record() -> JoinRecord
     }
 }
 
-fn refused(refusal: Refusal, line: usize) -> RecordAnswer
-    ensures { result ≡ record { answer = Answer.Refused refusal line; «record» = zero_record } }
+fn refused(fault: Fault) -> RecordAnswer
+    ensures { result ≡ record { answer = Err fault; «record» = zero_record } }
 {
     let record = zero_record();
     RecordAnswer {
-        answer: Answer::Refused(refusal, line),
+        answer: Err(fault),
         record,
     }
 }
 
 fn answered(found: JoinRecord) -> RecordAnswer
-    ensures { result ≡ record { answer = Answer.Good; «record» = found } }
+    ensures { result ≡ record { answer = Ok tt; «record» = found } }
 {
     RecordAnswer {
-        answer: Answer::Good,
+        answer: Ok(()),
         record: found,
     }
 }
@@ -69,7 +70,7 @@ fn answered(found: JoinRecord) -> RecordAnswer
 // The record of an accepted iwd file.
 fn iwd_found(name: &[u8], file: &[u8], x: &Places, servers: &mut [[u8; 4]; 4]) -> RecordAnswer
     requires { IwdFileRows file.now x.now }
-    ensures { (result ≡ record { answer = Answer.Good; «record» = laid (iwd_file_join name.now file.now) })
+    ensures { (result ≡ record { answer = Ok tt; «record» = laid (iwd_file_join name.now file.now) })
         × (servers.new ≡ laid_servers (iwd_file_join name.now file.now)) }
 {
     let count = values::list_at(
@@ -92,8 +93,8 @@ pub fn iwd_record(name: &[u8], file: &[u8], servers: &mut [[u8; 4]; 4]) -> Recor
     let mut x = [0; PLACES];
     let reading = pass::read(Dialect::Iwd, name, file, &mut x);
     match reading {
-        Reading::Accepted(_, _) => iwd_found(name, file, &x, servers),
-        Reading::Refused(refusal, line) => refused(refusal, line),
+        Ok(_) => iwd_found(name, file, &x, servers),
+        Err(fault) => refused(fault),
     }
 }
 
@@ -103,7 +104,10 @@ fn service_found(file: &[u8], x: &Places, row: usize, servers: &mut [[u8; 4]; 4]
     ensures { RowAnswered file.now x.now row servers.old servers.new result }
 {
     if let Some(line) = parts::hindrance_at(x, row) {
-        return refused(Refusal::NoPlace, line);
+        return refused(Fault {
+            refusal: Refusal::NoPlace,
+            line,
+        });
     }
     let count = values::list_at(
         servers,
@@ -130,10 +134,10 @@ pub fn service_record(
     let reading = pass::read(Dialect::ConnMan, name, file, &mut x);
     let answer = asking::asked_of(service, reading);
     match answer {
-        Answer::Good => {
+        Ok(()) => {
             let row = base_of(Group::Service, service);
             service_found(file, &x, row, servers)
         }
-        Answer::Refused(refusal, line) => refused(refusal, line),
+        Err(fault) => refused(fault),
     }
 }

@@ -109,22 +109,12 @@ pub fn record_at(r: JoinRecord, servers: [[u8; 4]; 4]) -> CRecord
 pub fn is_known(c: CRecord) -> bool
     ensures { result ≡ known c }
 {
-    if 2 < c.credential {
-        return false;
-    }
-    if 1 < c.hidden {
-        return false;
-    }
-    if 2 < c.ipv4 {
-        return false;
-    }
-    if 1 < c.has_gateway {
-        return false;
-    }
-    if 2 < c.ipv6 {
-        return false;
-    }
-    c.has_ipv6_gateway <= 1
+    c.credential <= 2
+        && c.hidden <= 1
+        && c.ipv4 <= 2
+        && c.has_gateway <= 1
+        && c.ipv6 <= 2
+        && c.has_ipv6_gateway <= 1
 }
 
 // The record that is brought in, its codes being known.

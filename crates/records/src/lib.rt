@@ -18,7 +18,8 @@ pub enum Credential {
 }
 
 // The name, the passphrase and the domain are the first `.._len` bytes of their arrays. What is not in use is zero. The
-// name servers, the first `server_count` of four, stand beside the record.
+// name servers, the first `server_count` of four, stand beside the record. Its flags, counts and lengths stay numbers beside their arrays: 19
+// is asked of any record that a caller brings, and `formed` (`is_well_formed`) speaks of those that no narrower type could hold.
 #[derive(Clone, Copy, PartialEq, Eq)]
 pub struct JoinRecord {
     pub name_len: usize,
@@ -50,7 +51,8 @@ fn is_zero(s: &[u8]) -> bool
     text::scan::zeros_end(s, 0) == s.len()
 }
 
-// Whether the first n places of s are in use, low to high of them, and the others are zero.
+// Whether the first n places of s are in use, low to high of them, and the others are zero. The count n is the caller's, beside its array,
+// here and below: what is refused is also one that the array has no room for (`held`).
 fn is_held(s: &[u8], n: usize, low: usize, high: usize) -> bool
     requires { high ≤ length s.now }
     ensures { result ≡ held low high n s.now }
@@ -76,7 +78,8 @@ fn is_credential(c: Credential, n: usize, p: &[u8; 63], k: &[u8; 32]) -> bool
     }
 }
 
-// Whether the places of an address a, its length n and a gateway g, which h says is given, are not in use.
+// Whether the places of an address a, its length n and a gateway g, which h says is given, are not in use. The flag stands beside the gateway
+// here and below: what is refused is also a gateway that is not zero and not given (`unaddressed`, `addressed`).
 fn is_unaddressed(a: &[u8], n: u8, h: bool, g: &[u8]) -> bool
     ensures { result ≡ unaddressed a.now n h g.now }
 {
@@ -90,7 +93,7 @@ fn is_addressed(most: u8, n: u8, h: bool, g: &[u8]) -> bool
     1 <= n && n <= most && (h || is_zero(g))
 }
 
-// Whether the places of a method hold what it uses and zeros.
+// Whether the places of a method hold what it uses and zeros. A `match`, here and at the credential: each case asks other places.
 fn is_addressing(most: u8, m: Method, a: &[u8], n: u8, h: bool, g: &[u8]) -> bool
     ensures { result ≡ addressing_formed most m a.now n h g.now }
 {

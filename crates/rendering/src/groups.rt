@@ -25,6 +25,7 @@ fn put_settings(out: &mut [u8], hidden: bool) -> usize
     0
 }
 
+// A `match`: each credential is written by another function.
 fn put_security(out: &mut [u8], c: Credential, passphrase: &[u8], key: &[u8]) -> usize
     requires { length (group_text (word "Security") (secret_rows (secret_of c passphrase.now key.now))) ≤ length out.old }
     ensures { Wrote (group_text (word "Security") (secret_rows (secret_of c passphrase.now key.now))) 0 out.old out.new result }
@@ -82,6 +83,7 @@ fn put_ipv6_static(out: &mut [u8], a: [u8; 16], n: u8, given: bool, g: [u8; 16])
     rows::put_ipv6_gateway(out, at, given, g)
 }
 
+// A `match`: each method is written by another function.
 fn put_ipv6(out: &mut [u8], method: Method, a: [u8; 16], n: u8, given: bool, g: [u8; 16]) -> usize
     requires { length (group_text (word "IPv6") (ipv6_rows (addressing_in method a n given g))) ≤ length out.old }
     ensures { Wrote (group_text (word "IPv6") (ipv6_rows (addressing_in method a n given g))) 0 out.old out.new result }

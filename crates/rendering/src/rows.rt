@@ -47,7 +47,8 @@ fn put_address(out: &mut [u8], at: usize, front: &[u8], a: [u8; 4]) -> usize
     put::put_byte(out, q, 10)
 }
 
-// The line of a gateway, where there is one.
+// The line of a gateway, where there is one. All that write or count one take it with its flag, as the record and the definition (`gateway_if`)
+// do: of an Option they would ask the same, and it would be made of the record's fields for the length and once more for the text.
 fn put_gateway(out: &mut [u8], at: usize, given: bool, a: [u8; 4]) -> usize
     requires { at + length (rows_text (gateway_rows dotted (gateway_if given a))) ≤ length out.old }
     ensures { Wrote (rows_text (gateway_rows dotted (gateway_if given a))) at out.old out.new result }

@@ -1,4 +1,5 @@
-// How long each part of the file is.
+// How long each part of the file is: a function for each that writes, since the length is asked before the first byte is written, so that a
+// short buffer is left as it was (17; demands `Unwritten`).
 #![tactic(auto, unfolding(written::specs::Texts::rows_text, written::specs::Texts::group_text))]
 
 ghost use Rattle.std.specs.Prelude.{◌≡◌, ◌≤◌, length, take};
@@ -33,6 +34,7 @@ fn security_len(c: Credential, passphrase: &[u8], key: &[u8]) -> usize
     }
 }
 
+// A gateway with its flag, as in `rows`.
 fn gateway_len(given: bool, a: [u8; 4]) -> usize
     ensures { result ≡ length (rows_text (gateway_rows dotted (gateway_if given a))) }
 {

@@ -1,5 +1,5 @@
 -- The round trip: what is written of a well-formed record that has a place in iwd is accepted, and its record is the one that was written.
-use Rattle.std.specs.Prelude.{ℕ, ◌≡◌, true, false, List, Option, None, Some}
+use Rattle.std.specs.Prelude.{ℕ, ◌≡◌, true, false, List, Option, None, Some, Ok}
 use Rattle.std.proofs.Common.{arith, ap, ◌∙◌}
 use Rattle.std.proofs.Math.Path.{refl, ap₂}
 use Rattle.text.specs.Words.{word, same}
@@ -23,9 +23,6 @@ use Rattle.rules.specs.Reading.{iwd_name, sections_of, reading}
 use Rattle.rules.specs.Asking.{iwd_entry, read_as, asked}
 use Rattle.rules.proofs.Acceptance.{Obeys, obeys_accepted}
 use Rattle.rules.proofs.GoodEntries.{iwd_services}
-use Rattle.rules.specs.declared.Answer.TheVariants.{Good}
-use Rattle.rules.specs.declared.Reading.{Reading}
-use Rattle.rules.specs.declared.Reading.TheVariants.{Accepted}
 use Rattle.records.specs.Record.{Join, laid, laid_servers}
 use Rattle.records.specs.Formed.{WellFormed}
 use Rattle.written.specs.Written.{number_rows, blocks_of, file_text, suffix_for, name_text, ipv4_placed, ipv6_placed, has_place}
@@ -36,6 +33,7 @@ use Rattle.round_trip.specs.Readings.{file_obeys, file_blocks}
 use Rattle.round_trip.specs.RowLookups.{read_rows, has_rows, settings_rows}
 use Rattle.round_trip.specs.GoodGroups.{blocks_good, names_apart_lem, number_value, server_value, domain_value}
 use Rattle.round_trip.specs.PartsRead.{hidden_rows_read, secret_rows_read, number_rows_read, server_rows_read, domain_rows_read, ipv6_rows_read, numbers_obey, ipv6_pairs, ipv6_agrees, rules_obey}
+use Rattle.rules.specs.Answering.{Reading, accepted_with}
 
 -- the groups of the file that is written
 abbrev groups_of : Join → List Section
@@ -139,10 +137,10 @@ written_obeys j w p =
 
 -- it is accepted, and has the settings that were written
 pub written_accepted : (j : Join) → WellFormed j → has_place j ≡ true →
-    reading Iwd (name_text j) (file_text j) ≡ Accepted (row_count (blocks_of j)) 0
+    reading Iwd (name_text j) (file_text j) ≡ accepted_with (row_count (blocks_of j)) 0
 written_accepted j w p =
     let a = obeys_accepted Iwd (name_text j) (file_text j) (written_obeys j w p) in
-    a ∙ ap₂ Accepted (settings_rows (groups_of j) (blocks_of j) (blocks j w)) (iwd_services (name_text j) (file_text j) a)
+    a ∙ ap₂ accepted_with (settings_rows (groups_of j) (blocks_of j) (blocks j w)) (iwd_services (name_text j) (file_text j) a)
 
 -- its record is the one that was written
 pub round_trip : (j : Join) → WellFormed j → has_place j ≡ true → iwd_joined (name_text j) (file_text j) ≡ joined j
@@ -152,7 +150,7 @@ round_trip j w p =
 
 -- and so are the answers
 pub round_trip_record : (j : Join) → WellFormed j → has_place j ≡ true →
-    iwd_record (name_text j) (file_text j) ≡ record { answer = Good; «record» = laid j }
+    iwd_record (name_text j) (file_text j) ≡ record { answer = Ok tt; «record» = laid j }
 unfolding iwd_record
 round_trip_record j w p = ap record_answer (round_trip j w p)
 

@@ -1,8 +1,7 @@
 -- The round trip of a struct and its servers: what the writer writes of them reads back as that struct and those servers.
-use Rattle.std.specs.Prelude.{ℕ, ◌≡◌, true, List}
+use Rattle.std.specs.Prelude.{ℕ, ◌≡◌, true, List, Ok}
 use Rattle.std.proofs.Common.{arith, ap, ap₂, sym, ◌∙◌}
 use Rattle.rules.specs.declared.Refusal.{Refusal}
-use Rattle.rules.specs.declared.Answer.TheVariants.{Good}
 use Rattle.records.specs.Record.{joined}
 use Rattle.records.specs.Formed.{formed, Arrays}
 use Rattle.records.specs.Laws.{joined_good, laid_joined, laid_joined_servers}
@@ -38,10 +37,10 @@ written_from r s n f {a} {b} e = go (writing r s n f) (writing_is r s n f) e
     go m (placed p q) k = roomed p q m (room_is (joined r s) n f) k
 
 module _ (r : JoinRecord) (s : List (List ℕ)) (t : Arrays r s) (n f : List ℕ) {a b : List ℕ} (e : writing r s n f ≡ writes a b) where
-  pub writing_record : iwd_record a b ≡ record { answer = Good; «record» = r }
+  pub writing_record : iwd_record a b ≡ record { answer = Ok tt; «record» = r }
   writing_record =
       let w = written_from r s n f e in
-      sym (ap₂ iwd_record w.name w.file) ∙ round_trip_record (joined r s) (joined_good t w.good) w.placed ∙ ap (λ (x : JoinRecord). record { answer = Good; «record» = x }) (laid_joined t w.good)
+      sym (ap₂ iwd_record w.name w.file) ∙ round_trip_record (joined r s) (joined_good t w.good) w.placed ∙ ap (λ (x : JoinRecord). record { answer = Ok tt; «record» = x }) (laid_joined t w.good)
 
   pub writing_servers : (old : List (List ℕ)) → iwd_record_servers a b old ≡ s
   writing_servers old =

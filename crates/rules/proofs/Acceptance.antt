@@ -14,7 +14,9 @@ use Rattle.rules.specs.declared.Fault.{Fault}
 use Rattle.rules.specs.Reading.{after_line, line_fault, grown, sections_of, Name, name_in, groups_fault, verdict, reading}
 use Rattle.rules.specs.declared.Refusal.{Refusal}
 use Rattle.rules.specs.declared.Refusal.TheVariants.{Size, FileName}
-use Rattle.rules.specs.declared.Reading.TheVariants.{Accepted, Refused}
+use Rattle.rules.specs.AnsweringLaws.{same_refusal}
+use Rattle.rules.specs.declared.Counts.{Counts}
+use Rattle.rules.specs.Answering.{accepted_with, refused_at}
 
 -- each line has no fault after the good lines before it; the first is line n and starts at s
 abbrev pub LinesObey : Dialect → ℕ → ℕ → List Section → List (List ℕ) → Type 0
@@ -96,12 +98,12 @@ module _ (d : Dialect) (name file : List ℕ) (size : length file ≤ 16384) whe
   unfolding reading
   named_whole named = rw (le-leb (length file) 16384 size, named)
 
-  misnamed_whole : name_in d name ≡ None → reading d name file ≡ Refused FileName 0
+  misnamed_whole : name_in d name ≡ None → reading d name file ≡ refused_at FileName 0
   unfolding reading
   misnamed_whole named = rw (le-leb (length file) 16384 size, named)
 
 -- "file over 16,384 bytes", under any name
-pub reading_large : (d : Dialect) (name file : List ℕ) → 16384 < length file → reading d name file ≡ Refused Size 0
+pub reading_large : (d : Dialect) (name file : List ℕ) → 16384 < length file → reading d name file ≡ refused_at Size 0
 unfolding reading
 reading_large d name file h = rw (lt-leb (length file) 16384 h)
 
@@ -117,12 +119,12 @@ pub data Offends (d : Dialect) (name file : List ℕ) : Refusal → ℕ → Type
       {f : Fault} → groups_fault k (sections_of d file) ≡ Some f → Offends d name file f.refusal f.line
 
 pub obeys_accepted : (d : Dialect) (name file : List ℕ) → Obeys d name file →
-    reading d name file ≡ Accepted (settings (sections_of d file)) (services (sections_of d file))
+    reading d name file ≡ accepted_with (settings (sections_of d file)) (services (sections_of d file))
 obeys_accepted d name file o =
     named_whole d name file o.size o.named ∙ rw (obey_none d 1 0 [] (lines file) o.each_line, o.groups)
 
 pub offends_refused : (d : Dialect) (name file : List ℕ) {r : Refusal} {l : ℕ} → Offends d name file r l →
-    reading d name file ≡ Refused r l
+    reading d name file ≡ refused_at r l
 offends_refused d name file (too_long h) = reading_large d name file h
 offends_refused d name file (misnamed h n) = misnamed_whole d name file h n
 offends_refused d name file (in_line_lem h n {f} w) =
@@ -157,25 +159,24 @@ obeys_or_offends d name file = size (leb (length file) 16384) refl
     size false e = offends Size 0 (too_long (leb-false (length file) 16384 e))
 
 -- accepted exactly when it obeys
-pub accepted_obeys : (d : Dialect) (name file : List ℕ) {n m : ℕ} → reading d name file ≡ Accepted n m →
+pub accepted_obeys : (d : Dialect) (name file : List ℕ) {n m : ℕ} → reading d name file ≡ accepted_with n m →
     Obeys d name file
 accepted_obeys d name file {n} {m} e = go (obeys_or_offends d name file)
   where
     go : Judgement d name file → Obeys d name file
     go (obeys o) = o
     go (offends r l w) =
-        let q : Refused r l ≡ Accepted n m = sym (offends_refused d name file w) ∙ e in
+        let q : refused_at r l ≡ accepted_with n m = sym (offends_refused d name file w) ∙ e in
         let z : ◌≡◌ {A = ℕ} 0 1 = cc in absurd (omega arith)
 
 -- refused with the number and line of the first fault
-pub refused_offends : (d : Dialect) (name file : List ℕ) {r : Refusal} {l : ℕ} → reading d name file ≡ Refused r l →
+pub refused_offends : (d : Dialect) (name file : List ℕ) {r : Refusal} {l : ℕ} → reading d name file ≡ refused_at r l →
     Offends d name file r l
 refused_offends d name file {r} {l} e = go (obeys_or_offends d name file)
   where
     go : Judgement d name file → Offends d name file r l
     go (obeys o) =
-        let q : Accepted _ _ ≡ Refused r l = sym (obeys_accepted d name file o) ∙ e in
+        let q : accepted_with _ _ ≡ refused_at r l = sym (obeys_accepted d name file o) ∙ e in
         let z : ◌≡◌ {A = ℕ} 0 1 = cc in absurd (omega arith)
     go (offends t k w) =
-        let q : Refused t k ≡ Refused r l = sym (offends_refused d name file w) ∙ e in
-        let a : t ≡ r = cc in let b : k ≡ l = cc in rw (a, b) at w
+        let s = same_refusal {A = Counts} (sym (offends_refused d name file w) ∙ e) in rw (s.0, s.1) at w

@@ -32,10 +32,10 @@ use Rattle.rules.proofs.GoodEntries.{iwd_plain}
 use Rattle.rules.proofs.EntryPlaces.{is_line, SectionStands, sections_stand}
 use Rattle.rules.specs.AnswerRows.{AnswerRow, bare, lined, placed, is_row, has_row, own_rows}
 use Rattle.rules.specs.declared.Group.{Group}
-use Rattle.rules.specs.declared.Reading.TheVariants as R
 use Rattle.rules.specs.declared.Refusal.{Refusal}
 use Rattle.rules.specs.declared.Refusal.TheVariants as N
 use Rattle.rules.specs.declared.Refusal.TheVariants.{RepeatedGroup, ManyServices, RepeatedKey}
+use Rattle.rules.specs.Answering.{refused_at}
 
 -- ---- rows
 
@@ -223,6 +223,6 @@ offends_has_row d name file (in_line_lem h n {f} w) =
     if_some (λ r. has_row (length (lines file)) (own_rows d) (number_of r) f.line ≡ true) (fault_has_row (length (lines file)) f.line (faulty_line d file w) d (grown d 1 0 [] w.before) w.line (line_of d w.line) refl) w.faulty
 offends_has_row d name file (in_group h n o e) = if_some (OwnFault file d) (groups_has_row file d name n) e
 
-pub reading_has_row : (d : Dialect) (name file : List ℕ) {r : Refusal} {l : ℕ} → reading d name file ≡ R.Refused r l →
+pub reading_has_row : (d : Dialect) (name file : List ℕ) {r : Refusal} {l : ℕ} → reading d name file ≡ refused_at r l →
     has_row (length (lines file)) (own_rows d) (number_of r) l ≡ true
 reading_has_row d name file e = offends_has_row d name file (refused_offends d name file e)

@@ -11,8 +11,7 @@ use Rattle.rules.specs.Numbers.{number_of}
 use Rattle.rules.specs.FileRules.{AcceptedFile, RefusedAtLine, RefusedAtGroup, RefusedFile, at_line, at_group, Answers}
 use Rattle.rules.proofs.ReadingVerdicts.{reading_answers, answers_reading, at_its_line, at_its_group}
 use Rattle.rules.specs.declared.Refusal.{Refusal}
-use Rattle.rules.specs.declared.Reading.{Reading}
-use Rattle.rules.specs.declared.Reading.TheVariants.{Accepted, Refused}
+use Rattle.rules.specs.Answering.{Reading, accepted_with, refused_at}
 
 module _ (d : Dialect) (name file : List ℕ) where
   -- every input has an answer
@@ -27,15 +26,15 @@ module _ (d : Dialect) (name file : List ℕ) where
   pub answers_exactly : (r : Reading) → Answers d name file r ↔ (reading d name file ≡ r)
   answers_exactly r = (answers_reading d name file r, λ e. subst (Answers d name file) e (reading_answers d name file))
 
-  pub accepted_exactly : (n m : ℕ) → (reading d name file ≡ Accepted n m) ↔ AcceptedFile d name file n m
-  accepted_exactly n m = ((answers_exactly (Accepted n m)).1, (answers_exactly (Accepted n m)).0)
+  pub accepted_exactly : (n m : ℕ) → (reading d name file ≡ accepted_with n m) ↔ AcceptedFile d name file n m
+  accepted_exactly n m = ((answers_exactly (accepted_with n m)).1, (answers_exactly (accepted_with n m)).0)
 
-  pub refused_exactly : (r : Refusal) (n : ℕ) → (reading d name file ≡ Refused r n) ↔ RefusedFile d name file r n
-  refused_exactly r n = ((answers_exactly (Refused r n)).1, (answers_exactly (Refused r n)).0)
+  pub refused_exactly : (r : Refusal) (n : ℕ) → (reading d name file ≡ refused_at r n) ↔ RefusedFile d name file r n
+  refused_exactly r n = ((answers_exactly (refused_at r n)).1, (answers_exactly (refused_at r n)).0)
 
   -- the numbers 3 to 13, each exactly when its row is the first that applies, at the first faulty line
   pub line_exactly : (r : Refusal) (n : ℕ) → 3 ≤ number_of r → number_of r ≤ 13 →
-      (reading d name file ≡ Refused r n) ↔ RefusedAtLine d name file r n
+      (reading d name file ≡ refused_at r n) ↔ RefusedAtLine d name file r n
   line_exactly r n low high = (
     (λ e. at_its_line d name file ((refused_exactly r n).0 e) low high),
     λ w. (refused_exactly r n).1 (at_line w),
@@ -43,7 +42,7 @@ module _ (d : Dialect) (name file : List ℕ) where
 
   -- 14 and 15, each exactly when it is the first that a group breaks, where no line is faulty
   pub group_exactly : (r : Refusal) (n : ℕ) → 14 ≤ number_of r →
-      (reading d name file ≡ Refused r n) ↔ RefusedAtGroup d name file r n
+      (reading d name file ≡ refused_at r n) ↔ RefusedAtGroup d name file r n
   group_exactly r n low = (
     (λ e. at_its_group d name file ((refused_exactly r n).0 e) low),
     λ w. (refused_exactly r n).1 (at_group w),

@@ -24,7 +24,7 @@ use Rattle.rules.proofs.GoodEntries.{Asked, group_asked, service_asked}
 use Rattle.rules.proofs.GoodValues.{GoodValue, group_value_lem, service_value}
 use Rattle.rules.specs.declared.Group.{Group}
 use Rattle.rules.specs.declared.Group.TheVariants.{Settings, Security, Ipv4, Ipv6, Global, Service}
-use Rattle.rules.specs.declared.Reading.TheVariants.{Accepted}
+use Rattle.rules.specs.Answering.{accepted_with}
 
 -- ---- the statement
 
@@ -145,7 +145,7 @@ abbrev pub service_entry : List Section → ℕ → List ℕ → Option Entry
 service_entry gs w k = entry_of k (service_at w gs)
 
 -- in the group with a name
-pub group_gives : (d : Dialect) (name file : List ℕ) {n m : ℕ} → reading d name file ≡ Accepted n m
+pub group_gives : (d : Dialect) (name file : List ℕ) {n m : ℕ} → reading d name file ≡ accepted_with n m
     → (group : List ℕ) {g : Group} → group_of d group ≡ Some g
     → (key : List ℕ)
     → Gives d (kind_of g key) (iwd_entry (sections_of d file) group key) (value_of g (iwd_entry (sections_of d file) group) key)
@@ -155,14 +155,14 @@ group_gives d name file a group {g} q key =
     (key_gives d g key s (λ e t. group_asked d name file a group key q t) (λ k l e t. group_value_lem d name file a group key q l t) (kind_of g key) refl)
 
 -- in service w
-pub service_gives : (name file : List ℕ) {n m : ℕ} → reading ConnMan name file ≡ Accepted n m → (w : ℕ) (key : List ℕ)
+pub service_gives : (name file : List ℕ) {n m : ℕ} → reading ConnMan name file ≡ accepted_with n m → (w : ℕ) (key : List ℕ)
     → Gives ConnMan (kind_of Service key) (service_entry (sections_of ConnMan file) w key) (value_of Service (service_entry (sections_of ConnMan file) w) key)
 service_gives name file a w key =
     key_gives ConnMan Service key (service_entry (sections_of ConnMan file) w key) (λ e t. service_asked ConnMan name file a w key t) (λ k l e t. service_value ConnMan name file a w key l t) (kind_of Service key) refl
 
 -- in the group that is no service, by its own name
 pub value_gives : (g : Group) → serves g ≡ false
-    → (name file : List ℕ) {n m : ℕ} → reading (group_dialect g) name file ≡ Accepted n m
+    → (name file : List ℕ) {n m : ℕ} → reading (group_dialect g) name file ≡ accepted_with n m
     → (key : List ℕ)
     → Gives (group_dialect g) (kind_of g key) (iwd_entry (sections_of (group_dialect g) file) (group_name g) key) (group_value g (iwd_entry (sections_of (group_dialect g) file)) key)
 value_gives g s name file a key = group_gives (group_dialect g) name file a (group_name g) (group_of_name g s) key
@@ -183,7 +183,7 @@ gives_some d None e x h = ap is_some h.1 ∙ sym (ap is_some h.0)
 gives_some d (Some k) e x absent = refl
 gives_some d (Some k) e x (present q) = refl
 
-pub group_given : (d : Dialect) (name file : List ℕ) {n m : ℕ} → reading d name file ≡ Accepted n m
+pub group_given : (d : Dialect) (name file : List ℕ) {n m : ℕ} → reading d name file ≡ accepted_with n m
     → (group : List ℕ) {g : Group} → group_of d group ≡ Some g
     → (key : List ℕ)
     → is_some (value_of g (iwd_entry (sections_of d file) group) key) ≡ has group key (sections_of d file)
@@ -191,7 +191,7 @@ group_given d name file a group {g} q key =
     gives_some d (kind_of g key) (iwd_entry (sections_of d file) group key) (value_of g (iwd_entry (sections_of d file) group) key) (group_gives d name file a group q key)
     ∙ entry_given key (entries_in group (sections_of d file))
 
-pub service_given : (name file : List ℕ) {n m : ℕ} → reading ConnMan name file ≡ Accepted n m → (w : ℕ) (key : List ℕ)
+pub service_given : (name file : List ℕ) {n m : ℕ} → reading ConnMan name file ≡ accepted_with n m → (w : ℕ) (key : List ℕ)
     → is_some (value_of Service (service_entry (sections_of ConnMan file) w) key) ≡ given key (service_at w (sections_of ConnMan file))
 service_given name file a w key =
     gives_some ConnMan (kind_of Service key) (service_entry (sections_of ConnMan file) w key) (value_of Service (service_entry (sections_of ConnMan file) w) key) (service_gives name file a w key)

@@ -20,7 +20,7 @@ use Rattle.rules.proofs.Acceptance.{LinesObey, accepted_obeys}
 use Rattle.rules.specs.declared.Group.{Group}
 use Rattle.rules.specs.declared.Group.TheVariants.{Settings, Security, Ipv4, Ipv6, Global, Service}
 use Rattle.rules.specs.declared.Refusal.TheVariants.{UnknownKey, RepeatedKey}
-use Rattle.rules.specs.declared.Reading.TheVariants.{Accepted}
+use Rattle.rules.specs.Answering.{accepted_with}
 
 -- a setting in group g
 pub record GoodEntry (d : Dialect) (g : Group) (e : Entry) : Type 0 where
@@ -94,7 +94,7 @@ good_reverse : (d : Dialect) (gs : List Section) → AllGood d gs → AllGood d 
 good_reverse d [] h = tt
 good_reverse d (g ∷ gs) h = rw (reverse-cons g gs) (good_last d (reverse gs) g (good_reverse d gs h.1) h.0)
 
-pub accepted_good : (d : Dialect) (name file : List ℕ) {n m : ℕ} → reading d name file ≡ Accepted n m →
+pub accepted_good : (d : Dialect) (name file : List ℕ) {n m : ℕ} → reading d name file ≡ accepted_with n m →
     AllGood d (sections_of d file)
 unfolding sections_of
 accepted_good d name file e =
@@ -120,7 +120,7 @@ good_plain : (gs : List Section) → AllGood Iwd gs → services gs ≡ 0
 good_plain [] h = refl
 good_plain (g ∷ gs) h = rw (iwd_plain g.name g.group h.0.named) (good_plain gs h.1)
 
-pub iwd_services : (name file : List ℕ) {n m : ℕ} → reading Iwd name file ≡ Accepted n m →
+pub iwd_services : (name file : List ℕ) {n m : ℕ} → reading Iwd name file ≡ accepted_with n m →
     services (sections_of Iwd file) ≡ 0
 iwd_services name file e = good_plain (sections_of Iwd file) (accepted_good Iwd name file e)
 
@@ -176,13 +176,13 @@ service_entries_lem d (suc n) (s ∷ gs) h =
     go false p n f k = k
 
 -- in the group with a name, and in service w
-pub group_asked : (d : Dialect) (name file : List ℕ) {n m : ℕ} → reading d name file ≡ Accepted n m →
+pub group_asked : (d : Dialect) (name file : List ℕ) {n m : ℕ} → reading d name file ≡ accepted_with n m →
     (group key : List ℕ) {g : Group} → group_of d group ≡ Some g → {e : Entry} →
     entry_of key (entries_in group (sections_of d file)) ≡ Some e → Asked d g key e
 group_asked d name file a group key {g} q t =
     entry_asked d g key (entries_in group (sections_of d file)) (group_entries d group q (sections_of d file) (accepted_good d name file a)) t
 
-pub service_asked : (d : Dialect) (name file : List ℕ) {n m : ℕ} → reading d name file ≡ Accepted n m →
+pub service_asked : (d : Dialect) (name file : List ℕ) {n m : ℕ} → reading d name file ≡ accepted_with n m →
     (w : ℕ) (key : List ℕ) {e : Entry} → entry_of key (service_at w (sections_of d file)) ≡ Some e →
     Asked d Service key e
 service_asked d name file a w key t =

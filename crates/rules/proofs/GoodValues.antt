@@ -15,7 +15,7 @@ use Rattle.rules.proofs.GoodEntries.{Asked, group_asked, service_asked}
 use Rattle.rules.specs.declared.Group.{Group}
 use Rattle.rules.specs.declared.Group.TheVariants.{Service}
 use Rattle.rules.specs.declared.Refusal.TheVariants.{ValueText, ValueKind}
-use Rattle.rules.specs.declared.Reading.TheVariants.{Accepted}
+use Rattle.rules.specs.Answering.{accepted_with}
 
 pub record GoodValue (d : Dialect) (k : Kind) (v : List ℕ) : Type 0 where
   pub text : value_text v ≡ true
@@ -46,12 +46,12 @@ asked_value d g key {e} {k} q a =
     subst (λ (x : Kind). GoodValue d x e.value) same (good_value d a.entry.kind e.value a.entry.good)
 
 -- of a key with kind k in the group with a name, and in service w
-pub group_value_lem : (d : Dialect) (name file : List ℕ) {n m : ℕ} → reading d name file ≡ Accepted n m →
+pub group_value_lem : (d : Dialect) (name file : List ℕ) {n m : ℕ} → reading d name file ≡ accepted_with n m →
     (group key : List ℕ) {g : Group} → group_of d group ≡ Some g → {k : Kind} → kind_of g key ≡ Some k → {e : Entry} →
     entry_of key (entries_in group (sections_of d file)) ≡ Some e → GoodValue d k e.value
 group_value_lem d name file a group key {g} q k t = asked_value d g key k (group_asked d name file a group key q t)
 
-pub service_value : (d : Dialect) (name file : List ℕ) {n m : ℕ} → reading d name file ≡ Accepted n m →
+pub service_value : (d : Dialect) (name file : List ℕ) {n m : ℕ} → reading d name file ≡ accepted_with n m →
     (w : ℕ) (key : List ℕ) {k : Kind} → kind_of Service key ≡ Some k → {e : Entry} →
     entry_of key (service_at w (sections_of d file)) ≡ Some e → GoodValue d k e.value
 service_value d name file a w key k t = asked_value d Service key k (service_asked d name file a w key t)

@@ -1,5 +1,5 @@
 -- The steps of `Exactly`: the reading's answer is one by the rules, and an answer by the rules is the reading's.
-use Rattle.std.specs.Prelude.{ℕ, ◌≤◌, ◌≡◌, Bool, true, false, cond, leb, Option, None, Some}
+use Rattle.std.specs.Prelude.{ℕ, ◌≤◌, ◌≡◌, Bool, true, false, cond, leb, Option, None, Some, Ok, Err}
 use Rattle.std.proofs.Common.{arith, ap₂, ◌∙◌, subst, le-leb, leb-true, leb-false}
 use Rattle.std.proofs.Math.Path.{refl}
 use mathlib.Core.List.{List, [], map, reverse}
@@ -25,8 +25,7 @@ use Rattle.rules.proofs.GroupVerdicts.{GroupsVerdict, groups_verdict}
 use Rattle.rules.proofs.FileVerdicts.{LinesVerdict, lines_verdict, lines_stand, lines_unique, groups_unique, settings_counted, services_counted}
 use Rattle.rules.specs.declared.Refusal.{Refusal}
 use Rattle.rules.specs.declared.Refusal.TheVariants as R
-use Rattle.rules.specs.declared.Reading.{Reading}
-use Rattle.rules.specs.declared.Reading.TheVariants.{Accepted, Refused}
+use Rattle.rules.specs.Answering.{Reading, accepted_with, refused_at}
 
 -- ---- the reading's answer is one by the rules
 
@@ -76,7 +75,7 @@ module _ (d : Dialect) (name file : List ℕ) where
           (first_fault d file) refl (lines_verdict d (lines file))
 
       go : (b : Bool) → leb (length file) 16384 ≡ b →
-          Answers d name file (cond b (reading_of d (name_in d name) file) (Refused R.Size 0))
+          Answers d name file (cond b (reading_of d (name_in d name) file) (refused_at R.Size 0))
       go true e = named (leb-true (length file) 16384 e) (name_in d name) refl
       go false e = too_long (leb-false (length file) 16384 e)
 
@@ -100,7 +99,7 @@ module _ (d : Dialect) (name file : List ℕ) where
     unfolding reading
     admitted_reading = rw (le-leb (length file) 16384 a.size, named_is d name k a.named)
 
-  accepted_reading : (n m : ℕ) → AcceptedFile d name file n m → reading d name file ≡ Accepted n m
+  accepted_reading : (n m : ℕ) → AcceptedFile d name file n m → reading d name file ≡ accepted_with n m
   unfolding sections_of
   accepted_reading n m h =
       let e = line_decides h.admitted None h.allowed in
@@ -111,9 +110,9 @@ module _ (d : Dialect) (name file : List ℕ) where
       let j = services_counted d gs (text_lines d file) s in
       let c : settings (reverse gs) ≡ n = count_unique IsSetting (rw q at i) h.settings in
       let b : services (reverse gs) ≡ m = count_unique (ServiceHeader d) (rw q at j) h.services in
-      admitted_reading h.admitted ∙ rw (e, group_decides h.admitted h.allowed None h.sound) (ap₂ Accepted c b)
+      admitted_reading h.admitted ∙ rw (e, group_decides h.admitted h.allowed None h.sound) (ap₂ accepted_with c b)
 
-  refused_reading : {r : Refusal} {n : ℕ} → RefusedFile d name file r n → reading d name file ≡ Refused r n
+  refused_reading : {r : Refusal} {n : ℕ} → RefusedFile d name file r n → reading d name file ≡ refused_at r n
   unfolding reading
   refused_reading (too_long h) = rw (lt-leb (length file) 16384 h)
   refused_reading (misnamed h k) = rw (le-leb (length file) 16384 h, unnamed d name k)
@@ -127,8 +126,8 @@ module _ (d : Dialect) (name file : List ℕ) where
       )
 
   pub answers_reading : (r : Reading) → Answers d name file r → reading d name file ≡ r
-  answers_reading (Accepted n m) h = accepted_reading n m h
-  answers_reading (Refused r n) h = refused_reading h
+  answers_reading (Ok c) h = accepted_reading c.settings c.services h
+  answers_reading (Err f) h = refused_reading h
 
 -- ---- which numbers a line has, and which a group
 

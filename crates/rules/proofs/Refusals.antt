@@ -1,5 +1,5 @@
 -- "the file's own refusals": the reading of a file gives the numbers 1 to 15 and no other.
-use Rattle.std.specs.Prelude.{ℕ, suc, ◌+◌, ◌≤◌, ◌≡◌, Bool, true, false, cond, ◌&&◌, List, [], ◌∷◌, leb, length, Option, None, Some}
+use Rattle.std.specs.Prelude.{ℕ, suc, ◌+◌, ◌≤◌, ◌≡◌, Bool, true, false, cond, ◌&&◌, List, [], ◌∷◌, leb, length, Option, None, Some, Ok, Err}
 use Rattle.std.proofs.Common.{arith, subst}
 use Rattle.text.specs.Parts.{lines}
 use Rattle.text.specs.Options.{or_else}
@@ -17,10 +17,9 @@ use Rattle.rules.specs.Groups.{lack_or_clash, lacks, clashes, service_fault, sec
 use Rattle.rules.specs.Reading.{Name, iwd_name, connman_file, name_in, after_line, line_fault, sections_of, groups_fault, verdict, reading_of, reading}
 use Rattle.rules.specs.Numbers.{number_of}
 use Rattle.rules.specs.declared.Group.{Group}
-use Rattle.rules.specs.declared.Reading.{Reading}
-use Rattle.rules.specs.declared.Reading.TheVariants as R
 use Rattle.rules.specs.declared.Refusal.{Refusal}
 use Rattle.rules.specs.declared.Refusal.TheVariants.{Size, RepeatedGroup, ManyServices, RepeatedKey}
+use Rattle.rules.specs.Answering.{Reading, refused_at}
 
 abbrev Own : Option Refusal → Type 0
 Own o = IfSome (λ r. number_of r ≤ 15) o
@@ -101,8 +100,8 @@ groups_own (iwd_name s) gs = at_own 0 (lack_or_clash (file_lacks s gs) (file_cla
 groups_own connman_file gs = services_own gs
 
 abbrev OwnReading : Reading → Type 0
-OwnReading (R.Accepted n m) = Unit
-OwnReading (R.Refused r l) = number_of r ≤ 15
+OwnReading (Ok c) = Unit
+OwnReading (Err f) = number_of f.refusal ≤ 15
 
 verdict_own : (o : Option Fault) (gs : List Section) → OwnFault o → OwnReading (verdict o gs)
 verdict_own None gs h = tt
@@ -116,10 +115,10 @@ reading_own : (d : Dialect) (name file : List ℕ) → OwnReading (reading d nam
 unfolding reading
 reading_own d name file = go (leb (length file) 16384)
   where
-    go : (b : Bool) → OwnReading (cond b (reading_of d (name_in d name) file) (R.Refused Size 0))
+    go : (b : Bool) → OwnReading (cond b (reading_of d (name_in d name) file) (refused_at Size 0))
     go true = named_own d (name_in d name) file
     go false = omega arith
 
-pub reading_number : (d : Dialect) (name file : List ℕ) {r : Refusal} {l : ℕ} → reading d name file ≡ R.Refused r l →
+pub reading_number : (d : Dialect) (name file : List ℕ) {r : Refusal} {l : ℕ} → reading d name file ≡ refused_at r l →
     number_of r ≤ 15
 reading_number d name file e = subst OwnReading e (reading_own d name file)

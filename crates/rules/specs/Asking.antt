@@ -1,12 +1,9 @@
 -- What is asked of an accepted file: a setting, by its group or by its service's number, and its key.
-use Rattle.std.specs.Prelude.{ℕ, zero, suc, cond, List, [], ◌∷◌, Option, None, Some}
+use Rattle.std.specs.Prelude.{ℕ, zero, suc, cond, List, [], ◌∷◌, Option, None, Some, Ok, Err}
 use Rattle.text.specs.Bytes.{between}
 use Rattle.rules.specs.Sections.{Entry, Section, serves, entry_of, entries_in}
 use Rattle.rules.specs.declared.Refusal.TheVariants.{NoService}
-use Rattle.rules.specs.declared.Reading.{Reading}
-use Rattle.rules.specs.declared.Reading.TheVariants as R
-use Rattle.rules.specs.declared.Answer.{Answer}
-use Rattle.rules.specs.declared.Answer.TheVariants.{Good, Refused}
+use Rattle.rules.specs.Answering.{Answer, Reading, refused_at}
 
 -- of an iwd file the setting with a key in the group with a name
 abbrev pub iwd_entry : List Section → List ℕ → List ℕ → Option Entry
@@ -37,9 +34,9 @@ entry_start (Some x) = x.start
 
 -- the answer to what is asked of a file, and of service w of it: "18: service number is 0 or above the count", after "the file's own refusals"
 abbrev pub asked : Reading → Answer
-asked (R.Accepted n m) = Good
-asked (R.Refused r l) = Refused r l
+asked (Ok c) = Ok tt
+asked (Err f) = Err f
 
 abbrev pub asked_of : ℕ → Reading → Answer
-asked_of w (R.Accepted n m) = cond (between 1 m w) Good (Refused NoService 0)
-asked_of w (R.Refused r l) = Refused r l
+asked_of w (Ok c) = cond (between 1 c.services w) (Ok tt) (refused_at NoService 0)
+asked_of w (Err f) = Err f

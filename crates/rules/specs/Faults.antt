@@ -3,6 +3,8 @@ use Rattle.std.specs.Prelude.{ℕ, cond, ◌&&◌, List, [], ◌∷◌, leb, len
 use Rattle.text.specs.declared.Dialect.{Dialect}
 use Rattle.kinds.specs.Typed.{Judged, good, broken_text, broken_kind, judged}
 use Rattle.kinds.specs.declared.Kind.{Kind}
+use Rattle.kinds.specs.declared.Broken.{Broken}
+use Rattle.kinds.specs.declared.Broken.TheVariants as V
 use Rattle.lines.specs.Lines.{Line, blank, comment, header, setting, broken}
 use Rattle.lines.specs.declared.Break.{Break}
 use Rattle.lines.specs.declared.Break.TheVariants as B
@@ -36,6 +38,11 @@ abbrev pub value_fault : Judged → Option Refusal
 value_fault (good t) = None
 value_fault broken_text = Some ValueText
 value_fault broken_kind = Some ValueKind
+
+-- the same, by the code's reason
+abbrev pub broken_of : Broken → Refusal
+broken_of V.Text = ValueText
+broken_of V.Kind = ValueKind
 
 -- "key not listed for its group" (9), "key a second time in its group" (10)
 abbrev pub key_fault : Dialect → List ℕ → List ℕ → Option Kind → List Entry → Option Refusal

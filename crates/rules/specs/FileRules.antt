@@ -1,5 +1,5 @@
 -- The rules for a file, and the one answer that each input has by them: `Exactly` proves that the reading gives it.
-use Rattle.std.specs.Prelude.{ℕ, ◌≤◌, ◌<◌, ◌≡◌, true, List, [], ◌++◌, length}
+use Rattle.std.specs.Prelude.{ℕ, ◌≤◌, ◌<◌, ◌≡◌, true, List, [], ◌++◌, length, Ok, Err}
 use Rattle.text.specs.Bytes.{is_alphanumeric}
 use Rattle.text.specs.Parts.{all}
 use Rattle.text.specs.Words.{word}
@@ -14,8 +14,7 @@ use Rattle.rules.specs.LineOrder.{IsSetting, ServiceHeader, LinesAllowed, Faulty
 use Rattle.rules.specs.GroupRules.{GroupsSound, FaultyGroup}
 use Rattle.rules.specs.declared.Refusal.{Refusal}
 use Rattle.rules.specs.declared.Refusal.TheVariants as R
-use Rattle.rules.specs.declared.Reading.{Reading}
-use Rattle.rules.specs.declared.Reading.TheVariants.{Accepted, Refused}
+use Rattle.rules.specs.Answering.{Reading}
 
 -- "ConnMan: one or more letters or digits, then `.config`."
 pub record ConnmanName (name : List ℕ) : Type 0 where
@@ -73,5 +72,5 @@ pub data RefusedFile (d : Dialect) (name file : List ℕ) : Refusal → ℕ → 
 
 -- the answer of an input
 abbrev pub Answers : Dialect → List ℕ → List ℕ → Reading → Type 0
-Answers d name file (Accepted n m) = AcceptedFile d name file n m
-Answers d name file (Refused r n) = RefusedFile d name file r n
+Answers d name file (Ok c) = AcceptedFile d name file c.settings c.services
+Answers d name file (Err f) = RefusedFile d name file f.refusal f.line

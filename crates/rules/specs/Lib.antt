@@ -6,6 +6,7 @@ pub mod Sections
 pub mod Faults
 pub mod WordNumbers
 pub mod Groups
+pub mod Answering
 pub mod Reading
 pub mod Asking
 pub mod ListedValues
@@ -20,4 +21,5 @@ pub mod Cases
 -- For the proofs only: names, and what is asked of an accepted file. The theorems are in proofs/, where must-fail edits of the
 -- definitions are refused by them
 pub mod NameLaws
+pub mod AnsweringLaws
 pub mod GoodAnswers

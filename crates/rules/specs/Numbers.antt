@@ -1,11 +1,8 @@
 -- "The numbers a caller sees": the number, the line and the values of every answer.
-use Rattle.std.specs.Prelude.{ℕ}
+use Rattle.std.specs.Prelude.{ℕ, Ok, Err}
 use Rattle.rules.specs.declared.Refusal.{Refusal}
 use Rattle.rules.specs.declared.Refusal.TheVariants.{Size, FileName, Unrecognized, Extension, BadHeader, UnknownGroup, RepeatedGroup, NoGroup, UnknownKey, RepeatedKey, ValueText, ValueKind, ManyServices, Missing, Contradiction, NoPlace, ShortBuffer, NoService, Malformed}
-use Rattle.rules.specs.declared.Reading.{Reading}
-use Rattle.rules.specs.declared.Reading.TheVariants.{Accepted, Refused}
-use Rattle.rules.specs.declared.Answer.{Answer}
-use Rattle.rules.specs.declared.Answer.TheVariants as A
+use Rattle.rules.specs.Answering.{Answer, Reading}
 
 -- 01's table, without 0, "accepted"
 abbrev pub number_of : Refusal → ℕ
@@ -37,14 +34,14 @@ pub record Seen : Type 0 where
   pub services : ℕ
 
 abbrev pub seen_of : Reading → Seen
-seen_of (Accepted n m) = record { number = 0; line = 0; settings = n; services = m }
-seen_of (Refused r l) = record { number = number_of r; line = l; settings = 0; services = 0 }
+seen_of (Ok c) = record { number = 0; line = 0; settings = c.settings; services = c.services }
+seen_of (Err f) = record { number = number_of f.refusal; line = f.line; settings = 0; services = 0 }
 
 -- the number and the line of any other answer; what else it gives stands beside it
 abbrev pub answer_number : Answer → ℕ
-answer_number A.Good = 0
-answer_number (A.Refused r l) = number_of r
+answer_number (Ok u) = 0
+answer_number (Err f) = number_of f.refusal
 
 abbrev pub answer_line : Answer → ℕ
-answer_line A.Good = 0
-answer_line (A.Refused r l) = l
+answer_line (Ok u) = 0
+answer_line (Err f) = f.line

@@ -1,5 +1,5 @@
 -- The reading of a file: "Order: 1, 2; then the first faulty line ..; then each service in file order (iwd: the file), 14 before 15 within it."
-use Rattle.std.specs.Prelude.{ℕ, suc, ◌+◌, cond, List, [], ◌∷◌, reverse, leb, length, Option, None, Some}
+use Rattle.std.specs.Prelude.{ℕ, suc, ◌+◌, cond, List, [], ◌∷◌, reverse, leb, length, Option, None, Some, Err}
 use Rattle.text.specs.Parts.{lines}
 use Rattle.text.specs.Options.{mapped, only, or_else}
 use Rattle.text.specs.declared.Dialect.{Dialect}
@@ -12,8 +12,7 @@ use Rattle.rules.specs.Faults.{fault_at, fault}
 use Rattle.rules.specs.declared.Fault.{Fault}
 use Rattle.rules.specs.Groups.{services_fault, file_fault}
 use Rattle.rules.specs.declared.Refusal.TheVariants.{Size, FileName}
-use Rattle.rules.specs.declared.Reading.{Reading}
-use Rattle.rules.specs.declared.Reading.TheVariants.{Accepted, Refused}
+use Rattle.rules.specs.Answering.{Reading, accepted_with, refused_at}
 
 -- the groups after a line, whose number is n and which starts at s
 abbrev pub after_line : Dialect → ℕ → ℕ → List ℕ → List Section → List Section
@@ -48,13 +47,13 @@ groups_fault (iwd_name s) gs = file_fault s gs
 groups_fault connman_file gs = services_fault gs
 
 abbrev pub verdict : Option Fault → List Section → Reading
-verdict (Some f) gs = Refused f.refusal f.line
-verdict None gs = Accepted (settings gs) (services gs)
+verdict (Some f) gs = Err f
+verdict None gs = accepted_with (settings gs) (services gs)
 
 abbrev pub reading_of : Dialect → Option Name → List ℕ → Reading
-reading_of d None file = Refused FileName 0
+reading_of d None file = refused_at FileName 0
 reading_of d (Some n) file = verdict (or_else (line_fault d 1 0 [] (lines file)) (groups_fault n (sections_of d file))) (sections_of d file)
 
 -- "file over 16,384 bytes" (1), "file name breaks its rule" (2)
 unfoldable pub reading : Dialect → List ℕ → List ℕ → Reading
-reading d name file = cond (leb (length file) 16384) (reading_of d (name_in d name) file) (Refused Size 0)
+reading d name file = cond (leb (length file) 16384) (reading_of d (name_in d name) file) (refused_at Size 0)

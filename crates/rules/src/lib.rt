@@ -1,8 +1,10 @@
-// The rules over a file, in definitions alone: its groups, keys and kinds as tables, the refusals by name, and what a reading
-// answers. Crate `tables` has the tables in code.
+// The rules over a file, in definitions: its groups, keys and kinds as tables, the refusals by name, and what a reading
+// answers. In code only the refusals that a `?` makes (`reasons`); crate `tables` has the tables in code.
 //
 // This is document 01's "The numbers a caller sees", its lists of groups and keys, and "Rules over a group".
 #![tactic(auto)]
+
+pub mod reasons;
 
 // The refusals, in the order of document 01's numbers 1 to 19.
 #[derive(Clone, Copy, PartialEq, Eq)]
@@ -35,19 +37,18 @@ pub struct Fault {
     pub line: usize,
 }
 
-// What a reading answers: the numbers of settings and services, or the refusal and its line.
+// How many settings and services an accepted file has.
 #[derive(Clone, Copy)]
-pub enum Reading {
-    Accepted(usize, usize),
-    Refused(Refusal, usize),
+pub struct Counts {
+    pub settings: usize,
+    pub services: usize,
 }
 
-// What else is asked of a file: it is answered, or the refusal and its line.
-#[derive(Clone, Copy)]
-pub enum Answer {
-    Good,
-    Refused(Refusal, usize),
-}
+// What a reading answers: accepted, with its counts, or refused.
+pub type Reading = Result<Counts, Fault>;
+
+// What is answered to a question about a file: good, or refused.
+pub type Answer = Result<(), Fault>;
 
 // The groups: iwd's four, and ConnMan's two.
 #[derive(Clone, Copy, PartialEq, Eq)]

@@ -1,5 +1,5 @@
 -- What `Given` says holds: one law for each shape of value, and rules `GivenValues` for every key.
-use Rattle.std.specs.Prelude.{ℕ, zero, suc, ◌≤◌, ◌≡◌, true, List, length, Option, None, Some, unwrap_or}
+use Rattle.std.specs.Prelude.{ℕ, zero, suc, ◌≤◌, ◌≡◌, true, List, length, Option, None, Some, unwrap_or, Ok}
 use Rattle.std.proofs.Common.{arith, ap, ◌∙◌}
 use Rattle.std.proofs.Math.Path.{refl}
 use Rattle.text.specs.Laws.{between_low}
@@ -27,7 +27,6 @@ use Rattle.rules.specs.ListedValues.{group_name, value_of, group_value}
 use Rattle.rules.proofs.GivenValues.{read_holds, entry_given, group_given, service_given}
 use Rattle.rules.proofs.EntryLines.{group_line, service_line}
 use Rattle.rules.specs.GoodAnswers.{asked_reading, asked_service}
-use Rattle.rules.specs.declared.Answer.TheVariants.{Good}
 use Rattle.rules.specs.declared.Group.{Group}
 use Rattle.rules.specs.declared.Group.TheVariants.{Settings, Security, Ipv4, Ipv6, Service}
 use Rattle.settings.specs.Asked.{iwd_answered, service_answered}
@@ -82,7 +81,7 @@ entries_given b o =
 
 -- ---- an iwd file
 
-module _ (name file : List ℕ) (a : asked (reading Iwd name file) ≡ Good) where
+module _ (name file : List ℕ) (a : asked (reading Iwd name file) ≡ Ok tt) where
   at : List ℕ → List ℕ → Option Entry
   at = iwd_entry (sections_of Iwd file)
 
@@ -122,7 +121,7 @@ module _ (name file : List ℕ) (a : asked (reading Iwd name file) ≡ Good) whe
 
 -- ---- a service
 
-module _ (name file : List ℕ) (w : ℕ) (a : asked_of w (reading ConnMan name file) ≡ Good) where
+module _ (name file : List ℕ) (w : ℕ) (a : asked_of w (reading ConnMan name file) ≡ Ok tt) where
   of : List ℕ → Option Entry
   of k = entry_of k (service_at w (sections_of ConnMan file))
 

@@ -7,7 +7,6 @@ ghost use Rattle.values.specs.Rows.{IwdRows};
 use crate::{IwdAnswer, IwdSettings, rows};
 use addresses::Separator;
 use places::{IPV4_ROW, KeyName, PLACES, Places};
-use rules::{Answer, Reading};
 use text::Dialect;
 
 // The settings of an iwd file, by the rows of its four groups.
@@ -32,15 +31,15 @@ pub fn iwd_settings(name: &[u8], file: &[u8], servers: &mut [[u8; 4]; 4]) -> Iwd
     let mut x = [0; PLACES];
     let reading = pass::read(Dialect::Iwd, name, file, &mut x);
     match reading {
-        Reading::Accepted(_, _) => {
+        Ok(_) => {
             *servers = values::servers_at(Separator::Spaces, file, &x, IPV4_ROW, KeyName::Dns);
             IwdAnswer {
-                answer: Answer::Good,
+                answer: Ok(()),
                 settings: iwd_rows(file, &x),
             }
         }
-        Reading::Refused(refusal, line) => IwdAnswer {
-            answer: Answer::Refused(refusal, line),
+        Err(fault) => IwdAnswer {
+            answer: Err(fault),
             settings: IwdSettings::default(),
         },
     }

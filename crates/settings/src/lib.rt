@@ -53,7 +53,8 @@ pub struct Ipv6Settings {
 }
 
 // The settings of an iwd file, by its groups. An absent setting is None; the line of a string and the count of the name
-// servers are 0 where these are absent, as 01 says ("zeros for all else").
+// servers are 0 where these are absent, as 01 says ("zeros for all else"). The servers themselves are in the array that the caller lends,
+// which a refusal leaves as it was (demands `Demand1Refusal`), so that their count alone is here.
 #[derive(Clone, Copy, Default)]
 pub struct IwdSettings {
     pub general: GeneralSettings,
@@ -93,14 +94,15 @@ pub struct ServiceSettings {
     pub addresses: AddressSettings,
 }
 
-// The answer and the settings of an iwd file; where it is refused, all are absent.
+// The answer and the settings of an iwd file; where it is refused, all are absent. No Result: document 01 wants "all other result fields zero"
+// of a refusal, and demands `Demand1Refusal` says it of these settings.
 #[derive(Clone, Copy)]
 pub struct IwdAnswer {
     pub answer: Answer,
     pub settings: IwdSettings,
 }
 
-// The answer and the settings of a service; where it is refused, all are absent.
+// The answer and the settings of a service; where it is refused, all are absent. No Result, as of an iwd file (`Demand1Refusal`).
 #[derive(Clone, Copy)]
 pub struct ServiceAnswer {
     pub answer: Answer,

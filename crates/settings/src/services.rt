@@ -8,7 +8,7 @@ use crate::{ServiceAnswer, ServiceSettings, rows};
 use addresses::Separator;
 use places::rows::base_of;
 use places::{KeyName, PLACES, Places};
-use rules::{Answer, Group};
+use rules::Group;
 use tables::asking;
 use text::Dialect;
 
@@ -38,16 +38,16 @@ pub fn service_settings(
     let reading = pass::read(Dialect::ConnMan, name, file, &mut x);
     let answer = asking::asked_of(service, reading);
     match answer {
-        Answer::Good => {
+        Ok(()) => {
             let row = base_of(Group::Service, service);
             *servers = values::servers_at(Separator::Comma, file, &x, row, KeyName::Nameservers);
             ServiceAnswer {
-                answer: Answer::Good,
+                answer: Ok(()),
                 settings: service_row(file, &x, row),
             }
         }
-        Answer::Refused(refusal, line) => ServiceAnswer {
-            answer: Answer::Refused(refusal, line),
+        Err(fault) => ServiceAnswer {
+            answer: Err(fault),
             settings: ServiceSettings::default(),
         },
     }

@@ -1,4 +1,4 @@
-// The groups, looked up by a header's name.
+// The groups, looked up by a header's name, which is asked one by one, as keys are (`keys`). Each dialect has its own groups: a `match`.
 #![tactic(auto, unfolding(rules::specs::Tables::group_of))]
 
 ghost use Rattle.std.specs.Prelude.{◌≡◌};

@@ -1,4 +1,5 @@
-// The kind of each key, by its group and its place in it.
+// The kind of each key, by its group and its place in it. By `match`: the place of a key that is not listed has its arm, where an array
+// of kinds would be counted from 0 and asked for its length, and one of functions would need the groups' order.
 #![tactic(auto, unfolding(rules::specs::Tables::keys_of), using(crate::proofs::KindPlaces::at_place_none))]
 
 ghost use Rattle.std.specs.Prelude.{◌≡◌};

@@ -19,7 +19,9 @@ fn place_or(key: &[u8], word: &[u8], n: usize, behind: usize) -> usize
 }
 
 // The place of a key among the keys of its group, from 1, or 0: a function for each group, and in it a line for each key, from the
-// last to the first. The words stand in the code, so that a key is compared with constants.
+// last to the first. The words stand in the code and are asked one by one, so that a key is compared with constants, and not looked
+// for in a table of words as before 2026-04 (docs/PERFORMANCE.md). `listed_place` is a `match`: a table of functions would need the groups'
+// order, which their type does not promise.
 
 fn settings_place(key: &[u8]) -> usize
     ensures { result ≡ place key.now (key_names Group.Settings) }

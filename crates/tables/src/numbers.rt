@@ -1,4 +1,5 @@
-// The number of each refusal, as document 01's table gives it.
+// The number of each refusal, as document 01's table gives it, and its words ask for: "For each answer that is an enum, a definition gives
+// this paper's number". It is the one place where a refusal becomes a number.
 ghost use Rattle.std.specs.Prelude.{◌≡◌};
 ghost use Rattle.rules.specs.Numbers.{number_of};
 

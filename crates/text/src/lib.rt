@@ -9,7 +9,7 @@ pub mod scan;
 mod table;
 pub mod words;
 
-// The two kinds of file.
+// The two kinds of file. Where they differ a `match` has both arms beside each other: a trait would need a type for each, and two functions.
 #[derive(Clone, Copy)]
 pub enum Dialect {
     Iwd,

@@ -2,6 +2,9 @@
 //
 // The ends of lines, of printable text and of entries are looked for sixteen bytes at a time: the block test has no early exit, and
 // where it can no bounds but constants, so that it compiles to vector instructions. What stands near is looked for byte by byte.
+//
+// What is searched for and is not there is at the end of s, and no Option: the run of other bytes ends there, as every run that nothing stops
+// (`Stop`), and a line does ("or at the end of the file"), so that those that cut s there would turn None back into it.
 ghost use Rattle.std.specs.Prelude.{◌≡◌, Bool, true, ℕ, ◌+◌, ◌≤◌, ◌<◌, length};
 ghost use Rattle.text.specs.Bytes.{in_line, is_blank, is_key_byte, is_entry_byte, between, other, member_of};
 ghost use Rattle.text.specs.ByteTable.{columns_of};
@@ -100,6 +103,7 @@ fn holds<const N: usize, F: Fn(u8) -> bool>(s: &[u8], i: usize, is: &F) -> bool
 }
 
 // The first block from from on, of those that follow each other there, in which the test fails of a byte, or what is left behind them.
+// By a counted loop: it goes by whole blocks, and its answer is where it stopped.
 fn blocks_end<F: Fn(u8) -> bool>(s: &[u8], from: usize, is: &F) -> usize
     requires within { from ≤ length s.now }
     requires callable { F.IsAlwaysCallable is.now }

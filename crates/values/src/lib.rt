@@ -1,7 +1,8 @@
 // The typed value of one key, by its row and its name in the table of places: one reader for each kind of document 01's
 // section "Settings and their kinds". It is absent where the row keeps no setting with this key.
 //
-// A slot that keeps nothing has no bytes, and no kind reads a value from none.
+// A slot that keeps nothing has no bytes, and no kind reads a value from none. A function of one line for each kind, whose contract names
+// the kind's definition: of a reader that is handed in, the contract could speak only through what the reader promises (text `Computes`).
 #![tactic(auto)]
 
 ghost use Rattle.std.specs.Prelude.{◌≡◌, length};
@@ -29,7 +30,8 @@ use places::rows::{code_of, start_of, value_of};
 use places::{KeyName, Places};
 use put::Bounded;
 
-// A yes/no by its code.
+// A yes/no by its code. It is no `From` of a number, here and below: the codes are those of the table of places, whose fixed memory is numbers,
+// and the crates of the types know nothing of them.
 pub fn choice_at(x: &Places, row: usize, k: KeyName) -> Option<bool>
     requires { RowInTable x.now row }
     ensures { result ≡ choice_by (key_slot x.now row k).code }
@@ -144,7 +146,7 @@ pub fn servers_at(sep: Separator, file: &[u8], x: &Places, row: usize, k: KeyNam
     addresses::lists::read_addresses(value_of(file, x, row, k), sep)
 }
 
-// Stores the addresses of a list, with zeros behind them, and returns how many it has.
+// Stores the addresses of a list, with zeros behind them, and returns how many it has; 0 where it is absent, as the settings' field is.
 pub fn list_at(
     out: &mut [[u8; 4]; 4],
     sep: Separator,

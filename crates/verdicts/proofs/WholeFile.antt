@@ -7,8 +7,6 @@ use Rattle.std.specs.Prelude.{Option, None, Some}
 use Rattle.rules.specs.Reading.{Name, iwd_name, connman_file, groups_fault, verdict}
 use Rattle.rules.specs.Sections.{Section, services, settings}
 use Rattle.rules.specs.declared.Fault.{Fault}
-use Rattle.rules.specs.declared.Reading.{Reading}
-use Rattle.rules.specs.declared.Reading.TheVariants.{Accepted}
 use Rattle.places.specs.Holds.{HoldsGroups}
 use Rattle.verdicts.specs.Ending.{kind_named, name_dialect, slots_groups, end_answer, EndSays}
 use Rattle.verdicts.specs.declared.FileKind.{FileKind}
@@ -16,6 +14,8 @@ use Rattle.places.specs.declared.State.{State}
 use Rattle.verdicts.proofs.ServicesFault.{services_fault_lem, fault_reverse}
 use Rattle.places.proofs.Backwards.{services_reverse, settings_reverse}
 use Rattle.verdicts.proofs.FileFault.{file_fault_lem}
+use Rattle.rules.specs.AnsweringLaws.{same_counts}
+use Rattle.rules.specs.Answering.{Reading, accepted_with}
 
 module _ {file : List ℕ} {st : State} {x : List ℕ} {gs : List Section} where
   groups_fault_lem : (n : Name) → HoldsGroups (name_dialect n) file st x gs → slots_groups (kind_named n) x st.services ≡ groups_fault n (reverse gs)
@@ -26,8 +26,8 @@ answered_verdict : (o : Option Fault) (gs : List Section) {n m : ℕ} → n ≡ 
 answered_verdict None gs p q = rw (p, q)
 answered_verdict (Some f) gs p q = refl
 
-answered_count : (p : Option Fault) (s v : ℕ) {n m : ℕ} → end_answer p s v ≡ Accepted n m → m ≡ v
-answered_count None s v e = cc
+answered_count : (p : Option Fault) (s v : ℕ) {n m : ℕ} → end_answer p s v ≡ accepted_with n m → m ≡ v
+answered_count None s v e = sym (same_counts e).1
 answered_count (Some f) s v e = let z : ◌≡◌ {A = ℕ} 0 1 = cc in absurd (omega arith)
 
 pub ends : (k : FileKind) {st : State} {x : List ℕ} {p : Option Fault} → p ≡ slots_groups k x st.services → {r : Reading} → r ≡ end_answer p st.settings st.services → EndSays k st x r

@@ -1,5 +1,5 @@
 -- The end of a file: its groups as a whole, and what the table of places then says.
-use Rattle.std.specs.Prelude.{ℕ, ◌≡◌, List, reverse, Option, None, Some}
+use Rattle.std.specs.Prelude.{ℕ, ◌≡◌, List, reverse, Option, None, Some, Err}
 use Rattle.text.specs.Options.{mapped}
 use Rattle.text.specs.declared.Dialect.{Dialect}
 use Rattle.text.specs.declared.Dialect.TheVariants as D
@@ -7,14 +7,13 @@ use Rattle.rules.specs.Sections.{Section}
 use Rattle.rules.specs.Faults.{fault_at}
 use Rattle.rules.specs.declared.Fault.{Fault}
 use Rattle.rules.specs.Reading.{Name, iwd_name, connman_file, groups_fault, verdict}
-use Rattle.rules.specs.declared.Reading.{Reading}
-use Rattle.rules.specs.declared.Reading.TheVariants.{Accepted, Refused}
 use Rattle.places.specs.Holds.{HoldsGroups}
 use Rattle.verdicts.specs.Closing.{slots_fault}
 use Rattle.verdicts.specs.FileRule.{slots_file}
 use Rattle.verdicts.specs.declared.FileKind.{FileKind}
 use Rattle.verdicts.specs.declared.FileKind.TheVariants as K
 use Rattle.places.specs.declared.State.{State}
+use Rattle.rules.specs.Answering.{Reading, accepted_with, refused_at}
 
 -- the kind of a file by what its name says, and by its name, if that is a file's
 abbrev pub kind_named : Name → FileKind
@@ -34,10 +33,10 @@ slots_groups (K.Iwd s) x n = fault_at 0 (slots_file s x)
 slots_groups K.ConnMan x n = slots_fault x n
 
 abbrev pub end_answer : Option Fault → ℕ → ℕ → Reading
-end_answer None n m = Accepted n m
-end_answer (Some f) n m = Refused f.refusal f.line
+end_answer None n m = accepted_with n m
+end_answer (Some f) n m = Err f
 
 pub record EndSays (k : FileKind) (st : State) (x : List ℕ) (r : Reading) : Type 0 where
   pub reading : (n : Name) → k ≡ kind_named n → {file : List ℕ} (gs : List Section)
       → HoldsGroups (name_dialect n) file st x gs → r ≡ verdict (groups_fault n (reverse gs)) (reverse gs)
-  pub counted : {n m : ℕ} → r ≡ Accepted n m → m ≡ st.services
+  pub counted : {n m : ℕ} → r ≡ accepted_with n m → m ≡ st.services

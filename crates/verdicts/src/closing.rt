@@ -1,10 +1,9 @@
 // The rules over the services, asked at the end of the file, by their rows in the table of places.
 #![tactic(auto, unfolding(crate::specs::Closing::slots_rule))]
 
-ghost use Rattle.std.specs.Prelude.{◌≡◌, ◌≤◌, length};
+ghost use Rattle.std.specs.Prelude.{◌≡◌, ◌≤◌};
 ghost use Rattle.places.specs.KeySlots.{RowInTable};
 ghost use Rattle.verdicts.specs.Closing.{slots_nameless, slots_keyless, slots_lack, slots_wireless, slots_clash, slots_rule, slots_fault};
-ghost use Rattle.places.specs.Store.{table_length};
 
 use named_words::Word;
 use places::rows::{is_word, taken};
@@ -76,7 +75,7 @@ fn service_rule(x: &Places, row: usize) -> Option<Refusal>
 
 // The first fault of the first n services.
 pub fn services_fault(x: &Places, n: usize) -> Option<Fault>
-    requires { (length x.now ≡ table_length) × (n ≤ 8) }
+    requires { n ≤ 8 }
     ensures { result ≡ slots_fault x.now n }
 {
     for i in 0..n {

@@ -1,11 +1,10 @@
 // The rules over an iwd file as a whole, asked at its end.
 #![tactic(auto, unfolding(crate::specs::FileRule::slots_file))]
 
-ghost use Rattle.std.specs.Prelude.{◌≡◌, not, ◌&&◌, length};
+ghost use Rattle.std.specs.Prelude.{◌≡◌, not, ◌&&◌};
 ghost use Rattle.rules.specs.Groups.{is_open};
 ghost use Rattle.rules.specs.Faults.{fault_at};
 ghost use Rattle.verdicts.specs.FileRule.{slots_secret, slots_secretless, slots_addressless, slots_unpaired, slots_file_lacks, slots_file_clashes, slots_file};
-ghost use Rattle.places.specs.Store.{table_length};
 ghost use Rattle.places.specs.KeySlots.{RowInTable, is_taken};
 
 use names::Suffix;
@@ -23,7 +22,6 @@ fn is_open(s: Suffix) -> bool
 
 // Whether a passphrase or a key is given.
 fn has_secret(x: &Places) -> bool
-    requires { length x.now ≡ table_length }
     ensures { result ≡ slots_secret x.now }
 {
     taken(x, SECURITY_ROW, KeyName::IwdPassphrase) || taken(x, SECURITY_ROW, KeyName::PreSharedKey)
@@ -31,7 +29,6 @@ fn has_secret(x: &Places) -> bool
 
 // Whether a passphrase or a key is needed and neither is given.
 fn lacks_secret(suffix: Suffix, x: &Places) -> bool
-    requires { length x.now ≡ table_length }
     ensures { result ≡ slots_secretless suffix x.now }
 {
     !is_open(suffix) && !has_secret(x)
@@ -47,7 +44,6 @@ fn has_without(x: &Places, row: usize, key: KeyName, other: KeyName) -> bool
 
 // Whether a gateway, a netmask or a broadcast address is given without an address.
 fn lacks_address(x: &Places) -> bool
-    requires { length x.now ≡ table_length }
     ensures { result ≡ slots_addressless x.now }
 {
     let needs_it = taken(x, IPV4_ROW, KeyName::Gateway)
@@ -58,7 +54,6 @@ fn lacks_address(x: &Places) -> bool
 
 // Whether IPv6 has a gateway without an address, or the reverse.
 fn is_unpaired(x: &Places) -> bool
-    requires { length x.now ≡ table_length }
     ensures { result ≡ slots_unpaired x.now }
 {
     has_without(x, IPV6_ROW, KeyName::Ipv6Gateway, KeyName::Ipv6Address)
@@ -67,7 +62,6 @@ fn is_unpaired(x: &Places) -> bool
 
 // Whether something needed is missing in the file.
 fn file_lacks(suffix: Suffix, x: &Places) -> bool
-    requires { length x.now ≡ table_length }
     ensures { result ≡ slots_file_lacks suffix x.now }
 {
     lacks_secret(suffix, x)
@@ -78,7 +72,6 @@ fn file_lacks(suffix: Suffix, x: &Places) -> bool
 
 // Whether the settings of the file contradict its name or each other.
 fn file_clashes(suffix: Suffix, x: &Places) -> bool
-    requires { length x.now ≡ table_length }
     ensures { result ≡ slots_file_clashes suffix x.now }
 {
     let disabled = code_of(x, IPV6_ROW, KeyName::Enabled) == flag_code(false);
@@ -87,7 +80,6 @@ fn file_clashes(suffix: Suffix, x: &Places) -> bool
 
 // The fault of the file as a whole, if there is one: what is missing before what contradicts.
 pub fn file_fault(suffix: Suffix, x: &Places) -> Option<Fault>
-    requires { length x.now ≡ table_length }
     ensures { result ≡ fault_at 0 (slots_file suffix x.now) }
 {
     if file_lacks(suffix, x) {

@@ -10,7 +10,6 @@ use Rattle.put.specs.Put.{Wrote}
 use Rattle.put.specs.Laws.{wrote_front}
 use Rattle.names.specs.Names.{file_name}
 use Rattle.names.specs.declared.Suffix.{Suffix}
-use Rattle.rules.specs.declared.Answer.TheVariants.{Good}
 use Rattle.rules.specs.declared.Refusal.TheVariants.{ShortBuffer}
 use Rattle.records.specs.Record.{joined}
 use Rattle.records.specs.declared.JoinRecord.{JoinRecord}
@@ -18,6 +17,7 @@ use Rattle.written.specs.Written.{name_text, file_text}
 use Rattle.written.specs.RecordParts.{SuffixOf}
 use Rattle.writer.specs.Writing.{room, refuses, writing_of, written_answer, Writes}
 use Rattle.writer.specs.declared.Written.{Written}
+use Rattle.std.specs.Prelude.{Ok}
 
 -- the name of a record's file, k being its suffix
 name_text_lem : (r : JoinRecord) (s : List (List ℕ)) {k : Suffix} → SuffixOf r.credential k → file_name (take r.name_len r.name) k ≡ name_text (joined r s)
@@ -36,7 +36,7 @@ module _ (r : JoinRecord) (s : List (List ℕ)) {k : Suffix} (h : SuffixOf r.cre
     name_fits : room (name_text (joined r s)) n ≡ true
     name_fits = le-leb (length (name_text (joined r s))) (length n) (omega (arith, fits, name_length))
 
-    pub both_written : q ≤ length f → {x y : List ℕ} {a b : ℕ} → Wrote (file_name (take r.name_len r.name) k) 0 n x a → Wrote (file_text (joined r s)) 0 f y b → Writes (writing_of (joined r s) n f) n f x y (record { answer = Good; name_len = m; file_len = q })
+    pub both_written : q ≤ length f → {x y : List ℕ} {a b : ℕ} → Wrote (file_name (take r.name_len r.name) k) 0 n x a → Wrote (file_text (joined r s)) 0 f y b → Writes (writing_of (joined r s) n f) n f x y (record { answer = Ok tt; name_len = m; file_len = q })
     both_written l {x} {y} {a} {b} v w =
         rw (name_fits, le-leb (length (file_text (joined r s))) (length f) (omega (arith, l, i)))
         (record {

@@ -1,8 +1,7 @@
 -- What the writer answers: "The writer asks 19, 16, 17.", and what the two buffers hold after it.
-use Rattle.std.specs.Prelude.{ℕ, ◌≤◌, ◌≡◌, Bool, cond, ◌&&◌, List, ◌++◌, leb, length, drop}
+use Rattle.std.specs.Prelude.{ℕ, ◌≤◌, ◌≡◌, Bool, cond, ◌&&◌, List, ◌++◌, leb, length, drop, Ok}
 use Rattle.rules.specs.declared.Refusal.{Refusal}
 use Rattle.rules.specs.declared.Refusal.TheVariants.{Malformed, NoPlace, ShortBuffer}
-use Rattle.rules.specs.declared.Answer.TheVariants as A
 use Rattle.records.specs.Record.{Join, joined}
 use Rattle.records.specs.Formed.{formed}
 use Rattle.records.specs.declared.JoinRecord.{JoinRecord}
@@ -10,6 +9,7 @@ use Rattle.names.specs.Names.{name_max}
 use Rattle.written.specs.Written.{has_place, name_text, file_text}
 use Rattle.written.specs.GreatestLengths.{file_max}
 use Rattle.writer.specs.declared.Written.{Written}
+use Rattle.rules.specs.Answering.{refused_at}
 
 -- the name and the file that are written, or a refusal and its line, which is "0 from the writer"
 pub data Writing : Type 0 where
@@ -41,8 +41,8 @@ writing r s n f = cond (formed r s) (writing_placed (joined r s) n f) (refuses M
 
 -- "the answer gives for each how many are new"; of a refusal "all other result fields zero"
 abbrev pub written_answer : Writing → Written
-written_answer (writes a b) = record { answer = A.Good; name_len = length a; file_len = length b }
-written_answer (refuses r l) = record { answer = A.Refused r l; name_len = 0; file_len = 0 }
+written_answer (writes a b) = record { answer = Ok tt; name_len = length a; file_len = length b }
+written_answer (refuses r l) = record { answer = refused_at r l; name_len = 0; file_len = 0 }
 
 -- "After a success each output buffer holds the new bytes first and its old bytes after them"
 abbrev pub on_front : List ℕ → List ℕ → List ℕ

@@ -11,10 +11,11 @@ ghost use Rattle.written.specs.RecordParts.{CountsWithin};
 
 use records::JoinRecord;
 use rendering::{groups, sizes};
-use rules::{Answer, Refusal};
+use rules::{Answer, Fault, Refusal};
 use written::parts;
 
-// The answer, and how many bytes are new in the buffers of the name and of the file; 0 where nothing was written.
+// The answer, and how many bytes are new in the buffers of the name and of the file; 0 where nothing was written. No Result: document 01 wants
+// "all other result fields zero" of a refusal, and demands `Unwritten` says it of these counts.
 #[derive(Clone, Copy)]
 pub struct Written {
     pub answer: Answer,
@@ -27,7 +28,7 @@ pub fn refused(refusal: Refusal, line: usize) -> Written
     ensures { result ≡ written_answer (refuses refusal line) }
 {
     Written {
-        answer: Answer::Refused(refusal, line),
+        answer: Err(Fault { refusal, line }),
         name_len: 0,
         file_len: 0,
     }
@@ -56,7 +57,7 @@ pub fn write_placed(
     names::put_iwd_name(name, 0, &r.name[..r.name_len], suffix);
     groups::put_file(file, r, servers);
     Written {
-        answer: Answer::Good,
+        answer: Ok(()),
         name_len,
         file_len,
     }

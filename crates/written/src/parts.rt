@@ -9,7 +9,8 @@ use addressing::{Method, Numbers};
 use names::Suffix;
 use records::{Credential, JoinRecord};
 
-// The suffix of a file's name: `.open` without a credential, else `.psk`.
+// The suffix of a file's name: `.open` without a credential, else `.psk`. It is no `From` of the credential, since the rule is the
+// written file's (`suffix_for`), which stands above both types.
 pub fn suffix_of(c: Credential) -> Suffix
     ensures { SuffixOf c result }
 {
@@ -20,7 +21,7 @@ pub fn suffix_of(c: Credential) -> Suffix
     }
 }
 
-// A record's IPv4.
+// A record's IPv4: field by field, since the record is flat (`JoinRecord`).
 pub fn numbers(r: JoinRecord) -> Numbers<4>
     ensures { result ≡ record_ipv4 r }
 {
@@ -42,22 +43,14 @@ pub fn numbers(r: JoinRecord) -> Numbers<4>
 pub fn ipv4_placed(method: Method, routed: bool) -> bool
     ensures { PlacedBy ipv4_placed method routed result }
 {
-    match method {
-        Method::Auto => true,
-        Method::Off => false,
-        Method::Static => routed,
-    }
+    method == Method::Auto || method == Method::Static && routed
 }
 
 // The same of an IPv6: it has none for an address without a gateway. It is a rule of its own (request 2026-03), and so a function of its own.
 pub fn ipv6_placed(method: Method, routed: bool) -> bool
     ensures { PlacedBy ipv6_placed method routed result }
 {
-    match method {
-        Method::Auto => true,
-        Method::Off => true,
-        Method::Static => routed,
-    }
+    method != Method::Static || routed
 }
 
 // Whether iwd has a place for a record, whatever its name servers.

@@ -2,14 +2,10 @@
 use Rattle.places.specs.declared.KeyName.TheVariants as N
 use Rattle.values.proofs.KeptValues.{key_in}
 use Rattle.mover.proofs.Moving.{record_within, found_unplaced, found_placed}
-use borrow.Author.Rules.{rules}
 use Rattle.mover.proofs.move_found.Goals as goal
 
-pub unplaced_line-line-requires : goal.unplaced_line-line-requires
-unplaced_line-line-requires c = c.requires
-
-pub returns-then-line-gt0 : goal.returns-then-line-gt0
-returns-then-line-gt0 c = found_unplaced c.unplaced_line-line.ensures c.args.name_out.now c.args.file_out.now c.if-line-gt0.true c.refused.ensures
+pub returns-in-Some : goal.returns-in-Some
+returns-in-Some c = found_unplaced c.unplaced_line.ensures c.args.name_out.now c.args.file_out.now c.in-Some.is c.refused.ensures
 
 pub list_at-count-requires : goal.list_at-count-requires
 list_at-count-requires c = key_in N.Nameservers c.requires
@@ -21,4 +17,4 @@ pub write_placed-requires : goal.write_placed-requires
 write_placed-requires c = record_within c.requires c.service_join-record.ensures
 
 pub returns : goal.returns
-returns c = found_placed c.unplaced_line-line.ensures c.args.name_out.now c.args.file_out.now c.if-line-gt0.false c.service_join-record.ensures c.list_at-count.ensures.1 c.write_placed.ensures
+returns c = found_placed c.unplaced_line.ensures c.args.name_out.now c.args.file_out.now c.in_default.is c.service_join-record.ensures c.list_at-count.ensures.1 c.write_placed.ensures

@@ -9,8 +9,8 @@ returns-then-file-gt-FILE_LIMIT c = reads_large _ c.if-file-gt-FILE_LIMIT.true c
 pub returns-in_default : goal.returns-in_default
 returns-in_default c = reads_misnamed _ c.if-file-gt-FILE_LIMIT.false c.kind_of.ensures c.in_default.is c.requires.empty
 
-pub returns-in-Accepted : goal.returns-in-Accepted
-returns-in-Accepted c = reads_accepted _ c.if-file-gt-FILE_LIMIT.false c.kind_of.ensures c.in-Some.is c.read_kind-reading.ensures c.in-Accepted.is
+pub returns-in-Ok : goal.returns-in-Ok
+returns-in-Ok c = reads_accepted _ c.if-file-gt-FILE_LIMIT.false c.kind_of.ensures c.in-Some.is c.read_kind-reading.ensures c.in-Ok.is
 
-pub returns-in-Refused : goal.returns-in-Refused
-returns-in-Refused c = reads_refused _ c.if-file-gt-FILE_LIMIT.false c.kind_of.ensures c.in-Some.is c.read_kind-reading.ensures c.in-Refused.is refl
+pub returns-in-Err : goal.returns-in-Err
+returns-in-Err c = reads_refused _ c.if-file-gt-FILE_LIMIT.false c.kind_of.ensures c.in-Some.is c.read_kind-reading.ensures c.in-Err.is refl

@@ -1,9 +1,7 @@
 -- A setting's line, by the laws of `SettingLine`, one for each return.
 use native.Mathlib.Omega.{arith}
 use Rattle.std.proofs.lemmas.Result.{err_from_is_err_and}
-use Rattle.reader.proofs.SettingLine.{setting_outside, setting_unknown, setting_repeated, setting_text, setting_kind, setting_good, slot_small}
-use Rattle.std.specs.Prelude.{Err}
-use Rattle.std.proofs.Common.{ap, ◌∙◌}
+use Rattle.reader.proofs.SettingLine.{setting_outside, setting_unknown, setting_repeated, setting_faulty, setting_good, slot_small}
 use Rattle.reader.proofs.judging.setting_line.Goals as goal
 
 pub returns-in_default : goal.returns-in_default
@@ -29,11 +27,10 @@ bounds-x-i c = omega (arith, slot_small c.args.d c.args.file.now c.args.x.now c.
 pub returns-then-x-i-ne0 : goal.returns-then-x-i-ne0
 returns-then-x-i-ne0 c = setting_repeated _ _ _ _ _ _ c.in-In.is c.key_of.ensures c.ok_or.ensures.value c.in_ok-listed.was c.if-x-i-ne0.true
 
-pub returns-in-Err-Text : goal.returns-in-Err-Text
-returns-in-Err-Text c = setting_text _ _ _ _ _ _ c.in-In.is c.key_of.ensures c.ok_or.ensures.value c.in_ok-listed.was c.if-x-i-ne0.false c.judge.ensures (c.in-Err-Text.is ∙ ap Err c.in-Err-Text.field-0-is)
+pub returns-in_err-v : goal.returns-in_err-v
+returns-in_err-v c =
+    let p = err_from_is_err_and c.from_residual-in_err-v.result c.from_residual-in_err-v.ensures.1 in
+    rw (p.1, p.2) (setting_faulty _ _ _ _ _ _ c.in-In.is c.key_of.ensures c.ok_or.ensures.value c.in_ok-listed.was c.if-x-i-ne0.false c.judge.ensures c.in_err-v.was)
 
-pub returns-in-Err-Kind : goal.returns-in-Err-Kind
-returns-in-Err-Kind c = setting_kind _ _ _ _ _ _ c.in-In.is c.key_of.ensures c.ok_or.ensures.value c.in_ok-listed.was c.if-x-i-ne0.false c.judge.ensures (c.in-Err-Kind.is ∙ ap Err c.in-Err-Kind.field-0-is)
-
-pub returns-in-Ok : goal.returns-in-Ok
-returns-in-Ok c = setting_good _ _ _ _ _ _ c.in-In.is c.key_of.ensures c.ok_or.ensures.value c.in_ok-listed.was c.if-x-i-ne0.false c.judge.ensures c.in-Ok.is
+pub returns : goal.returns
+returns c = setting_good _ _ _ _ _ _ c.in-In.is c.key_of.ensures c.ok_or.ensures.value c.in_ok-listed.was c.if-x-i-ne0.false c.judge.ensures c.in_ok-v.was

@@ -4,7 +4,7 @@ use Rattle.reader.proofs.GoodHeader.{header_good, header_stops, header_goes}
 use Rattle.reader.proofs.opening.header_step.Goals as goal
 
 pub opened-requires : goal.opened-requires
-opened-requires c = record { long = c.requires.known.holds.table.long; few = c.requires.known.holds.spans.few; room = (header_good c.args.d c.args.file.now c.args.st c.args.x.now c.args.name c.heading.ensures c.in_ok-g.was).room; header = c.requires.header; named = c.requires.named }
+opened-requires c = record { few = c.requires.known.holds.spans.few; room = (header_good c.args.d c.args.file.now c.args.st c.args.x.now c.args.name c.heading.ensures c.in_ok-g.was).room; header = c.requires.header; named = c.requires.named }
 
 pub returns : goal.returns
 returns c = header_goes c.args.d c.args.file.now c.args.st c.args.x.now c.args.name c.heading.ensures c.in_ok-g.was c.requires.inside c.requires.counted c.opened.ensures

@@ -29,7 +29,7 @@ put_slot-requires c =
     let e = c.in_ok-line_at.was ∙ ap Ok c.in-Setting.is in
     let k = slot_few c.line_at.ensures e c.requires.known in
     let i = value_inside c.line_at.ensures e c.requires.known in
-    (c.requires.known.holds.table.long, omega (arith, k), rw c.text_place-text.ensures (fits_within i.low i.high c.requires.small.0 c.requires.small.1))
+    (omega (arith, k), rw c.text_place-text.ensures (fits_within i.low i.high c.requires.small.0 c.requires.small.1))
 
 pub returns-in-Setting : goal.returns-in-Setting
 returns-in-Setting c = step_setting c.line_at.ensures (c.in_ok-line_at.was ∙ ap Ok c.in-Setting.is) (omega (arith, c.requires.counted)) refl (rw (← c.value_code.ensures, ← c.text_place-text.ensures) c.put_slot.ensures)

@@ -1,7 +1,6 @@
 -- The four groups, row by row.
 use native.Mathlib.Omega.{arith}
 use Rattle.rules.specs.declared.Group.TheVariants as G
-use Rattle.settings.proofs.IwdFile.{iwd_typed}
 use Rattle.values.proofs.KeptValues.{row_of}
 use Rattle.settings.proofs.iwd.iwd_rows.Goals as goal
 
@@ -16,6 +15,3 @@ ipv4_settings-requires c = row_of c.requires (omega arith) G.Ipv4 c.requires.row
 
 pub ipv6_settings-requires : goal.ipv6_settings-requires
 ipv6_settings-requires c = row_of c.requires (omega arith) G.Ipv6 c.requires.rows.ipv6
-
-pub returns : goal.returns
-returns c = iwd_typed c.general_settings.ensures c.security_settings.ensures c.ipv4_settings.ensures c.ipv6_settings.ensures

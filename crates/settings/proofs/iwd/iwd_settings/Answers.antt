@@ -6,13 +6,13 @@ use Rattle.settings.specs.Absent.{zero_iwd_settings}
 use Rattle.settings.proofs.iwd.iwd_settings.Goals as goal
 
 pub servers_at-requires : goal.servers_at-requires
-servers_at-requires c = dns_in c.read-reading.ensures c.in-Accepted.is
+servers_at-requires c = dns_in c.read-reading.ensures c.in-Ok.is
 
 pub iwd_rows-requires : goal.iwd_rows-requires
-iwd_rows-requires c = found_kept c.read-reading.ensures c.in-Accepted.is
+iwd_rows-requires c = found_kept c.read-reading.ensures c.in-Ok.is
 
-pub returns-in-Accepted : goal.returns-in-Accepted
-returns-in-Accepted c = record { value = iwd_good c.read-reading.ensures c.in-Accepted.is c.iwd_rows.ensures; servers_after = servers_good c.read-reading.ensures c.in-Accepted.is c.args.servers.now c.servers_at.ensures }
+pub returns-in-Ok : goal.returns-in-Ok
+returns-in-Ok c = record { value = iwd_good c.read-reading.ensures c.in-Ok.is c.iwd_rows.ensures; servers_after = servers_good c.read-reading.ensures c.in-Ok.is c.args.servers.now c.servers_at.ensures }
 
-pub returns-in-Refused : goal.returns-in-Refused
-returns-in-Refused c = record { value = iwd_refused c.read-reading.ensures c.in-Refused.is (let z : c.default.result ≡ zero_iwd_settings = search rules in z); servers_after = servers_refused c.read-reading.ensures c.in-Refused.is c.args.servers.now }
+pub returns-in-Err : goal.returns-in-Err
+returns-in-Err c = record { value = iwd_refused c.read-reading.ensures c.in-Err.is (let z : c.default.result ≡ zero_iwd_settings = search rules in z); servers_after = servers_refused c.read-reading.ensures c.in-Err.is c.args.servers.now }

@@ -6,16 +6,16 @@ use Rattle.settings.specs.Absent.{zero_service_settings}
 use Rattle.settings.proofs.services.service_settings.Goals as goal
 
 pub base_of-row-requires : goal.base_of-row-requires
-base_of-row-requires c = row_few c.args.service c.read-reading.ensures c.asked_of-answer.ensures c.in-Good.is
+base_of-row-requires c = row_few c.args.service c.read-reading.ensures c.asked_of-answer.ensures c.in-Ok.is
 
 pub servers_at-requires : goal.servers_at-requires
-servers_at-requires c = nameservers_in c.args.service c.read-reading.ensures c.asked_of-answer.ensures c.in-Good.is c.base_of-row.ensures
+servers_at-requires c = nameservers_in c.args.service c.read-reading.ensures c.asked_of-answer.ensures c.in-Ok.is c.base_of-row.ensures
 
 pub service_row-requires : goal.service_row-requires
-service_row-requires c = found_kept c.args.service c.read-reading.ensures c.asked_of-answer.ensures c.in-Good.is c.base_of-row.ensures
+service_row-requires c = found_kept c.args.service c.read-reading.ensures c.asked_of-answer.ensures c.in-Ok.is c.base_of-row.ensures
 
-pub returns-in-Good : goal.returns-in-Good
-returns-in-Good c = record { value = service_good c.args.service c.read-reading.ensures c.asked_of-answer.ensures c.in-Good.is c.base_of-row.ensures c.service_row.ensures; servers_after = servers_good c.args.service c.read-reading.ensures c.asked_of-answer.ensures c.in-Good.is c.base_of-row.ensures c.args.servers.now c.servers_at.ensures }
+pub returns-in-Ok : goal.returns-in-Ok
+returns-in-Ok c = record { value = service_good c.args.service c.read-reading.ensures c.asked_of-answer.ensures c.in-Ok.is c.base_of-row.ensures c.service_row.ensures; servers_after = servers_good c.args.service c.read-reading.ensures c.asked_of-answer.ensures c.in-Ok.is c.base_of-row.ensures c.args.servers.now c.servers_at.ensures }
 
-pub returns-in-Refused : goal.returns-in-Refused
-returns-in-Refused c = record { value = refused_is c.args.service c.read-reading.ensures c.asked_of-answer.ensures c.in-Refused.is (let z : c.default.result ≡ zero_service_settings = search rules in z); servers_after = servers_kept c.args.service c.read-reading.ensures c.asked_of-answer.ensures c.in-Refused.is c.args.servers.now }
+pub returns-in-Err : goal.returns-in-Err
+returns-in-Err c = record { value = refused_is c.args.service c.read-reading.ensures c.asked_of-answer.ensures c.in-Err.is (let z : c.default.result ≡ zero_service_settings = search rules in z); servers_after = servers_kept c.args.service c.read-reading.ensures c.asked_of-answer.ensures c.in-Err.is c.args.servers.now }
