@@ -4,11 +4,10 @@
 ghost use Rattle.std.specs.Prelude.{◌+◌, ◌≤◌, length, take};
 ghost use Rattle.text.specs.Words.{word};
 ghost use Rattle.put.specs.Put.{Wrote};
-ghost use Rattle.addressing.specs.Addressing.{static, gateway_if, addressing_in};
 ghost use Rattle.records.specs.Record.{secret_of, joined};
 ghost use Rattle.written.specs.Written.{hidden_rows, secret_rows, ipv4_rows, ipv6_rows, file_text};
 ghost use Rattle.written.specs.Texts.{rows_text, group_text};
-ghost use Rattle.written.specs.RecordParts.{numbers_in, CountsWithin};
+ghost use Rattle.written.specs.RecordParts.{numbers_in, static_in, CountsWithin};
 
 use crate::rows;
 use addressing::{Method, Numbers};
@@ -74,24 +73,24 @@ fn put_ipv4(
     0
 }
 
-// The group of an IPv6 that is static: an address a, its length n, and a gateway g, where it is given.
-fn put_ipv6_static(out: &mut [u8], a: [u8; 16], n: u8, given: bool, g: [u8; 16]) -> usize
-    requires { length (group_text (word "IPv6") (ipv6_rows (static a n (gateway_if given g)))) ≤ length out.old }
-    ensures { Wrote (group_text (word "IPv6") (ipv6_rows (static a n (gateway_if given g)))) 0 out.old out.new result }
+// The group of an IPv6 that is static: its address with its length, and its gateway, where it is given.
+fn put_ipv6_static(out: &mut [u8], i: Numbers<16>) -> usize
+    requires { length (group_text (word "IPv6") (ipv6_rows (static_in i))) ≤ length out.old }
+    ensures { Wrote (group_text (word "IPv6") (ipv6_rows (static_in i))) 0 out.old out.new result }
 {
-    let at = rows::put_ipv6_address(out, a, n);
-    rows::put_ipv6_gateway(out, at, given, g)
+    let at = rows::put_ipv6_address(out, i);
+    rows::put_ipv6_gateway(out, at, i)
 }
 
 // A `match`: each method is written by another function.
-fn put_ipv6(out: &mut [u8], method: Method, a: [u8; 16], n: u8, given: bool, g: [u8; 16]) -> usize
-    requires { length (group_text (word "IPv6") (ipv6_rows (addressing_in method a n given g))) ≤ length out.old }
-    ensures { Wrote (group_text (word "IPv6") (ipv6_rows (addressing_in method a n given g))) 0 out.old out.new result }
+fn put_ipv6(out: &mut [u8], i: Numbers<16>) -> usize
+    requires { length (group_text (word "IPv6") (ipv6_rows (numbers_in i))) ≤ length out.old }
+    ensures { Wrote (group_text (word "IPv6") (ipv6_rows (numbers_in i))) 0 out.old out.new result }
 {
-    match method {
+    match i.method {
         Method::Auto => 0,
         Method::Off => put::put_text(out, 0, b"[IPv6]\nEnabled=false\n"),
-        Method::Static => put_ipv6_static(out, a, n, given, g),
+        Method::Static => put_ipv6_static(out, i),
     }
 }
 
@@ -102,6 +101,7 @@ pub fn put_file(out: &mut [u8], r: JoinRecord, servers: [[u8; 4]; 4]) -> usize
     ensures { Wrote (file_text (joined r servers)) 0 out.old out.new result }
 {
     let numbers = parts::numbers(r);
+    let ipv6 = parts::ipv6_numbers(r);
     let mut at = put_settings(out, r.hidden);
     at += put_security(
         &mut out[at..],
@@ -116,13 +116,6 @@ pub fn put_file(out: &mut [u8], r: JoinRecord, servers: [[u8; 4]; 4]) -> usize
         r.server_count,
         &r.domain[..r.domain_len],
     );
-    at += put_ipv6(
-        &mut out[at..],
-        r.ipv6,
-        r.ipv6_address,
-        r.ipv6_length,
-        r.has_ipv6_gateway,
-        r.ipv6_gateway,
-    );
+    at += put_ipv6(&mut out[at..], ipv6);
     at
 }

@@ -47,14 +47,13 @@ fn put_address(out: &mut [u8], at: usize, front: &[u8], a: [u8; 4]) -> usize
     put::put_byte(out, q, 10)
 }
 
-// The line of a gateway, where there is one. All that write or count one take it with its flag, as the record and the definition (`gateway_if`)
-// do: of an Option they would ask the same, and it would be made of the record's fields for the length and once more for the text.
-fn put_gateway(out: &mut [u8], at: usize, given: bool, a: [u8; 4]) -> usize
-    requires { at + length (rows_text (gateway_rows dotted (gateway_if given a))) ≤ length out.old }
-    ensures { Wrote (rows_text (gateway_rows dotted (gateway_if given a))) at out.old out.new result }
+// The line of an IPv4's gateway, where there is one.
+fn put_gateway(out: &mut [u8], at: usize, i: Numbers<4>) -> usize
+    requires { at + length (rows_text (gateway_rows dotted (gateway_if i.has_gateway i.gateway))) ≤ length out.old }
+    ensures { Wrote (rows_text (gateway_rows dotted (gateway_if i.has_gateway i.gateway))) at out.old out.new result }
 {
-    if given {
-        return put_address(out, at, b"Gateway=", a);
+    if i.has_gateway {
+        return put_address(out, at, b"Gateway=", i.gateway);
     }
     at
 }
@@ -67,7 +66,7 @@ fn put_static(out: &mut [u8], at: usize, i: Numbers<4>) -> usize
 {
     let p = put_address(out, at, b"Address=", i.address);
     let q = put_address(out, p, b"Netmask=", masks::mask_bytes(i.length));
-    put_gateway(out, q, i.has_gateway, i.gateway)
+    put_gateway(out, q, i)
 }
 
 // The lines of an IPv4 that is static, and none of any other.
@@ -109,25 +108,25 @@ pub fn put_domain(out: &mut [u8], at: usize, d: &[u8]) -> usize
 }
 
 // The header of the IPv6 group, and the line of an address with its length.
-pub fn put_ipv6_address(out: &mut [u8], a: [u8; 16], n: u8) -> usize
-    requires { length (word "[IPv6]\nAddress=" ++ lengthened a n ++ 10 ∷ []) ≤ length out.old }
-    ensures { Wrote (word "[IPv6]\nAddress=" ++ lengthened a n ++ 10 ∷ []) 0 out.old out.new result }
+pub fn put_ipv6_address(out: &mut [u8], i: Numbers<16>) -> usize
+    requires { length (word "[IPv6]\nAddress=" ++ lengthened i.address i.length ++ 10 ∷ []) ≤ length out.old }
+    ensures { Wrote (word "[IPv6]\nAddress=" ++ lengthened i.address i.length ++ 10 ∷ []) 0 out.old out.new result }
 {
     let p = put::put_text(out, 0, b"[IPv6]\nAddress=");
-    let q = ipv6::writing::put_address(out, p, a);
+    let q = ipv6::writing::put_address(out, p, i.address);
     let r = put::put_byte(out, q, 47);
-    let s = writing::put_decimal(out, r, n);
+    let s = writing::put_decimal(out, r, i.length);
     put::put_byte(out, s, 10)
 }
 
-// The line of an IPv6's gateway, where there is one.
-pub fn put_ipv6_gateway(out: &mut [u8], at: usize, given: bool, a: [u8; 16]) -> usize
-    requires { at + length (rows_text (gateway_rows canonical (gateway_if given a))) ≤ length out.old }
-    ensures { Wrote (rows_text (gateway_rows canonical (gateway_if given a))) at out.old out.new result }
+// The line of an IPv6's gateway, where there is one: apart from IPv4's, since a trait over the two texts of an address would be longer.
+pub fn put_ipv6_gateway(out: &mut [u8], at: usize, i: Numbers<16>) -> usize
+    requires { at + length (rows_text (gateway_rows canonical (gateway_if i.has_gateway i.gateway))) ≤ length out.old }
+    ensures { Wrote (rows_text (gateway_rows canonical (gateway_if i.has_gateway i.gateway))) at out.old out.new result }
 {
-    if given {
+    if i.has_gateway {
         let p = put::put_text(out, at, b"Gateway=");
-        let q = ipv6::writing::put_address(out, p, a);
+        let q = ipv6::writing::put_address(out, p, i.gateway);
         return put::put_byte(out, q, 10);
     }
     at

@@ -5,12 +5,12 @@
 ghost use Rattle.std.specs.Prelude.{◌≡◌, ◌≤◌, length, take};
 ghost use Rattle.text.specs.Words.{word};
 ghost use Rattle.records.specs.Record.{secret_of, joined};
-ghost use Rattle.addressing.specs.Addressing.{static, gateway_if, addressing_in};
+ghost use Rattle.addressing.specs.Addressing.{gateway_if};
 ghost use Rattle.addresses.specs.Addresses.{dotted};
 ghost use Rattle.ipv6.specs.Ipv6.{canonical};
 ghost use Rattle.written.specs.Written.{hidden_rows, secret_rows, gateway_rows, number_rows, server_rows, domain_rows, ipv4_rows, ipv6_rows, file_text};
 ghost use Rattle.written.specs.Texts.{rows_text, group_text};
-ghost use Rattle.written.specs.RecordParts.{numbers_in, static_rows, CountsWithin};
+ghost use Rattle.written.specs.RecordParts.{numbers_in, static_in, static_rows, CountsWithin};
 
 use addresses::{Separator, masks, writing};
 use addressing::{Method, Numbers};
@@ -34,12 +34,11 @@ fn security_len(c: Credential, passphrase: &[u8], key: &[u8]) -> usize
     }
 }
 
-// A gateway with its flag, as in `rows`.
-fn gateway_len(given: bool, a: [u8; 4]) -> usize
-    ensures { result ≡ length (rows_text (gateway_rows dotted (gateway_if given a))) }
+fn gateway_len(i: Numbers<4>) -> usize
+    ensures { result ≡ length (rows_text (gateway_rows dotted (gateway_if i.has_gateway i.gateway))) }
 {
-    if given {
-        return 9 + writing::address_len(a);
+    if i.has_gateway {
+        return 9 + writing::address_len(i.gateway);
     }
     0
 }
@@ -50,7 +49,7 @@ fn static_len(i: Numbers<4>) -> usize
 {
     let own = writing::address_len(i.address);
     let mask = writing::address_len(masks::mask_bytes(i.length));
-    18 + own + mask + gateway_len(i.has_gateway, i.gateway)
+    18 + own + mask + gateway_len(i)
 }
 
 fn numbers_len(i: Numbers<4>) -> usize
@@ -98,30 +97,31 @@ fn ipv4_len(i: Numbers<4>, servers: [[u8; 4]; 4], count: usize, domain: &[u8]) -
     0
 }
 
-fn ipv6_gateway_len(given: bool, a: [u8; 16]) -> usize
-    ensures { result ≡ length (rows_text (gateway_rows canonical (gateway_if given a))) }
+// Apart from IPv4's, as in `rows`.
+fn ipv6_gateway_len(i: Numbers<16>) -> usize
+    ensures { result ≡ length (rows_text (gateway_rows canonical (gateway_if i.has_gateway i.gateway))) }
 {
-    if given {
-        return 9 + ipv6::writing::address_len(a);
+    if i.has_gateway {
+        return 9 + ipv6::writing::address_len(i.gateway);
     }
     0
 }
 
-fn ipv6_static_len(a: [u8; 16], n: u8, given: bool, g: [u8; 16]) -> usize
-    ensures { result ≡ length (group_text (word "IPv6") (ipv6_rows (static a n (gateway_if given g)))) }
+fn ipv6_static_len(i: Numbers<16>) -> usize
+    ensures { result ≡ length (group_text (word "IPv6") (ipv6_rows (static_in i))) }
 {
-    let own = ipv6::writing::address_len(a);
-    let digits = writing::decimal_len(n);
-    17 + own + digits + ipv6_gateway_len(given, g)
+    let own = ipv6::writing::address_len(i.address);
+    let digits = writing::decimal_len(i.length);
+    17 + own + digits + ipv6_gateway_len(i)
 }
 
-fn ipv6_len(method: Method, a: [u8; 16], n: u8, given: bool, g: [u8; 16]) -> usize
-    ensures { result ≡ length (group_text (word "IPv6") (ipv6_rows (addressing_in method a n given g))) }
+fn ipv6_len(i: Numbers<16>) -> usize
+    ensures { result ≡ length (group_text (word "IPv6") (ipv6_rows (numbers_in i))) }
 {
-    match method {
+    match i.method {
         Method::Auto => 0,
         Method::Off => 21,
-        Method::Static => ipv6_static_len(a, n, given, g),
+        Method::Static => ipv6_static_len(i),
     }
 }
 
@@ -134,12 +134,6 @@ pub fn file_len(r: JoinRecord, servers: [[u8; 4]; 4]) -> usize
     let settings = settings_len(r.hidden);
     let security = security_len(r.credential, &r.passphrase[..r.passphrase_len], &r.key);
     let ipv4 = ipv4_len(numbers, servers, r.server_count, &r.domain[..r.domain_len]);
-    let ipv6 = ipv6_len(
-        r.ipv6,
-        r.ipv6_address,
-        r.ipv6_length,
-        r.has_ipv6_gateway,
-        r.ipv6_gateway,
-    );
+    let ipv6 = ipv6_len(parts::ipv6_numbers(r));
     settings + security + ipv4 + ipv6
 }

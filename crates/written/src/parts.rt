@@ -3,7 +3,7 @@ ghost use Rattle.std.specs.Prelude.{◌≡◌, [], take};
 ghost use Rattle.records.specs.Record.{joined};
 ghost use Rattle.written.specs.Written.{ipv4_rows, ipv4_placed, ipv6_placed, has_place};
 ghost use Rattle.written.specs.Texts.{some_row};
-ghost use Rattle.written.specs.RecordParts.{record_ipv4, numbers_in, PlacedBy, SuffixOf};
+ghost use Rattle.written.specs.RecordParts.{record_ipv4, record_ipv6, numbers_in, PlacedBy, SuffixOf};
 
 use addressing::{Method, Numbers};
 use names::Suffix;
@@ -35,6 +35,21 @@ pub fn numbers(r: JoinRecord) -> Numbers<4>
         address,
         length: r.length,
         has_gateway: r.has_gateway,
+        gateway,
+    }
+}
+
+// A record's IPv6, in the same way.
+pub fn ipv6_numbers(r: JoinRecord) -> Numbers<16>
+    ensures { result ≡ record_ipv6 r }
+{
+    let address = r.ipv6_address;
+    let gateway = r.ipv6_gateway;
+    Numbers {
+        method: r.ipv6,
+        address,
+        length: r.ipv6_length,
+        has_gateway: r.has_ipv6_gateway,
         gateway,
     }
 }

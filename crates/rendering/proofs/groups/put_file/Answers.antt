@@ -13,7 +13,7 @@ pub put_ipv4-at-requires : goal.put_ipv4-at-requires
 put_ipv4-at-requires c = rw c.numbers-numbers.ensures (record { size = c.requires.within.length; most = c.requires.within.servers; room = four_third (file_four c.args.r c.args.servers) c.args.out.now c.requires.room c.put_settings-at.ensures c.put_security-at.ensures })
 
 pub put_ipv6-at-requires : goal.put_ipv6-at-requires
-put_ipv6-at-requires c = four_fourth (file_four c.args.r c.args.servers) c.args.out.now c.requires.room c.put_settings-at.ensures c.put_security-at.ensures (rw c.numbers-numbers.ensures at c.put_ipv4-at.ensures)
+put_ipv6-at-requires c = rw c.ipv6_numbers-ipv6.ensures (four_fourth (file_four c.args.r c.args.servers) c.args.out.now c.requires.room c.put_settings-at.ensures c.put_security-at.ensures (rw c.numbers-numbers.ensures at c.put_ipv4-at.ensures))
 
 pub returns : goal.returns
-returns c = four_wrote (file_four c.args.r c.args.servers) c.args.out.now c.requires.room c.put_settings-at.ensures c.put_security-at.ensures (rw c.numbers-numbers.ensures at c.put_ipv4-at.ensures) c.put_ipv6-at.ensures
+returns c = four_wrote (file_four c.args.r c.args.servers) c.args.out.now c.requires.room c.put_settings-at.ensures c.put_security-at.ensures (rw c.numbers-numbers.ensures at c.put_ipv4-at.ensures) (rw c.ipv6_numbers-ipv6.ensures at c.put_ipv6-at.ensures)

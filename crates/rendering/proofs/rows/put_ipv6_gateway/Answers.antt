@@ -4,5 +4,5 @@ use Rattle.ipv6.specs.Ipv6.{canonical}
 use Rattle.rendering.proofs.RowTexts.{gateway_text}
 use Rattle.rendering.proofs.rows.put_ipv6_gateway.Goals as goal
 
-pub returns-then-given : goal.returns-then-given
-returns-then-given c = rw (gateway_text canonical c.args.a c.if-given.true) (then (then c.put_text-p.ensures c.put_address-q.ensures) c.put_byte.ensures)
+pub returns-then-i : goal.returns-then-i
+returns-then-i c = rw (gateway_text canonical c.args.i.gateway c.if-i.true) (then (then c.put_text-p.ensures c.put_address-q.ensures) c.put_byte.ensures)

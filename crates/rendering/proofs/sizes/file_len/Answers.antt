@@ -13,7 +13,7 @@ pub overflow_add-result-2 : goal.overflow_add-result-2
 overflow_add-result-2 c = let b = groups_short c.args.r c.args.servers c.requires (search rules) (search (rules, c.well_formed.0.1.1.1.1.1.1.1.1.1.1.1.1.1.1.1.1.1)) (search (rules, c.well_formed.0.1.1.1.1.1.1.1.1.1.1.1.1.1.1.1.1.1)) in omega (arith, b.settings, b.security, b.ipv4, c.settings_len-settings.ensures, c.security_len-security.ensures, rw c.numbers-numbers.ensures at c.ipv4_len-ipv4.ensures)
 
 pub overflow_add-result-3 : goal.overflow_add-result-3
-overflow_add-result-3 c = let b = groups_short c.args.r c.args.servers c.requires (search rules) (search (rules, c.well_formed.0.1.1.1.1.1.1.1.1.1.1.1.1.1.1.1.1.1)) (search (rules, c.well_formed.0.1.1.1.1.1.1.1.1.1.1.1.1.1.1.1.1.1)) in omega (arith, b.settings, b.security, b.ipv4, b.ipv6, c.settings_len-settings.ensures, c.security_len-security.ensures, rw c.numbers-numbers.ensures at c.ipv4_len-ipv4.ensures, c.ipv6_len-ipv6.ensures)
+overflow_add-result-3 c = let b = groups_short c.args.r c.args.servers c.requires (search rules) (search (rules, c.well_formed.0.1.1.1.1.1.1.1.1.1.1.1.1.1.1.1.1.1)) (search (rules, c.well_formed.0.1.1.1.1.1.1.1.1.1.1.1.1.1.1.1.1.1)) in omega (arith, b.settings, b.security, b.ipv4, b.ipv6, c.settings_len-settings.ensures, c.security_len-security.ensures, rw c.numbers-numbers.ensures at c.ipv4_len-ipv4.ensures, rw c.ipv6_numbers.ensures at c.ipv6_len-ipv6.ensures)
 
 pub returns : goal.returns
-returns c = omega (arith, file_size (joined c.args.r c.args.servers), c.settings_len-settings.ensures, c.security_len-security.ensures, rw c.numbers-numbers.ensures at c.ipv4_len-ipv4.ensures, c.ipv6_len-ipv6.ensures)
+returns c = omega (arith, file_size (joined c.args.r c.args.servers), c.settings_len-settings.ensures, c.security_len-security.ensures, rw c.numbers-numbers.ensures at c.ipv4_len-ipv4.ensures, rw c.ipv6_numbers.ensures at c.ipv6_len-ipv6.ensures)

@@ -4,4 +4,4 @@ use Rattle.addresses.specs.Sizes.{dotted_short}
 use Rattle.rendering.proofs.sizes.gateway_len.Goals as goal
 
 pub overflow_add-result : goal.overflow_add-result
-overflow_add-result c = omega (arith, dotted_short c.args.a, c.address_len.ensures)
+overflow_add-result c = omega (arith, dotted_short c.args.i.gateway, c.address_len.ensures)
