@@ -30,38 +30,19 @@ fn assemble(
 ) -> JoinRecord
     ensures { result ≡ assembled name login hidden ipv4 servers domain ipv6 }
 {
-    let Bounded {
-        len: name_len,
-        bytes: name,
-    } = name;
-    let Login {
-        credential,
-        passphrase,
-        key,
-    } = login;
-    let Bounded {
-        len: passphrase_len,
-        bytes: passphrase,
-    } = passphrase;
-    let Bounded {
-        len: domain_len,
-        bytes: domain,
-    } = domain;
-    let Numbers {
-        address,
-        gateway,
-        ..
-    } = ipv4;
-    let Numbers {
-        address: ipv6_address,
-        gateway: ipv6_gateway,
-        ..
-    } = ipv6;
+    let network = name.bytes;
+    let passphrase = login.passphrase.bytes;
+    let key = login.key;
+    let search_domain = domain.bytes;
+    let address = ipv4.address;
+    let gateway = ipv4.gateway;
+    let ipv6_address = ipv6.address;
+    let ipv6_gateway = ipv6.gateway;
     JoinRecord {
-        name_len,
-        name,
-        credential,
-        passphrase_len,
+        name_len: name.len,
+        name: network,
+        credential: login.credential,
+        passphrase_len: login.passphrase.len,
         passphrase,
         key,
         hidden,
@@ -71,8 +52,8 @@ fn assemble(
         has_gateway: ipv4.has_gateway,
         gateway,
         server_count: servers,
-        domain_len,
-        domain,
+        domain_len: domain.len,
+        domain: search_domain,
         ipv6: ipv6.method,
         ipv6_address,
         ipv6_length: ipv6.length,
