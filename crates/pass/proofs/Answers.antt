@@ -63,7 +63,7 @@ module _ {d : Dialect} {file : List ℕ} {x : List ℕ} {r : Result State Fault}
         go None q = absurd (none-some k q)
         go (Some n) q = rw (walked e)
 
-    pub kind_through : {st : State} → r ≡ Ok st → {a : Reading} → EndSays k st x a → ReadsKind k d file x a
+    pub kind_through : {st : State} → r ≡ Ok st → {a : Reading} → EndSays (Some k) st x a → ReadsKind k d file x a
     unfolding sections_of
     kind_through {st} e {a} ends =
         record {
@@ -74,7 +74,7 @@ module _ {d : Dialect} {file : List ℕ} {x : List ℕ} {r : Result State Fault}
       where
         go : (name : List ℕ) (o : Option Name) → name_in d name ≡ o → kind_of_name o ≡ Some k → a ≡ reading_of d o file
         go name None v q = absurd (none-some k q)
-        go name (Some n) v q = rw (walked e).0 (ends.reading n (sym (same_Some (kind_named n) k q)) (grown d 1 0 [] (lines file)) (subst (λ (b : Dialect). HoldsGroups b file st x (grown d 1 0 [] (lines file))) (sym (name_dialect_lem d name v)) (walked e).1))
+        go name (Some n) v q = rw (walked e).0 (ends.reading n (sym q) (grown d 1 0 [] (lines file)) (subst (λ (b : Dialect). HoldsGroups b file st x (grown d 1 0 [] (lines file))) (sym (name_dialect_lem d name v)) (walked e).1))
 
 -- ---- any file
 

@@ -85,7 +85,7 @@ fn read_kind(kind: FileKind, d: Dialect, file: &[u8], x: &mut Places) -> Reading
     ensures { ReadsKind kind d file.now x.new result }
 {
     let st = walk(d, file, x)?;
-    verdicts::ending::ending(kind, x, st)
+    verdicts::ending::ending(Some(kind), x, st)
 }
 
 // Reads a file, and leaves where its settings stand, those of each service in a row of their own, in the table. A refusal

@@ -13,7 +13,7 @@ use Rattle.verdicts.specs.FileRule.{slots_file}
 use Rattle.verdicts.specs.declared.FileKind.{FileKind}
 use Rattle.verdicts.specs.declared.FileKind.TheVariants as K
 use Rattle.places.specs.declared.State.{State}
-use Rattle.rules.specs.Answering.{Reading, accepted_with, refused_at}
+use Rattle.rules.specs.Answering.{Reading, accepted_with}
 
 -- the kind of a file by what its name says, and by its name, if that is a file's
 abbrev pub kind_named : Name → FileKind
@@ -27,16 +27,18 @@ abbrev pub name_dialect : Name → Dialect
 name_dialect (iwd_name s) = D.Iwd
 name_dialect connman_file = D.ConnMan
 
--- the first fault of the groups, by the table of places
-abbrev pub slots_groups : FileKind → List ℕ → ℕ → Option Fault
-slots_groups (K.Iwd s) x n = fault_at 0 (slots_file s x)
-slots_groups K.ConnMan x n = slots_fault x n
+-- the first fault of the groups, by the table of places; none where the name is no file's
+abbrev pub slots_groups : Option FileKind → List ℕ → ℕ → Option Fault
+slots_groups None x n = None
+slots_groups (Some (K.Iwd s)) x n = fault_at 0 (slots_file s x)
+slots_groups (Some K.ConnMan) x n = slots_fault x n
 
 abbrev pub end_answer : Option Fault → ℕ → ℕ → Reading
 end_answer None n m = accepted_with n m
 end_answer (Some f) n m = Err f
 
-pub record EndSays (k : FileKind) (st : State) (x : List ℕ) (r : Reading) : Type 0 where
-  pub reading : (n : Name) → k ≡ kind_named n → {file : List ℕ} (gs : List Section)
+pub record EndSays (k : Option FileKind) (st : State) (x : List ℕ) (r : Reading) : Type 0 where
+  pub is : r ≡ end_answer (slots_groups k x st.services) st.settings st.services
+  pub reading : (n : Name) → k ≡ kind_of_name (Some n) → {file : List ℕ} (gs : List Section)
       → HoldsGroups (name_dialect n) file st x gs → r ≡ verdict (groups_fault n (reverse gs)) (reverse gs)
   pub counted : {n m : ℕ} → r ≡ accepted_with n m → m ≡ st.services

@@ -8,19 +8,19 @@ use crate::file_rules::file_fault;
 use places::{Places, State};
 use rules::{Counts, Fault, Reading};
 
-// The first fault of the groups: of the services in file order, or of an iwd file.
-fn groups_fault(kind: FileKind, x: &Places, services: usize) -> Option<Fault>
+// The first fault of the groups: of the services in file order, or of an iwd file; none where the name is no file's.
+fn groups_fault(kind: Option<FileKind>, x: &Places, services: usize) -> Option<Fault>
     requires { services ≤ 8 }
     ensures { result ≡ slots_groups kind x.now services }
 {
-    match kind {
+    match kind? {
         FileKind::Iwd(suffix) => file_fault(suffix, x),
         FileKind::ConnMan => services_fault(x, services),
     }
 }
 
-// The reading of a file of this kind whose lines are all good.
-pub fn ending(kind: FileKind, x: &Places, st: State) -> Reading
+// The reading of a file whose lines are all good, by the kind that its name says, if it is a file's name.
+pub fn ending(kind: Option<FileKind>, x: &Places, st: State) -> Reading
     requires { st.services ≤ 8 }
     ensures { EndSays kind st x.now result }
 {
