@@ -2,8 +2,7 @@
 use mathlib.Core.Path.{◌≡◌, refl, ap, sym, ◌∙◌, subst}
 use mathlib.Core.Bool.{Bool, true, false}
 use mathlib.Core.List.{List, [], ◌∷◌, ◌++◌, append_assoc, append-nil}
-use Rattle.std.specs.Prelude.{Option, None, Some}
-use Rattle.std.specs.Option.{IsSome}
+use Rattle.std.specs.Prelude.{Option, None, Some, ◌&&◌, ltb, unwrap_or}
 use Prim.Native.Nat.{ℕ, suc, ◌+◌, ◌-◌, ◌*◌, ◌/◌, ◌%◌, ◌≤◌, ◌<◌}
 use native.Mathlib.Numerals.{add-one}
 use native.Mathlib.Omega.{arith}
@@ -11,12 +10,13 @@ use borrow.Author.Tests.{lt-ltb, le-ltb, eqb-true, eqb-false}
 use lib.Dec.{eqb}
 use lib.ListN.{length, drop, set, get_or, drop_of_length-le, length-append}
 use lib.Seq.{drop-cons}
-use Rattle.text.specs.Options.{and_then, prepend, or_empty}
+use Rattle.text.specs.Options.{and_then, only, prepend, or_empty}
 use Rattle.text.specs.Laws.{inside, under, over}
 use Rattle.put.specs.Put.{Wrote}
 use Rattle.put.specs.Laws.{then, wrote_two}
 use Rattle.put.proofs.Filling.{Filling, filling_none, filling_end, filling_room, filling_byte}
 use Rattle.hex_digits.specs.Hex.{nibble, digit, pair_byte, unhex, hex_digit, hex}
+use Rattle.hex_digits.specs.Laws.{digit_is, digit_none}
 
 -- ---- one digit, range by range
 
@@ -75,6 +75,23 @@ digit_high {n} h = rw (le-ltb n 10 h) (omega arith)
 pub record Unhexing (s : List ℕ) (n : ℕ) (o x : List ℕ) : Type 0 where
   pub fill : Filling (unhex s) (unhex (drop (2 * n) s)) n o x
 
+module _ (a b : ℕ) where
+  no_first : digit a ≡ None → pair_byte a b ≡ None
+  no_first e = rw (le-ltb (nibble a) 16 (digit_none a e))
+
+  no_second : digit b ≡ None → pair_byte a b ≡ None
+  no_second e = go (ltb (nibble a) 16)
+    where
+      go : (t : Bool) → only (t && ltb (nibble b) 16) (Some (nibble a * 16 + nibble b)) ≡ None
+      go true = rw (le-ltb (nibble b) 16 (digit_none b e))
+      go false = refl
+
+  both_digits : {x y : ℕ} → digit a ≡ Some x → digit b ≡ Some y → Some (x * 16 + y) ≡ pair_byte a b
+  both_digits {x} {y} e f =
+      let d = digit_is a e in
+      let k = digit_is b f in
+      rw (d.0, k.0, lt-ltb x 16 d.1, lt-ltb y 16 k.1)
+
 pair_at : List ℕ → ℕ → Option ℕ
 pair_at s n = pair_byte (get_or s (2 * n) 0) (get_or s (2 * n + 1) 0)
 
@@ -105,10 +122,13 @@ module _ {s : List ℕ} {n : ℕ} {o x : List ℕ} (h : Unhexing s n o x) where
     here : unhex (drop (2 * n) s) ≡ and_then (pair_at s n) (λ y. prepend y (unhex (drop (2 * (n + 1)) s)))
     here = unhex_at s n (omega (arith, l))
 
-    pub unhexing_some : (r : Option ℕ) → r ≡ pair_byte (get_or s (2 * n) 0) (get_or s (2 * n + 1) 0) → IsSome r
+    -- both are digits, since s is read whole: of each the value, or 0, is its nibble
+    pub unhexing_byte : (u v : Option ℕ) → u ≡ digit (get_or s (2 * n) 0) → v ≡ digit (get_or s (2 * n + 1) 0)
+        → Some (unwrap_or u 0 * 16 + unwrap_or v 0) ≡ pair_byte (get_or s (2 * n) 0) (get_or s (2 * n + 1) 0)
     unfolding pair_at
-    unhexing_some None p = absurd (filling_none h.fill (here ∙ rw (sym p)))
-    unhexing_some (Some y) p = refl
+    unhexing_byte None v e f = absurd (filling_none h.fill (here ∙ rw (no_first _ _ (sym e))))
+    unhexing_byte (Some x) None e f = absurd (filling_none h.fill (here ∙ rw (no_second _ _ (sym f))))
+    unhexing_byte (Some x) (Some y) e f = both_digits _ _ (sym e) (sym f)
 
     module _ {y : ℕ} (p : Some y ≡ pair_byte (get_or s (2 * n) 0) (get_or s (2 * n + 1) 0)) where
       byte : unhex (drop (2 * n) s) ≡ prepend y (unhex (drop (2 * (n + 1)) s))

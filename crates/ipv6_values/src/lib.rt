@@ -36,7 +36,8 @@ fn read_sized(a: &[u8], m: &[u8]) -> Option<WithLength>
     Some(WithLength { address, length })
 }
 
-// An address, its length, and perhaps a gateway, with slashes.
+// An address, its length, and perhaps a gateway, with slashes. The slashes are counted before anything is read, so that of more pieces
+// none is.
 fn read_parts(s: &[u8]) -> Option<Numbers<16>>
     ensures { result ≡ mapped (numbers_laid 16) (fixed ipv6 (prefix_length_of 128) (pieces 47 s.now)) }
 {
@@ -46,8 +47,8 @@ fn read_parts(s: &[u8]) -> Option<Numbers<16>>
     }
     let m = a + 1;
     let b = find_near(s, m, 47);
-    let WithLength { address, length } = read_sized(&s[..a], &s[m..b])?;
     if b == s.len() {
+        let WithLength { address, length } = read_sized(&s[..a], &s[m..b])?;
         return Some(Numbers::numbered(address, length, None));
     }
     let g = b + 1;
@@ -55,6 +56,7 @@ fn read_parts(s: &[u8]) -> Option<Numbers<16>>
     if e != s.len() {
         return None;
     }
+    let WithLength { address, length } = read_sized(&s[..a], &s[m..b])?;
     let gateway = read_address(&s[g..e])?;
     Some(Numbers::numbered(address, length, Some(gateway)))
 }
