@@ -17,7 +17,7 @@ ghost use Rattle.ipv6_values.specs.Layout.{with_length_laid};
 use addresses::masks::read_prefix_length;
 use addressing::{Method, Numbers};
 use ipv6::reading::read_address;
-use text::scan::find_near;
+use text::scan::{find, find_near};
 use text::words::equal;
 
 // An address and its length.
@@ -36,8 +36,8 @@ fn read_sized(a: &[u8], m: &[u8]) -> Option<WithLength>
     Some(WithLength { address, length })
 }
 
-// An address, its length, and perhaps a gateway, with slashes. The slashes are counted before anything is read, so that of more pieces
-// none is.
+// An address, its length, and perhaps a gateway, with slashes. They are counted before anything is read, so that of more pieces none is; a third
+// is looked for by blocks, since as a rule there is none up to the end.
 fn read_parts(s: &[u8]) -> Option<Numbers<16>>
     ensures { result ≡ mapped (numbers_laid 16) (fixed ipv6 (prefix_length_of 128) (pieces 47 s.now)) }
 {
@@ -52,7 +52,7 @@ fn read_parts(s: &[u8]) -> Option<Numbers<16>>
         return Some(Numbers::numbered(address, length, None));
     }
     let g = b + 1;
-    let e = find_near(s, g, 47);
+    let e = find(s, g, 47);
     if e != s.len() {
         return None;
     }

@@ -16,13 +16,13 @@ pub returns-then-b-s : goal.returns-then-b-s
 returns-then-b-s c = rw (c.numbered.ensures, parts_static c.find_near-a.ensures c.if-a-s.false c.find_near-b.ensures c.in_ok-address.ensures c.if-b-s.true)
 
 pub returns-then-e-s : goal.returns-then-e-s
-returns-then-e-s c = rw (more_pieces ipv6 (prefix_length_of 128) c.find_near-a.ensures c.if-a-s.false c.find_near-b.ensures c.if-b-s.false c.find_near-e.ensures c.if-e-s.true)
+returns-then-e-s c = rw (more_pieces ipv6 (prefix_length_of 128) c.find_near-a.ensures c.if-a-s.false c.find_near-b.ensures c.if-b-s.false c.find-e.ensures c.if-e-s.true)
 
 pub returns-in_err-address-2 : goal.returns-in_err-address-2
 returns-in_err-address-2 c = rw (c.from_residual-in_err-address-2.ensures, parts_unsized c.find_near-a.ensures c.if-a-s.false c.find_near-b.ensures c.in_err-address-2.ensures)
 
 pub returns-in_err-gateway : goal.returns-in_err-gateway
-returns-in_err-gateway c = rw (c.from_residual-in_err-gateway.ensures, parts_unrouted c.find_near-a.ensures c.if-a-s.false c.find_near-b.ensures c.in_ok-address-2.ensures c.if-b-s.false c.find_near-e.ensures c.if-e-s.false (sym c.in_err-gateway.ensures))
+returns-in_err-gateway c = rw (c.from_residual-in_err-gateway.ensures, parts_unrouted c.find_near-a.ensures c.if-a-s.false c.find_near-b.ensures c.in_ok-address-2.ensures c.if-b-s.false c.find-e.ensures c.if-e-s.false (sym c.in_err-gateway.ensures))
 
 pub returns : goal.returns
-returns c = rw (c.numbered-2.ensures, parts_routed c.find_near-a.ensures c.if-a-s.false c.find_near-b.ensures c.in_ok-address-2.ensures c.if-b-s.false c.find_near-e.ensures c.if-e-s.false (sym c.in_ok-gateway.ensures))
+returns c = rw (c.numbered-2.ensures, parts_routed c.find_near-a.ensures c.if-a-s.false c.find_near-b.ensures c.in_ok-address-2.ensures c.if-b-s.false c.find-e.ensures c.if-e-s.false (sym c.in_ok-gateway.ensures))
