@@ -18,7 +18,7 @@ use Rattle.rules.specs.declared.Fault.{Fault}
 use Rattle.rules.specs.declared.Refusal.{Refusal}
 use Rattle.rules.specs.declared.Refusal.TheVariants.{Size, FileName}
 use Rattle.places.specs.Holds.{HoldsGroups}
-use Rattle.verdicts.specs.Ending.{kind_named, kind_of_name, name_dialect, EndSays}
+use Rattle.verdicts.specs.Ending.{kind_named, kind_of_name, name_dialect, EndReads}
 use Rattle.verdicts.specs.declared.FileKind.{FileKind}
 use Rattle.places.specs.declared.State.{State}
 use Rattle.pass.specs.Pass.{WalkIs, Walks, ReadsKind, ReadsFile}
@@ -63,7 +63,7 @@ module _ {d : Dialect} {file : List ℕ} {x : List ℕ} {r : Result State Fault}
         go None q = absurd (none-some k q)
         go (Some n) q = rw (walked e)
 
-    pub kind_through : {st : State} → r ≡ Ok st → {a : Reading} → EndSays (Some k) st x a → ReadsKind k d file x a
+    pub kind_through : {st : State} → r ≡ Ok st → {a : Reading} → EndReads (Some k) st x a → ReadsKind k d file x a
     unfolding sections_of
     kind_through {st} e {a} ends =
         record {

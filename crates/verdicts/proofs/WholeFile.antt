@@ -35,9 +35,11 @@ ends k {st} {x} {p} f {r} e =
     let d : r ≡ end_answer (slots_groups k x st.services) st.settings st.services = e ∙ ap (λ (t : Option Fault). end_answer t st.settings st.services) f in
     record {
       is = d;
-      reading = λ n q gs h.
-          d
-          ∙ ap (λ (t : Option Fault). end_answer t st.settings st.services) (ap (λ (t : Option FileKind). slots_groups t x st.services) q ∙ groups_fault_lem n h)
-          ∙ answered_verdict (groups_fault n (reverse gs)) (reverse gs) (h.settings ∙ sym (settings_reverse gs)) (h.services ∙ sym (services_reverse gs));
-      counted = λ q. answered_count p st.settings st.services (sym e ∙ q);
+      reads = record {
+        reading = λ n q gs h.
+            d
+            ∙ ap (λ (t : Option Fault). end_answer t st.settings st.services) (ap (λ (t : Option FileKind). slots_groups t x st.services) q ∙ groups_fault_lem n h)
+            ∙ answered_verdict (groups_fault n (reverse gs)) (reverse gs) (h.settings ∙ sym (settings_reverse gs)) (h.services ∙ sym (services_reverse gs));
+        counted = λ q. answered_count p st.settings st.services (sym e ∙ q);
+      };
     }

@@ -37,8 +37,13 @@ abbrev pub end_answer : Option Fault → ℕ → ℕ → Reading
 end_answer None n m = accepted_with n m
 end_answer (Some f) n m = Err f
 
-pub record EndSays (k : Option FileKind) (st : State) (x : List ℕ) (r : Reading) : Type 0 where
-  pub is : r ≡ end_answer (slots_groups k x st.services) st.settings st.services
+-- what the end of a file says of its groups, where the table of places holds them, and of its services
+pub record EndReads (k : Option FileKind) (st : State) (x : List ℕ) (r : Reading) : Type 0 where
   pub reading : (n : Name) → k ≡ kind_of_name (Some n) → {file : List ℕ} (gs : List Section)
       → HoldsGroups (name_dialect n) file st x gs → r ≡ verdict (groups_fault n (reverse gs)) (reverse gs)
   pub counted : {n m : ℕ} → r ≡ accepted_with n m → m ≡ st.services
+
+-- that, and which answer it is, by the table of places alone
+pub record EndSays (k : Option FileKind) (st : State) (x : List ℕ) (r : Reading) : Type 0 where
+  pub is : r ≡ end_answer (slots_groups k x st.services) st.settings st.services
+  pub reads : EndReads k st x r

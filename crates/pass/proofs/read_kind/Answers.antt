@@ -7,7 +7,7 @@ pub ending-requires : goal.ending-requires
 ending-requires c = walked_few c.walk.ensures c.in_ok-st.was
 
 pub returns : goal.returns
-returns c = kind_through c.walk.ensures c.in_ok-st.was c.ending.ensures
+returns c = kind_through c.walk.ensures c.in_ok-st.was c.ending.ensures.reads
 
 pub returns-in_err-st : goal.returns-in_err-st
 returns-in_err-st c =
